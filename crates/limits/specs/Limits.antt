@@ -1,0 +1,37 @@
+-- The limits of document 01, "What the delivery holds" and "Marks, regions, codes". Assumes nothing.
+use mathlib.Core.Bool.{Bool, _&&_}
+use Prim.Native.Nat.{ℕ}
+use lib.IntN.{ℤ, pos, negsuc}
+use lib.Signed.{leZ}
+
+-- dimension count d is 1 to 32
+abbrev pub maxDimensions : ℕ
+maxDimensions = 32
+
+-- total bits b is 0 to 6·d
+abbrev pub maxDimensionBits : ℕ
+maxDimensionBits = 6
+
+-- vector count n is 1 to 512 (01 calls a stored vector a pattern)
+abbrev pub maxVectors : ℕ
+maxVectors = 512
+
+-- a component is a whole number from -32768 to 32767
+abbrev pub leastComponent : ℤ
+leastComponent = negsuc 32767
+
+abbrev pub greatestComponent : ℤ
+greatestComponent = pos 32767
+
+abbrev pub isComponent : ℤ → Bool
+isComponent z = leZ leastComponent z && leZ z greatestComponent
+
+-- marks lie in -32768 to 32768
+abbrev pub leastMark : ℤ
+leastMark = negsuc 32767
+
+abbrev pub greatestMark : ℤ
+greatestMark = pos 32768
+
+abbrev pub isMark : ℤ → Bool
+isMark z = leZ leastMark z && leZ z greatestMark

@@ -1,0 +1,72 @@
+-- "The first cause that holds": a call's causes are a list of rows, each a test and its cause, in the order in which they are tested.
+-- A call refuses by the first cause whose test holds, and for no other reason (document 01, "When a call says no"). One more cause is
+-- one more row. Assumes nothing.
+use mathlib.Core.Path.{_≡_, refl}
+use Prim.Native.Nat.{ℕ}
+use native.Mathlib.Omega.{arith}
+use mathlib.Core.Bool.{Bool, true, false, cond, _||_}
+use mathlib.Core.List.{List, [], _∷_, _++_}
+use Rattle.refusal.specs.declared.Refusal.{Refusal}
+use Rattle.refusal.specs.declared.Verdict.{Verdict}
+use Rattle.refusal.specs.declared.Verdict.the-variants.{Accepted, Refused}
+
+infix 20 _⇒_
+
+-- one row: where the test holds, the cause
+pub data Row : Type 0 where
+  _⇒_ : Bool → Refusal → Row
+
+unfoldable pub first : List Row → Verdict
+first [] = Accepted
+first ((test ⇒ cause) ∷ rows) = cond test (Refused cause) (first rows)
+
+-- what a verdict leads to: the result, or what a refusal gives
+abbrev pub outcome {ℓ} : {A : Type ℓ} → Verdict → A → (Refusal → A) → A
+outcome Accepted result refused = result
+outcome (Refused cause) result refused = refused cause
+
+-- whether some row's test holds
+unfoldable pub any : List Row → Bool
+any [] = false
+any ((test ⇒ cause) ∷ rows) = test || any rows
+
+-- ---- laws
+
+-- nothing refuses exactly where no test holds
+pub accepted-if-none : (rows : List Row) → any rows ≡ false → first rows ≡ Accepted
+unfolding first any
+accepted-if-none [] none = refl
+accepted-if-none ((true ⇒ cause) ∷ rows) none = cc
+accepted-if-none ((false ⇒ cause) ∷ rows) none = accepted-if-none rows none
+
+pub none-if-accepted : (rows : List Row) → first rows ≡ Accepted → any rows ≡ false
+unfolding first any
+none-if-accepted [] accepted = refl
+none-if-accepted ((true ⇒ cause) ∷ rows) accepted = cc
+none-if-accepted ((false ⇒ cause) ∷ rows) accepted = none-if-accepted rows accepted
+
+-- the cause is the first to hold: its row stands among the rows, its test holds, and no test before it does
+pub record IsFirst (rows : List Row) (cause : Refusal) : Type 0 where
+  pub before : List Row
+  pub after : List Row
+  pub split : rows ≡ before ++ ((true ⇒ cause) ∷ after)
+  pub none-before : any before ≡ false
+
+pub refused-by-first : (rows : List Row) (cause : Refusal) → first rows ≡ Refused cause → IsFirst rows cause
+unfolding first any
+refused-by-first [] cause refused =
+    let impossible : _≡_ {A = ℕ} 0 1 = cc in
+    absurd (omega arith)
+refused-by-first ((true ⇒ other) ∷ rows) cause refused = record { before = []; after = rows; split = cc; none-before = refl }
+refused-by-first ((false ⇒ other) ∷ rows) cause refused =
+    let rest = refused-by-first rows cause refused in
+    record { before = (false ⇒ other) ∷ rest .before; after = rest .after; split = cc; none-before = rest .none-before }
+
+first-after : (before after : List Row) (cause : Refusal) → any before ≡ false → first (before ++ ((true ⇒ cause) ∷ after)) ≡ Refused cause
+unfolding first any
+first-after [] after cause none = refl
+first-after ((true ⇒ other) ∷ before) after cause none = cc
+first-after ((false ⇒ other) ∷ before) after cause none = first-after before after cause none
+
+pub first-refuses : (rows : List Row) (cause : Refusal) → IsFirst rows cause → first rows ≡ Refused cause
+first-refuses rows cause is = rw (is .split) (first-after (is .before) (is .after) cause (is .none-before))
