@@ -14,11 +14,14 @@ ghost use Rattle.reading.specs.Fields.{significand, scale, ranged};
 
 // A pattern's sign bit, the weight of its exponent field, and that field in an infinity or a NaN.
 const SIGN: u32 = 0x8000_0000;
+
 const LEADING: u32 = 0x80_0000;
+
 const SPECIAL: u32 = 255;
 // The least exponent field of a value whose component is not 0 by its size alone, and the greatest of one whose component can be in
 // range.
 const LEAST_FIELD: u32 = 118;
+
 const GREATEST_FIELD: u32 = 134;
 // With that least field a significand times the unit counts parts of this size.
 const PARTS: u64 = 0x1_0000_0000;

@@ -11,7 +11,6 @@ use Rattle.refusal.specs.declared.Verdict.{Verdict}
 use Rattle.refusal.specs.declared.Verdict.the-variants.{Accepted, Refused}
 
 infix 20 _⇒_
-
 -- one row: where the test holds, the cause
 pub data Row : Type 0 where
   _⇒_ : Bool → Refusal → Row
