@@ -6,39 +6,42 @@ use limits::LEAST_COMPONENT;
 use refusal::Refusal;
 ghost use mathlib.Core.Path.{_≡_};
 ghost use Prim.Native.Nat.{_*_, _^_, _≤_, _<_};
-ghost use lib.Ieee.{binary32, ofBits};
-ghost use lib.Ieee.Nearest.{closest};
+ghost use lib.Ieee.{binary32, ofBits, nanBits};
 ghost use Rattle.reading.specs.Component.{unit};
 ghost use Rattle.reading.specs.Intake.{valueIntake};
-ghost use Rattle.reading.specs.Fields.{significand, scale, ranged};
+ghost use Rattle.reading.specs.Fields.{significand, scale, ranged, Magnitude};
 
 // A pattern's sign bit, the weight of its exponent field, and that field in an infinity or a NaN.
 const SIGN: u32 = 0x8000_0000;
-
 const LEADING: u32 = 0x80_0000;
-
 const SPECIAL: u32 = 255;
-// The least exponent field of a value whose component is not 0 by its size alone, and the greatest of one whose component can be in
-// range.
-const LEAST_FIELD: u32 = 118;
 
+// Below the least field a component is 0, and above the greatest it is out of range.
+const LEAST_FIELD: u32 = 118;
 const GREATEST_FIELD: u32 = 134;
-// With that least field a significand times the unit counts parts of this size.
+
+// At the least field, a significand times the unit counts parts of a component.
 const PARTS: u64 = 0x1_0000_0000;
 
-// The float of a pattern. The language makes no float of a NaN's pattern, so a NaN is told from the exponent field and the fraction
-// first, and is made by a division.
+// Whether a pattern is a NaN's: the exponent field is all ones, and the fraction is not zero.
+fn is_nan(bits: u32) -> bool
+    ensures { λ r. ⌜ r ≡ nanBits binary32 bits ⌝ }
+{
+    bits % SIGN / LEADING == SPECIAL && bits % LEADING != 0
+}
+
+// The float of a pattern. The language makes no float of a NaN's pattern, so the NaN comes from a division.
 pub fn of_bits(bits: u32) -> f32
     ensures { λ r. ⌜ r ≡ ofBits binary32 bits ⌝ }
 {
-    if SPECIAL * LEADING < bits % SIGN {
+    if is_nan(bits) {
         return 0.0 / 0.0;
     }
     f32::from_bits(bits)
 }
 
-// The component of a value. The language gives the bits of a value once it is known to be no NaN: a NaN is neither at most 0 nor at
-// least 0.
+// The component of a value. The language gives the bits of a value only once it is known to be no NaN, which is neither at most 0 nor
+// at least 0; where an optimiser left these tests out, the bits would still tell.
 pub fn component(x: f32) -> Intake
     ensures { λ r. ⌜ r ≡ valueIntake x ⌝ }
 {
@@ -52,32 +55,28 @@ pub fn component(x: f32) -> Intake
 }
 
 // The component of the value that a pattern stands for.
-pub fn component_of_bits(bits: u32) -> Intake
+fn component_of_bits(bits: u32) -> Intake
     ensures { λ r. ⌜ r ≡ valueIntake (ofBits binary32 bits) ⌝ }
 {
-    let field = bits % SIGN / LEADING;
-    let fraction = bits % LEADING;
-    if field == SPECIAL {
-        if fraction == 0 {
-            return Intake::Refused(Refusal::OutOfRange);
-        }
+    if is_nan(bits) {
         return Intake::Refused(Refusal::NotANumber);
     }
+    let field = bits % SIGN / LEADING;
     if GREATEST_FIELD < field {
         return Intake::Refused(Refusal::OutOfRange);
     }
-    let m = magnitude(field, fraction) as i32;
+    let m = magnitude(field, bits % LEADING) as i32;
     if bits < SIGN {
         in_range(m)
     } else {
-        in_range(0 - m)
+        in_range(-m)
     }
 }
 
-// The value's size times the unit, to the nearest whole number, halves to even.
+// The size of a value by its fields, times the unit, to the nearest whole number, halves to even.
 fn magnitude(field: u32, fraction: u32) -> u32
     requires { ⌜ (field ≤ 134) × (fraction < 2 ^ 23) ⌝ }
-    ensures { λ r. ⌜ r ≡ closest (significand field fraction * 2 ^ scale field * unit) (2 ^ 149) ⌝ }
+    ensures { λ r. ⌜ Magnitude r (significand field fraction * 2 ^ scale field * unit) (2 ^ 149) ⌝ }
 {
     if field < LEAST_FIELD {
         return 0;
@@ -86,10 +85,10 @@ fn magnitude(field: u32, fraction: u32) -> u32
     nearest((significand * Reading::UNIT) << (field - LEAST_FIELD))
 }
 
-// A number of parts, as the nearest number of wholes, halves to even.
+// A number of parts as a number of wholes, to nearest, halves to even.
 fn nearest(parts: u64) -> u32
     requires { ⌜ parts < 2 ^ 48 ⌝ }
-    ensures { λ r. ⌜ r ≡ closest parts (2 ^ 32) ⌝ }
+    ensures { λ r. ⌜ Magnitude r parts (2 ^ 32) ⌝ }
 {
     let whole = parts / PARTS;
     let rest = parts % PARTS;

@@ -1,0 +1,4 @@
+mod Rounding
+mod Values
+mod Patterns
+mod Ordered
