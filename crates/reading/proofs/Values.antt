@@ -14,7 +14,7 @@ use Rattle.limits.specs.Limits.{leastComponent, greatestComponent, isComponent}
 use Rattle.limits.specs.Tests.{leZ-not}
 use Rattle.reading.specs.declared.Intake.{Intake}
 use Rattle.reading.specs.declared.Intake.the-variants.{Component, Refused}
-use Rattle.reading.specs.Component.{unit, signed, component, component-of-value}
+use Rattle.reading.specs.Component.{unit, signed, component, rounded-of-value}
 use Rattle.reading.specs.Intake.{valueIntake}
 use Rattle.reading.specs.Fields.{ranged}
 
@@ -50,4 +50,4 @@ finite-ranged s m e = go (component (fin s m e)) (isComponent (component (fin s 
 pub finite-intake : (x : Float) (s : Bool) (a c : ℕ) → 0 < c → HasValue x s a c → valueIntake x ≡ ranged (signed s (closest (a * unit) c))
 finite-intake nan s a c p v = absurd v
 finite-intake (inf t) s a c p v = absurd v
-finite-intake (fin t m e) s a c p v = finite-ranged t m e ∙ ap ranged (component-of-value (fin t m e) s a c p v)
+finite-intake (fin t m e) s a c p v = finite-ranged t m e ∙ ap ranged (rounded-of-value unit (fin t m e) s a c p v)

@@ -1,3 +1,4 @@
 pub mod Component
 pub mod Intake
 pub mod Fields
+pub mod Product

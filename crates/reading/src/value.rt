@@ -13,11 +13,14 @@ ghost use Rattle.reading.specs.Fields.{significand, scale, ranged, Magni
 
 // A pattern's sign bit, the weight of its exponent field, and that field in an infinity or a NaN.
 const SIGN: u32 = 0x8000_0000;
+
 const LEADING: u32 = 0x80_0000;
+
 const SPECIAL: u32 = 255;
 
 // Below the least field a component is 0, and above the greatest it is out of range.
 const LEAST_FIELD: u32 = 118;
+
 const GREATEST_FIELD: u32 = 134;
 
 // At the least field, a significand times the unit counts parts of a component.
