@@ -13,6 +13,7 @@ extern "C" {
 /// What the component's place holds before a call: no component.
 const UNTOUCHED: i32 = 0x5AC3_69B7;
 
+/// Safe for each call above: it does no more than write an i32 through the pointer, which leads to one.
 #[inline]
 fn outcome(call: impl FnOnce(*mut i32) -> u32) -> Result<i32, u32> {
     let mut component = UNTOUCHED;

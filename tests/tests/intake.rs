@@ -28,8 +28,8 @@ fn on_all_cores(end: u64, check: impl Fn(u64) + Sync) {
     });
 }
 
-/// Patterns of every kind: each sign and exponent field with many fractions, each value whose component is about to change
-/// or is hit exactly, to just past the range, and random patterns.
+/// Patterns of every kind: random ones; each sign and exponent field with many fractions; each whole number and each half
+/// of the component unit, to just past the range, with the patterns beside it.
 fn patterns() -> Vec<u32> {
     let mut random = Random::new(1);
     let mut patterns: Vec<u32> = (0..200_000).map(|_| random.next_u32()).collect();
@@ -48,7 +48,7 @@ fn patterns() -> Vec<u32> {
     patterns
 }
 
-/// The component of a value in whole numbers, one binary place at a time.
+/// The component of a value by whole numbers alone, one binary place at a time.
 fn exact_component(bits: u32) -> Result<i32, u32> {
     let (field, fraction) = ((bits >> 23) & 0xFF, u64::from(bits & 0x7F_FFFF));
     // 256 times the value's size is size · 2^power
@@ -75,7 +75,7 @@ fn exact_component(bits: u32) -> Result<i32, u32> {
     }
 }
 
-/// The reference rounds as whole numbers do.
+/// The reference's sum of floats loses nothing.
 #[test]
 fn the_reference_is_exact() {
     for bits in patterns() {
@@ -111,19 +111,19 @@ fn floats_go_by_their_bits() {
 
 /// At every age: above 20 a held reading is 13, whatever its value, and up to 20 it is as a fresh one.
 #[test]
-fn no_held_reading_above_the_age_limit() {
+fn no_held_reading_is_taken_past_the_age_limit() {
     let patterns = patterns();
     on_all_cores(patterns.len() as u64, |i| {
         let bits = patterns[i as usize];
         for age in 0..=255 {
-            let expected = if age > 20 { Err(13) } else { reference::intake(Reading::Fresh(bits)) };
+            let expected = reference::intake(Reading::Held(bits, age));
             assert_eq!(interface::held(bits, age), expected, "{bits:08X} at age {age}");
         }
     });
 }
 
 #[test]
-fn no_lost_reading() {
+fn no_lost_reading_is_taken() {
     assert_eq!(interface::lost(), Err(13));
 }
 
