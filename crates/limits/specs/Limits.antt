@@ -1,6 +1,7 @@
 -- The limits of document 01, "What the delivery holds" and "Marks, regions, codes". Assumes nothing.
 use mathlib.Core.Bool.{Bool, _&&_}
-use Prim.Native.Nat.{ℕ}
+use Prim.Native.Nat.{ℕ, _*_}
+use lib.Dec.{leb}
 use lib.IntN.{ℤ, pos, negsuc}
 use lib.Signed.{leZ}
 
@@ -12,9 +13,18 @@ maxDimensions = 32
 abbrev pub maxDimensionBits : ℕ
 maxDimensionBits = 6
 
+abbrev pub isDimensionCount : ℕ → Bool
+isDimensionCount d = leb 1 d && leb d maxDimensions
+
+abbrev pub isBits : ℕ → ℕ → Bool
+isBits d b = leb b (maxDimensionBits * d)
+
 -- vector count n is 1 to 512 (01 calls a stored vector a pattern)
 abbrev pub maxVectors : ℕ
 maxVectors = 512
+
+abbrev pub isVectorCount : ℕ → Bool
+isVectorCount n = leb 1 n && leb n maxVectors
 
 -- a component is a whole number from -32768 to 32767
 abbrev pub leastComponent : ℤ

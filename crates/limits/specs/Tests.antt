@@ -1,5 +1,5 @@
 -- Tests of order on whole numbers: not below is at least. Assumes nothing.
-use mathlib.Core.Path.{_≡_, refl}
+use mathlib.Core.Path.{_≡_, refl, sym, ap, _∙_}
 use mathlib.Core.Bool.{Bool, true, false, not}
 use Prim.Native.Nat.{ℕ, suc, _≤_}
 use native.Mathlib.Omega.{arith}
@@ -8,7 +8,7 @@ use lib.Dec.{leb, ltb}
 use lib.IntN.{ℤ, pos, negsuc}
 use lib.Signed.{ltZ, leZ}
 
-leb-not : (a b : ℕ) → leb b a ≡ not (ltb a b)
+pub leb-not : (a b : ℕ) → leb b a ≡ not (ltb a b)
 leb-not a b = go (ltb a b) refl
   where
     go : (t : Bool) → ltb a b ≡ t → leb b a ≡ not t
@@ -22,3 +22,14 @@ leZ-not (pos a) (pos b) = leb-not a b
 leZ-not (pos a) (negsuc b) = refl
 leZ-not (negsuc a) (pos b) = refl
 leZ-not (negsuc a) (negsuc b) = leb-not b a
+
+-- and not at least is below
+not-not : (t : Bool) → not (not t) ≡ t
+not-not true = refl
+not-not false = refl
+
+pub ltb-not : (a b : ℕ) → ltb a b ≡ not (leb b a)
+ltb-not a b = sym (ap not (leb-not a b) ∙ not-not (ltb a b))
+
+pub ltZ-not : (a b : ℤ) → ltZ a b ≡ not (leZ b a)
+ltZ-not a b = sym (ap not (leZ-not a b) ∙ not-not (ltZ a b))

@@ -1,0 +1,1 @@
+// Approximations of vectors: region numbers, packed into codes.

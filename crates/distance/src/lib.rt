@@ -1,0 +1,1 @@
+// Distances of vectors, and the bounds of a cell's distances.

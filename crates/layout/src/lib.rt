@@ -1,0 +1,1 @@
+// How the bits and the marks are shared out among the dimensions.

@@ -1,0 +1,1 @@
+// The partition of each dimension into regions by marks.

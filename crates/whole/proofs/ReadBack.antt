@@ -1,0 +1,16 @@
+-- A signed number is read back from its bits: at 32 bits, and then at 64. Assumes nothing.
+use mathlib.Core.Path.{_≡_, _∙_, subst⁻¹}
+use native.Mathlib.Omega.{arith}
+use lib.IntN.{ℤ}
+use mir.Syntax.{w32, w64}
+use mir.Val.{SFits, toZ, ofZ}
+use mir.ValLaws.{toZ-ofZ}
+
+pub widened : {z : ℤ} → SFits w32 z → SFits w64 z
+widened f = record { sfits = omega (arith, f .sfits) }
+
+pub back-fits : (z : ℤ) → SFits w32 z → SFits w64 (toZ w32 (ofZ w32 z))
+back-fits z f = subst⁻¹ (SFits w64) (toZ-ofZ w32 z f) (widened f)
+
+pub back : (z : ℤ) → SFits w32 z → toZ w64 (ofZ w64 (toZ w32 (ofZ w32 z))) ≡ z
+back z f = toZ-ofZ w64 (toZ w32 (ofZ w32 z)) (back-fits z f) ∙ toZ-ofZ w32 z f
