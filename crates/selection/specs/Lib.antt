@@ -1,0 +1,5 @@
+pub mod Reading
+pub mod Members
+pub mod Below
+pub mod Insertion
+pub mod Sorted
