@@ -1,0 +1,83 @@
+-- The reading one step at a time, and what holds of every state on the way: the best are the scan's answer over the numbers read, and the
+-- numbers read are the first of the ranking. Assumes nothing.
+use mathlib.Core.Path.{_≡_, refl, sym, ap, _∙_}
+use mathlib.Core.Bool.{Bool, true, false, cond, _||_, true≢false, false≢true}
+use mathlib.Core.List.{List, [], _∷_, _++_, append-nil, List·Memᴰ·head, List·Memᴰ·tail, Memᴰ·append-left}
+use Prim.Native.Nat.{ℕ, zero, suc, _+_, _-_, _≤_, min}
+use native.Mathlib.Omega.{arith}
+use lib.Dec.{ltb, leb·suc-suc}
+use lib.ListN.{length, take, getD, length-append}
+use lib.Seq.{append-snoc}
+use borrow.Author.Tests.{ltb-false}
+use Rattle.order.specs.Pair.{Pair, below, insert, numbersOf}
+use Rattle.selection.specs.Reading.{pairOf, scan, Reading, leastPair, goesOn, readNext, reading}
+use Rattle.selection.specs.Members.{_∈_}
+use Rattle.selection.specs.Below.{AtMost, below-true, below-false, not-below}
+use Rattle.selection.specs.Scan.{scan-length, scan-snoc}
+
+-- ---- the test
+
+-- where it does not go on there are k best, and the k-th is at most the next pair
+pub record Stops (k : ℕ) (best : List Pair) (p : Pair) : Type 0 where
+  pub full : k ≤ length best
+  pub late : AtMost (getD best (k - 1) leastPair) p
+
+pub stops : (k : ℕ) (best : List Pair) (p : Pair) → goesOn k best p ≡ false → Stops k best p
+unfolding goesOn
+stops k best p = go (ltb (length best) k) (below p (getD best (k - 1) leastPair)) refl refl
+  where
+    go : (t u : Bool) → ltb (length best) k ≡ t → below p (getD best (k - 1) leastPair) ≡ u → (t || u) ≡ false → Stops k best p
+    go true u a b e = absurd (true≢false e)
+    go false true a b e = absurd (true≢false e)
+    go false false a b e = record { full = ltb-false (length best) k a; late = below-false p (getD best (k - 1) leastPair) b }
+
+-- ---- a step
+
+module _ (k : ℕ) (distance : ℕ → ℕ) where
+  pub reading-stops : (p : Pair) (ps : List Pair) (state : Reading) → goesOn k (state .best) p ≡ false → reading k distance (p ∷ ps) state ≡ state
+  unfolding reading
+  reading-stops p ps state e = rw e
+
+  pub reading-goes-on : (p : Pair) (ps : List Pair) (state : Reading) → goesOn k (state .best) p ≡ true
+      → reading k distance (p ∷ ps) state ≡ reading k distance ps (readNext k distance state (p .number))
+  unfolding reading
+  reading-goes-on p ps state e = rw e
+
+  -- the best are the scan's answer over the numbers read
+  pub next-best : (state : Reading) (i : ℕ) → state .best ≡ scan k distance (state .reads)
+      → (readNext k distance state i) .best ≡ scan k distance ((readNext k distance state i) .reads)
+  unfolding readNext
+  next-best state i e = rw (e, scan-snoc k distance (state .reads) i)
+
+  pub reading-best : (ps : List Pair) (state : Reading) → state .best ≡ scan k distance (state .reads)
+      → (reading k distance ps state) .best ≡ scan k distance ((reading k distance ps state) .reads)
+  unfolding reading
+  reading-best [] state e = e
+  reading-best (p ∷ ps) state e = go (goesOn k (state .best) p) (reading-best ps (readNext k distance state (p .number)) (next-best state (p .number) e))
+    where
+      on : Reading
+      on = reading k distance ps (readNext k distance state (p .number))
+
+      go : (t : Bool) → on .best ≡ scan k distance (on .reads) → (cond t on state) .best ≡ scan k distance ((cond t on state) .reads)
+      go true rest = rest
+      go false rest = e
+
+  -- the numbers read are the first of the ranking
+  pub reading-reads : (ps : List Pair) (state : Reading) → (m : ℕ) × ((reading k distance ps state) .reads ≡ state .reads ++ take m (numbersOf ps))
+  unfolding reading readNext numbersOf
+  reading-reads [] state = (0, sym (append-nil (state .reads)))
+  reading-reads (p ∷ ps) state = go (goesOn k (state .best) p) (reading-reads ps (readNext k distance state (p .number)))
+    where
+      on : Reading
+      on = reading k distance ps (readNext k distance state (p .number))
+
+      go : (t : Bool) → (m : ℕ) × (on .reads ≡ (state .reads ++ (p .number ∷ [])) ++ take m (numbersOf ps))
+          → (m : ℕ) × ((cond t on state) .reads ≡ state .reads ++ take m (p .number ∷ numbersOf ps))
+      go true (m, e) = (suc m, e ∙ append-snoc (state .reads) (p .number) (take m (numbersOf ps)))
+      go false rest = (0, sym (append-nil (state .reads)))
+
+  -- what has been read stays read
+  pub reads-kept : (ps : List Pair) (state : Reading) {i : ℕ} → i ∈ state .reads → i ∈ (reading k distance ps state) .reads
+  reads-kept ps state m =
+      let r = reading-reads ps state in
+      rw (r .1) (Memᴰ·append-left (take (r .0) (numbersOf ps)) m)
