@@ -5,3 +5,6 @@ pub mod Insertion
 pub mod Sorted
 pub mod Scan
 pub mod Steps
+pub mod Exact
+pub mod Stable
+pub mod Needed

@@ -2,17 +2,17 @@
 -- numbers read are the first of the ranking. Assumes nothing.
 use mathlib.Core.Path.{_≡_, refl, sym, ap, _∙_}
 use mathlib.Core.Bool.{Bool, true, false, cond, _||_, true≢false, false≢true}
-use mathlib.Core.List.{List, [], _∷_, _++_, append-nil, List·Memᴰ·head, List·Memᴰ·tail, Memᴰ·append-left}
+use mathlib.Core.List.{List, [], _∷_, _++_, append-nil, List·Memᴰ·head, List·Memᴰ·tail, Memᴰ·append-left, Memᴰ·append-right}
 use Prim.Native.Nat.{ℕ, zero, suc, _+_, _-_, _≤_, min}
 use native.Mathlib.Omega.{arith}
 use lib.Dec.{ltb, leb·suc-suc}
 use lib.ListN.{length, take, getD, length-append}
 use lib.Seq.{append-snoc}
-use borrow.Author.Tests.{ltb-false}
+use borrow.Author.Tests.{ltb-false, le-ltb}
 use Rattle.order.specs.Pair.{Pair, below, insert, numbersOf}
 use Rattle.selection.specs.Reading.{pairOf, scan, Reading, leastPair, goesOn, readNext, reading}
 use Rattle.selection.specs.Members.{_∈_}
-use Rattle.selection.specs.Below.{AtMost, below-true, below-false, not-below}
+use Rattle.selection.specs.Below.{AtMost, level, below-true, below-false, not-below}
 use Rattle.selection.specs.Scan.{scan-length, scan-snoc}
 
 -- ---- the test
@@ -30,6 +30,25 @@ stops k best p = go (ltb (length best) k) (below p (getD best (k - 1) leastPair)
     go true u a b e = absurd (true≢false e)
     go false true a b e = absurd (true≢false e)
     go false false a b e = record { full = ltb-false (length best) k a; late = below-false p (getD best (k - 1) leastPair) b }
+
+-- where it goes on, the pair itself would be one of the k best
+goes-in : (m : ℕ) (p : Pair) (best : List Pair) → (ltb (length best) (suc m) || below p (getD best m leastPair)) ≡ true → p ∈ take (suc m) (insert p best)
+unfolding insert
+goes-in m p [] e = List·Memᴰ·head refl
+goes-in zero p (b ∷ bs) e = rw (not-below (below-true p b (rw (le-ltb (suc (length bs)) 1 (omega arith)) at e))) (List·Memᴰ·head refl)
+goes-in (suc m) p (b ∷ bs) e = go (below b p) (goes-in m p bs (rw (leb·suc-suc (suc (length bs)) (suc m)) at e))
+  where
+    go : (t : Bool) → p ∈ take (suc m) (insert p bs) → p ∈ take (suc (suc m)) (cond t (b ∷ insert p bs) (p ∷ b ∷ bs))
+    go true rest = List·Memᴰ·tail rest
+    go false rest = List·Memᴰ·head refl
+
+pub goes-on : (k : ℕ) (best : List Pair) (p : Pair) → length best ≤ k → goesOn k best p ≡ true → p ∈ take k (insert p best)
+unfolding goesOn leastPair
+goes-on zero [] p fits e = absurd (false≢true (sym (not-below (level (omega arith) (omega arith))) ∙ e))
+goes-on zero (b ∷ bs) p fits e = absurd (omega arith)
+goes-on (suc m) best p fits e =
+    let last : suc m - 1 ≡ m = omega arith in
+    goes-in m p best (rw last at e)
 
 -- ---- a step
 
@@ -49,6 +68,10 @@ module _ (k : ℕ) (distance : ℕ → ℕ) where
   unfolding readNext
   next-best state i e = rw (e, scan-snoc k distance (state .reads) i)
 
+  pub next-read : (state : Reading) (i : ℕ) → i ∈ (readNext k distance state i) .reads
+  unfolding readNext
+  next-read state i = Memᴰ·append-right (state .reads) (List·Memᴰ·head refl)
+
   pub reading-best : (ps : List Pair) (state : Reading) → state .best ≡ scan k distance (state .reads)
       → (reading k distance ps state) .best ≡ scan k distance ((reading k distance ps state) .reads)
   unfolding reading
@@ -61,6 +84,22 @@ module _ (k : ℕ) (distance : ℕ → ℕ) where
       go : (t : Bool) → on .best ≡ scan k distance (on .reads) → (cond t on state) .best ≡ scan k distance ((cond t on state) .reads)
       go true rest = rest
       go false rest = e
+
+  -- it stops short of the ranking's end only with k best
+  pub reading-length : (ps : List Pair) (state : Reading) → state .best ≡ scan k distance (state .reads)
+      → length ((reading k distance ps state) .best) ≡ min k (length (state .reads) + length ps)
+  unfolding reading readNext
+  reading-length [] state e = ap length e ∙ scan-length k distance (state .reads) ∙ ap (min k) (omega arith)
+  reading-length (p ∷ ps) state e =
+      go (goesOn k (state .best) p) refl (reading-length ps (readNext k distance state (p .number)) (next-best state (p .number) e))
+    where
+      on : Reading
+      on = reading k distance ps (readNext k distance state (p .number))
+
+      go : (t : Bool) → goesOn k (state .best) p ≡ t → length (on .best) ≡ min k (length (state .reads ++ (p .number ∷ [])) + length ps)
+          → length ((cond t on state) .best) ≡ min k (length (state .reads) + suc (length ps))
+      go true goes rest = rest ∙ ap (min k) (omega (arith, length-append (state .reads) (p .number ∷ [])))
+      go false stop rest = omega (arith, ap length e ∙ scan-length k distance (state .reads), (stops k (state .best) p stop) .full)
 
   -- the numbers read are the first of the ranking
   pub reading-reads : (ps : List Pair) (state : Reading) → (m : ℕ) × ((reading k distance ps state) .reads ≡ state .reads ++ take m (numbersOf ps))
