@@ -1,4 +1,5 @@
 pub mod Reading
+pub mod Settles
 pub mod Members
 pub mod Below
 pub mod Insertion

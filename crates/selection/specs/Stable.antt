@@ -10,7 +10,7 @@ use Rattle.selection.specs.Steps.{next-read, reads-kept}
 
 module _ (k : ℕ) (distance other : ℕ → ℕ) where
   -- one number read, where its two distances are one
-  pub same-next : (state : Reading) (i : ℕ) → other i ≡ distance i → readNext k other state i ≡ readNext k distance state i
+  same-next : (state : Reading) (i : ℕ) → other i ≡ distance i → readNext k other state i ≡ readNext k distance state i
   unfolding readNext
   same-next state i e = rw e
 

@@ -1,0 +1,37 @@
+-- What settles an answer (document 01, "Distance, bounds, reading order"), over numbers alone: which distances are possible at a number
+-- stands for the vectors of its cell. Assumes nothing.
+use mathlib.Core.Path.{_≡_}
+use mathlib.Core.Bool.{cond}
+use mathlib.Core.List.{List, [], _∷_}
+use Prim.Native.Nat.{ℕ, suc, _≤_}
+use lib.Dec.{eqb}
+use Rattle.selection.specs.Reading.{scan}
+use Rattle.selection.specs.Members.{_∈_}
+
+-- "A cell's least and greatest distance, L and U, [..] both reached inside the cell": low is the least that is possible at a number, and
+-- high is possible too. (That high is the greatest is not needed.)
+pub record Bounds (possible : ℕ → ℕ → Type 0) (low high : ℕ → ℕ) (numbers : List ℕ) : Type 0 where
+  pub least : (i v : ℕ) → i ∈ numbers → possible i v → low i ≤ v
+  pub low-possible : (i : ℕ) → i ∈ numbers → possible i (low i)
+  pub high-possible : (i : ℕ) → i ∈ numbers → possible i (high i)
+
+-- every number's distance is possible there ("each pattern lies in its code's cell")
+abbrev pub Possible : (ℕ → ℕ → Type 0) → (ℕ → ℕ) → List ℕ → Type 0
+Possible possible distance numbers = (i : ℕ) → i ∈ numbers → possible i (distance i)
+
+-- "A set of pattern numbers settles the answer if, whatever vectors of their own cells stand at all the other numbers, with all else that
+-- the search is given kept, a full scan gives the answer's k numbers and distances."
+abbrev pub Settles : ℕ → (ℕ → ℕ → Type 0) → (ℕ → ℕ) → List ℕ → List ℕ → Type 0
+Settles k possible distance numbers set =
+    (other : ℕ → ℕ) → Possible possible other numbers → ((i : ℕ) → i ∈ set → other i ≡ distance i) → scan k other numbers ≡ scan k distance numbers
+
+-- the distance v at number i, and no other changed
+unfoldable pub changed : (ℕ → ℕ) → ℕ → ℕ → ℕ → ℕ
+changed distance i v j = cond (eqb j i) v (distance j)
+
+-- how many of the numbers have one bound alone, so that nothing depends on reading them
+unfoldable pub fixed : (ℕ → ℕ) → (ℕ → ℕ) → List ℕ → ℕ
+fixed low high [] = 0
+fixed low high (i ∷ is) =
+    let rest = fixed low high is in
+    cond (eqb (low i) (high i)) (suc rest) rest
