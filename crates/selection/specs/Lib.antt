@@ -8,4 +8,6 @@ pub mod Scan
 pub mod Steps
 pub mod Exact
 pub mod Stable
+pub mod Reads
 pub mod Needed
+pub mod Least

@@ -1,21 +1,24 @@
 -- A number that is read is in the answer once its distance is its low; so where it has another possible distance too, one of the two
 -- changes the answer. Assumes nothing.
-use mathlib.Core.Path.{_≡_, refl, sym, ap, _∙_}
+use mathlib.Core.Path.{_≡_, refl, sym, ap, _∙_, fun-ext}
 use mathlib.Core.Bool.{Bool, true, false, cond}
 use mathlib.Core.Logic.{_≢_, ⊎-elim}
-use mathlib.Core.List.{List, [], _∷_, _++_, List·Memᴰ·head, List·Memᴰ·tail, List·Memᴰ·append-cases, List·Memᴰ·eq-of-singleton, Memᴰ·cast}
+use mathlib.Core.List.{List, [], _∷_, _++_, List·Memᴰ·head, List·Memᴰ·tail, List·Memᴰ·not-nil, List·Memᴰ·append-cases, List·Memᴰ·eq-of-singleton, Memᴰ·cast}
 use Prim.Native.Nat.{ℕ, _≤_}
 use native.Mathlib.Decide.{ℕ-discrete}
 use native.Mathlib.Omega.{arith}
+use borrow.Author.Tests.{eq-eqb, ne-eqb}
 use lib.ListN.{length, take}
 use lib.Seq.{append-snoc}
-use Rattle.order.specs.Pair.{Pair, insert, numbersOf}
-use Rattle.selection.specs.Reading.{pairOf, scan, Reading, goesOn, readNext, reading}
-use Rattle.selection.specs.Members.{_∈_}
+use Rattle.order.specs.Pair.{Pair, ranked, numbersOf}
+use Rattle.selection.specs.Reading.{pairOf, scan, Reading, unread, goesOn, readNext, reading, read}
+use Rattle.selection.specs.Settles.{Bounds, Needed, changed}
+use Rattle.selection.specs.Members.{_∈_, member-ranked, member-scan}
 use Rattle.selection.specs.Below.{AtMost, level, at-most-trans}
 use Rattle.selection.specs.Sorted.{Sorted, more}
-use Rattle.selection.specs.Scan.{scan-length, scan-snoc, scan-keeps}
-use Rattle.selection.specs.Steps.{goes-on, reading-stops, reading-goes-on, next-best}
+use Rattle.selection.specs.Scan.{ranked-sorted, scan-length, scan-snoc, scan-ranked, scan-keeps}
+use Rattle.selection.specs.Steps.{goes-on, next-best, unread-best}
+use Rattle.selection.specs.Reads.{read-among}
 
 -- the next pair is read, and pairs behind it leave it in the answer
 reads-next : (k : ℕ) (distance : ℕ → ℕ) (p : Pair) (ps : List Pair) (state : Reading) → state .best ≡ scan k distance (state .reads)
@@ -60,3 +63,65 @@ module _ (k : ℕ) (low distance lowered : ℕ → ℕ) (i : ℕ) (at-i : lowere
           (λ q m. at-most-trans (least q m) (level (bounds q (List·Memᴰ·tail m)) (omega arith))))
       go true goes (no other) later = rw (← (append-snoc (state .reads) (p .number) (numbersOf ps))) (later other (rw goes at read))
       go false stop same later = absurd (unread (rw stop at read))
+
+-- ---- one distance changed
+
+changed-there : (distance : ℕ → ℕ) (i v : ℕ) → changed distance i v i ≡ v
+unfolding changed
+changed-there distance i v = rw (eq-eqb i i refl)
+
+pub changed-elsewhere : (distance : ℕ → ℕ) (i v j : ℕ) → j ≢ i → changed distance i v j ≡ distance j
+unfolding changed
+changed-elsewhere distance i v j other = rw (ne-eqb j i other)
+
+-- what holds of v at i and of the distance elsewhere
+pub changed-holds : (distance : ℕ → ℕ) (i v j : ℕ) (P : ℕ → ℕ → Type 0) → P i v → P j (distance j) → P j (changed distance i v j)
+changed-holds distance i v j P there else = go (ℕ-discrete j i)
+  where
+    go : Dec (j ≡ i) → P j (changed distance i v j)
+    go (yes e) = rw (e, changed-there distance i v) there
+    go (no other) = rw (changed-elsewhere distance i v j other) else
+
+changed-same : (distance : ℕ → ℕ) (i : ℕ) → changed distance i (distance i) ≡ distance
+changed-same distance i = fun-ext (λ j. changed-holds distance i (distance i) j (λ n v. v ≡ distance n) refl refl)
+
+module _ (k : ℕ) (low distance : ℕ → ℕ) (numbers : List ℕ) (lower : (j : ℕ) → j ∈ numbers → low j ≤ distance j) {i : ℕ}
+    (is-read : i ∈ (read k low distance numbers) .reads) where
+  in-answer : pairOf low i ∈ scan k (changed distance i (low i)) numbers
+  unfolding read unread
+  in-answer =
+      rw (scan-ranked k (changed distance i (low i)) low numbers)
+      at
+      (reading-lowered k low distance (changed distance i (low i)) i (changed-there distance i (low i))
+      (λ j other. sym (changed-elsewhere distance i (low i) j other)) (ranked low numbers) unread (unread-best k (changed distance i (low i)))
+      (ranked-sorted low numbers) keys bounds List·Memᴰ·not-nil is-read)
+    where
+      keys : (p : Pair) → p ∈ ranked low numbers → p .key ≡ low (p .number)
+      keys p m = (member-ranked low numbers m) .its-key
+
+      bounds : (p : Pair) → p ∈ ranked low numbers → p .key ≤ changed distance i (low i) (p .number)
+      bounds p m =
+          rw (keys p m)
+          (changed-holds distance i (low i) (p .number) (λ j v. low j ≤ v) (omega arith)
+          (lower (p .number) ((member-ranked low numbers m) .its-number)))
+
+  pub read-needed : (possible : ℕ → ℕ → Type 0) (high : ℕ → ℕ) → Bounds possible low high numbers → low i ≢ high i
+      → Needed k possible distance numbers i
+  read-needed possible high bounds differ = go (ℕ-discrete (distance i) (low i))
+    where
+      go : Dec (distance i ≡ low i) → Needed k possible distance numbers i
+      go (yes e) =
+          record {
+            value = high i;
+            is-possible = bounds .high-possible i (read-among k low distance numbers is-read);
+            changes = λ s.
+                differ
+                (sym e ∙ (member-scan k (changed distance i (high i)) numbers (rw (← e, changed-same distance i, ← s) at in-answer)) .its-key
+                ∙ changed-there distance i (high i));
+          }
+      go (no e) =
+          record {
+            value = low i;
+            is-possible = bounds .low-possible i (read-among k low distance numbers is-read);
+            changes = λ s. e (sym ((member-scan k distance numbers (rw s at in-answer)) .its-key));
+          }

@@ -3,6 +3,7 @@
 use mathlib.Core.Path.{_≡_}
 use mathlib.Core.Bool.{cond}
 use mathlib.Core.List.{List, [], _∷_}
+use mathlib.Core.Logic.{_≢_}
 use Prim.Native.Nat.{ℕ, suc, _≤_}
 use lib.Dec.{eqb}
 use Rattle.selection.specs.Reading.{scan}
@@ -28,6 +29,12 @@ Settles k possible distance numbers set =
 -- the distance v at number i, and no other changed
 unfoldable pub changed : (ℕ → ℕ) → ℕ → ℕ → ℕ → ℕ
 changed distance i v j = cond (eqb j i) v (distance j)
+
+-- another distance at i alone, possible there, gives another answer
+pub record Needed (k : ℕ) (possible : ℕ → ℕ → Type 0) (distance : ℕ → ℕ) (numbers : List ℕ) (i : ℕ) : Type 0 where
+  pub value : ℕ
+  pub is-possible : possible i value
+  pub changes : scan k (changed distance i value) numbers ≢ scan k distance numbers
 
 -- how many of the numbers have one bound alone, so that nothing depends on reading them
 unfoldable pub fixed : (ℕ → ℕ) → (ℕ → ℕ) → List ℕ → ℕ

@@ -7,10 +7,10 @@ use Prim.Native.Nat.{ℕ, zero, suc, _+_, _-_, _≤_, min}
 use native.Mathlib.Omega.{arith}
 use lib.Dec.{ltb, leb·suc-suc}
 use lib.ListN.{length, take, getD, length-append}
-use lib.Seq.{append-snoc}
+use lib.Seq.{append-snoc, take-nil}
 use borrow.Author.Tests.{ltb-false, le-ltb}
-use Rattle.order.specs.Pair.{Pair, below, insert, numbersOf}
-use Rattle.selection.specs.Reading.{pairOf, scan, Reading, leastPair, goesOn, readNext, reading}
+use Rattle.order.specs.Pair.{Pair, below, insert, sort, keyed, ranked, numbersOf}
+use Rattle.selection.specs.Reading.{pairOf, scan, Reading, unread, leastPair, goesOn, readNext, reading}
 use Rattle.selection.specs.Members.{_∈_}
 use Rattle.selection.specs.Below.{AtMost, level, below-true, below-false, not-below}
 use Rattle.selection.specs.Scan.{scan-length, scan-snoc}
@@ -67,6 +67,10 @@ module _ (k : ℕ) (distance : ℕ → ℕ) where
       → (readNext k distance state i) .best ≡ scan k distance ((readNext k distance state i) .reads)
   unfolding readNext
   next-best state i e = rw (e, scan-snoc k distance (state .reads) i)
+
+  pub unread-best : unread .best ≡ scan k distance (unread .reads)
+  unfolding unread scan ranked sort keyed
+  unread-best = sym (take-nil k)
 
   pub next-read : (state : Reading) (i : ℕ) → i ∈ (readNext k distance state i) .reads
   unfolding readNext
