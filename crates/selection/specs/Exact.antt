@@ -13,7 +13,7 @@ use Rattle.selection.specs.Members.{_∈_}
 use Rattle.selection.specs.Below.{AtMost, level, at-most-trans}
 use Rattle.selection.specs.Sorted.{Sorted, none, more, sorted-least}
 use Rattle.selection.specs.Scan.{scan-late, scan-length}
-use Rattle.selection.specs.Steps.{Stops, stops, reading-stops, reading-goes-on, next-best}
+use Rattle.selection.specs.Steps.{Stops, stops, next-best}
 
 module _ (k : ℕ) (distance : ℕ → ℕ) where
   pub reading-exact : (ps : List Pair) (state : Reading) → state .best ≡ scan k distance (state .reads)

@@ -9,7 +9,7 @@ use native.Mathlib.Omega.{arith}
 use lib.Dec.{eqb}
 use lib.ListN.{length}
 use borrow.Author.Tests.{eqb-false}
-use Rattle.selection.specs.Settles.{Settles, Possible, Needed, fixed, changed}
+use Rattle.selection.specs.Settles.{Settles, Within, Needed, fixed, changed}
 use Rattle.selection.specs.Members.{_∈_, Distinct, none, more}
 use Rattle.selection.specs.Needed.{changed-elsewhere, changed-holds}
 
@@ -25,7 +25,7 @@ member? i (j ∷ is) = go (ℕ-discrete i j) (member? i is)
     go (no other) (no missing) = no (λ m. ⊎-elim other missing (List·Memᴰ·cases-cons m))
 
 pub settles-needed : {k : ℕ} {possible : ℕ → ℕ → Type 0} {distance : ℕ → ℕ} {numbers : List ℕ} {set : List ℕ} {i : ℕ}
-    → Possible possible distance numbers → Settles k possible distance numbers set → Needed k possible distance numbers i → i ∈ set
+    → Within possible distance numbers → Settles k possible distance numbers set → Needed k possible distance numbers i → i ∈ set
 settles-needed {possible = possible} {distance = distance} {set = set} {i = i} own settles needed = go (member? i set)
   where
     go : Dec (i ∈ set) → i ∈ set

@@ -12,13 +12,12 @@ use lib.ListN.{length, take}
 use lib.Seq.{append-snoc}
 use Rattle.order.specs.Pair.{Pair, ranked, numbersOf}
 use Rattle.selection.specs.Reading.{pairOf, scan, Reading, unread, goesOn, readNext, reading, read}
-use Rattle.selection.specs.Settles.{Bounds, Needed, changed}
+use Rattle.selection.specs.Settles.{LowerBound, Bounds, Needed, changed}
 use Rattle.selection.specs.Members.{_∈_, member-ranked, member-scan}
 use Rattle.selection.specs.Below.{AtMost, level, at-most-trans}
 use Rattle.selection.specs.Sorted.{Sorted, more}
 use Rattle.selection.specs.Scan.{ranked-sorted, scan-length, scan-snoc, scan-ranked, scan-keeps}
 use Rattle.selection.specs.Steps.{goes-on, next-best, unread-best}
-use Rattle.selection.specs.Reads.{read-among}
 
 -- the next pair is read, and pairs behind it leave it in the answer
 reads-next : (k : ℕ) (distance : ℕ → ℕ) (p : Pair) (ps : List Pair) (state : Reading) → state .best ≡ scan k distance (state .reads)
@@ -85,7 +84,7 @@ changed-holds distance i v j P there else = go (ℕ-discrete j i)
 changed-same : (distance : ℕ → ℕ) (i : ℕ) → changed distance i (distance i) ≡ distance
 changed-same distance i = fun-ext (λ j. changed-holds distance i (distance i) j (λ n v. v ≡ distance n) refl refl)
 
-module _ (k : ℕ) (low distance : ℕ → ℕ) (numbers : List ℕ) (lower : (j : ℕ) → j ∈ numbers → low j ≤ distance j) {i : ℕ}
+module _ (k : ℕ) (low distance : ℕ → ℕ) (numbers : List ℕ) (lower : LowerBound low distance numbers) {i : ℕ}
     (is-read : i ∈ (read k low distance numbers) .reads) where
   in-answer : pairOf low i ∈ scan k (changed distance i (low i)) numbers
   unfolding read unread
@@ -105,15 +104,15 @@ module _ (k : ℕ) (low distance : ℕ → ℕ) (numbers : List ℕ) (lower : (j
           (changed-holds distance i (low i) (p .number) (λ j v. low j ≤ v) (omega arith)
           (lower (p .number) ((member-ranked low numbers m) .its-number)))
 
-  pub read-needed : (possible : ℕ → ℕ → Type 0) (high : ℕ → ℕ) → Bounds possible low high numbers → low i ≢ high i
+  pub read-needed : (possible : ℕ → ℕ → Type 0) (high : ℕ → ℕ) → Bounds possible low high numbers → i ∈ numbers → low i ≢ high i
       → Needed k possible distance numbers i
-  read-needed possible high bounds differ = go (ℕ-discrete (distance i) (low i))
+  read-needed possible high bounds here differ = go (ℕ-discrete (distance i) (low i))
     where
       go : Dec (distance i ≡ low i) → Needed k possible distance numbers i
       go (yes e) =
           record {
             value = high i;
-            is-possible = bounds .high-possible i (read-among k low distance numbers is-read);
+            is-possible = bounds .high-possible i here;
             changes = λ s.
                 differ
                 (sym e ∙ (member-scan k (changed distance i (high i)) numbers (rw (← e, changed-same distance i, ← s) at in-answer)) .its-key
@@ -122,6 +121,6 @@ module _ (k : ℕ) (low distance : ℕ → ℕ) (numbers : List ℕ) (lower : (j
       go (no e) =
           record {
             value = low i;
-            is-possible = bounds .low-possible i (read-among k low distance numbers is-read);
+            is-possible = bounds .low-possible i here;
             changes = λ s. e (sym ((member-scan k distance numbers (rw s at in-answer)) .its-key));
           }

@@ -9,6 +9,10 @@ use lib.Dec.{eqb}
 use Rattle.selection.specs.Reading.{scan}
 use Rattle.selection.specs.Members.{_∈_}
 
+-- no low is above its number's distance
+abbrev pub LowerBound : (ℕ → ℕ) → (ℕ → ℕ) → List ℕ → Type 0
+LowerBound low distance numbers = (i : ℕ) → i ∈ numbers → low i ≤ distance i
+
 -- "A cell's least and greatest distance, L and U, [..] both reached inside the cell": low is the least that is possible at a number, and
 -- high is possible too. (That high is the greatest is not needed.)
 pub record Bounds (possible : ℕ → ℕ → Type 0) (low high : ℕ → ℕ) (numbers : List ℕ) : Type 0 where
@@ -16,15 +20,19 @@ pub record Bounds (possible : ℕ → ℕ → Type 0) (low high : ℕ → ℕ) (
   pub low-possible : (i : ℕ) → i ∈ numbers → possible i (low i)
   pub high-possible : (i : ℕ) → i ∈ numbers → possible i (high i)
 
--- every number's distance is possible there ("each pattern lies in its code's cell")
-abbrev pub Possible : (ℕ → ℕ → Type 0) → (ℕ → ℕ) → List ℕ → Type 0
-Possible possible distance numbers = (i : ℕ) → i ∈ numbers → possible i (distance i)
+-- every number's distance is one that is possible there ("each pattern lies in its code's cell")
+abbrev pub Within : (ℕ → ℕ → Type 0) → (ℕ → ℕ) → List ℕ → Type 0
+Within possible distance numbers = (i : ℕ) → i ∈ numbers → possible i (distance i)
+
+-- the two give the same distance to each number of the set
+abbrev pub Agree : List ℕ → (ℕ → ℕ) → (ℕ → ℕ) → Type 0
+Agree set other distance = (i : ℕ) → i ∈ set → other i ≡ distance i
 
 -- "A set of pattern numbers settles the answer if, whatever vectors of their own cells stand at all the other numbers, with all else that
 -- the search is given kept, a full scan gives the answer's k numbers and distances."
 abbrev pub Settles : ℕ → (ℕ → ℕ → Type 0) → (ℕ → ℕ) → List ℕ → List ℕ → Type 0
 Settles k possible distance numbers set =
-    (other : ℕ → ℕ) → Possible possible other numbers → ((i : ℕ) → i ∈ set → other i ≡ distance i) → scan k other numbers ≡ scan k distance numbers
+    (other : ℕ → ℕ) → Within possible other numbers → Agree set other distance → scan k other numbers ≡ scan k distance numbers
 
 -- the distance v at number i, and no other changed
 unfoldable pub changed : (ℕ → ℕ) → ℕ → ℕ → ℕ → ℕ

@@ -5,6 +5,7 @@ use mathlib.Core.List.{List, [], _∷_}
 use Prim.Native.Nat.{ℕ}
 use Rattle.order.specs.Pair.{Pair}
 use Rattle.selection.specs.Reading.{Reading, goesOn, readNext, reading}
+use Rattle.selection.specs.Settles.{Agree}
 use Rattle.selection.specs.Members.{_∈_}
 use Rattle.selection.specs.Steps.{next-read, reads-kept}
 
@@ -14,7 +15,7 @@ module _ (k : ℕ) (distance other : ℕ → ℕ) where
   unfolding readNext
   same-next state i e = rw e
 
-  pub reading-stable : (ps : List Pair) (state : Reading) → ((i : ℕ) → i ∈ (reading k distance ps state) .reads → other i ≡ distance i)
+  pub reading-stable : (ps : List Pair) (state : Reading) → Agree ((reading k distance ps state) .reads) other distance
       → reading k other ps state ≡ reading k distance ps state
   unfolding reading
   reading-stable [] state same = refl
@@ -26,8 +27,8 @@ module _ (k : ℕ) (distance other : ℕ → ℕ) where
       is-read : p .number ∈ (on distance) .reads
       is-read = reads-kept k distance ps (readNext k distance state (p .number)) (next-read k distance state (p .number))
 
-      go : (t : Bool) → ((i : ℕ) → i ∈ (cond t (on distance) state) .reads → other i ≡ distance i)
-          → (((i : ℕ) → i ∈ (on distance) .reads → other i ≡ distance i) → reading k other ps (readNext k distance state (p .number)) ≡ on distance)
+      go : (t : Bool) → Agree ((cond t (on distance) state) .reads) other distance
+          → (Agree ((on distance) .reads) other distance → reading k other ps (readNext k distance state (p .number)) ≡ on distance)
           → cond t (on other) state ≡ cond t (on distance) state
       go true agrees rest = ap (reading k other ps) (same-next state (p .number) (agrees (p .number) is-read)) ∙ rest agrees
       go false agrees rest = refl

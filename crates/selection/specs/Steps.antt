@@ -53,15 +53,6 @@ goes-on (suc m) best p fits e =
 -- ---- a step
 
 module _ (k : ℕ) (distance : ℕ → ℕ) where
-  pub reading-stops : (p : Pair) (ps : List Pair) (state : Reading) → goesOn k (state .best) p ≡ false → reading k distance (p ∷ ps) state ≡ state
-  unfolding reading
-  reading-stops p ps state e = rw e
-
-  pub reading-goes-on : (p : Pair) (ps : List Pair) (state : Reading) → goesOn k (state .best) p ≡ true
-      → reading k distance (p ∷ ps) state ≡ reading k distance ps (readNext k distance state (p .number))
-  unfolding reading
-  reading-goes-on p ps state e = rw e
-
   -- the best are the scan's answer over the numbers read
   pub next-best : (state : Reading) (i : ℕ) → state .best ≡ scan k distance (state .reads)
       → (readNext k distance state i) .best ≡ scan k distance ((readNext k distance state i) .reads)
