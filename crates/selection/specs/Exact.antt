@@ -2,18 +2,18 @@
 -- the numbers read and those of the rest; and how many they are. Assumes nothing.
 use mathlib.Core.Path.{_≡_, refl, sym, ap, _∙_}
 use mathlib.Core.Bool.{Bool, true, false}
-use mathlib.Core.List.{List, [], _∷_, _++_, append-nil, List·Memᴰ·head, List·Memᴰ·tail}
-use Prim.Native.Nat.{ℕ, suc, _+_, _-_, _≤_, min}
+use mathlib.Core.List.{List, [], _∷_, _++_, append-nil, List·Memᴰ·tail}
+use Prim.Native.Nat.{ℕ, _+_, _-_, _≤_}
 use native.Mathlib.Omega.{arith}
-use lib.ListN.{length, getD, length-append}
+use lib.ListN.{getD}
 use lib.Seq.{append-snoc}
 use Rattle.order.specs.Pair.{Pair, numbersOf}
 use Rattle.selection.specs.Reading.{pairOf, scan, Reading, leastPair, goesOn, readNext, reading}
 use Rattle.selection.specs.Members.{_∈_}
 use Rattle.selection.specs.Below.{AtMost, level, at-most-trans}
-use Rattle.selection.specs.Sorted.{Sorted, none, more, sorted-least}
-use Rattle.selection.specs.Scan.{scan-late, scan-length}
-use Rattle.selection.specs.Steps.{Stops, stops, next-best}
+use Rattle.selection.specs.Sorted.{Sorted, more, sorted-least}
+use Rattle.selection.specs.Scan.{scan-late}
+use Rattle.selection.specs.Steps.{Stopped, stopped, next-best}
 
 module _ (k : ℕ) (distance : ℕ → ℕ) where
   pub reading-exact : (ps : List Pair) (state : Reading) → state .best ≡ scan k distance (state .reads)
@@ -25,7 +25,7 @@ module _ (k : ℕ) (distance : ℕ → ℕ) where
       go (goesOn k (state .best) p) refl
       (reading-exact ps (readNext k distance state (p .number)) (next-best k distance state (p .number) e) rest (λ q m. low q (List·Memᴰ·tail m)))
     where
-      late : Stops k (state .best) p → (q : Pair) → q ∈ (p ∷ ps) → AtMost (getD (state .best) (k - 1) leastPair) (pairOf distance (q .number))
+      late : Stopped k (state .best) p → (q : Pair) → q ∈ (p ∷ ps) → AtMost (getD (state .best) (k - 1) leastPair) (pairOf distance (q .number))
       late s q m = at-most-trans (at-most-trans (s .late) (sorted-least (more least rest) q m)) (level (low q m) (omega arith))
 
       go : (t : Bool) → goesOn k (state .best) p ≡ t
@@ -33,5 +33,5 @@ module _ (k : ℕ) (distance : ℕ → ℕ) where
           → (reading k distance (p ∷ ps) state) .best ≡ scan k distance (state .reads ++ numbersOf (p ∷ ps))
       go true on rest = rw (on, ← (append-snoc (state .reads) (p .number) (numbersOf ps))) rest
       go false stop rest =
-          let s = stops k (state .best) p stop in
+          let s = stopped k (state .best) p stop in
           rw stop (e ∙ sym (scan-late k distance (state .reads) (p ∷ ps) (rw e at (s .full)) (λ q m. rw e at (late s q m))))

@@ -1,14 +1,14 @@
 -- A number that is read is in the answer once its distance is its low; so where it has another possible distance too, one of the two
 -- changes the answer. Assumes nothing.
 use mathlib.Core.Path.{_≡_, refl, sym, ap, _∙_, fun-ext}
-use mathlib.Core.Bool.{Bool, true, false, cond}
+use mathlib.Core.Bool.{Bool, true, false}
 use mathlib.Core.Logic.{_≢_, ⊎-elim}
 use mathlib.Core.List.{List, [], _∷_, _++_, List·Memᴰ·head, List·Memᴰ·tail, List·Memᴰ·not-nil, List·Memᴰ·append-cases, List·Memᴰ·eq-of-singleton, Memᴰ·cast}
 use Prim.Native.Nat.{ℕ, _≤_}
 use native.Mathlib.Decide.{ℕ-discrete}
 use native.Mathlib.Omega.{arith}
 use borrow.Author.Tests.{eq-eqb, ne-eqb}
-use lib.ListN.{length, take}
+use lib.ListN.{length}
 use lib.Seq.{append-snoc}
 use Rattle.order.specs.Pair.{Pair, ranked, numbersOf}
 use Rattle.selection.specs.Reading.{pairOf, scan, Reading, unread, goesOn, readNext, reading, read}
@@ -17,7 +17,7 @@ use Rattle.selection.specs.Members.{_∈_, member-ranked, member-scan}
 use Rattle.selection.specs.Below.{AtMost, level, at-most-trans}
 use Rattle.selection.specs.Sorted.{Sorted, more}
 use Rattle.selection.specs.Scan.{ranked-sorted, scan-length, scan-snoc, scan-ranked, scan-keeps}
-use Rattle.selection.specs.Steps.{goes-on, next-best, unread-best}
+use Rattle.selection.specs.Steps.{enters, next-best, unread-best}
 
 -- the next pair is read, and pairs behind it leave it in the answer
 reads-next : (k : ℕ) (distance : ℕ → ℕ) (p : Pair) (ps : List Pair) (state : Reading) → state .best ≡ scan k distance (state .reads)
@@ -28,7 +28,7 @@ reads-next k distance p ps state e goes own late =
     rw (← (append-snoc (state .reads) (p .number) (numbersOf ps))) (scan-keeps k distance (state .reads ++ (p .number ∷ [])) ps late now)
   where
     now : p ∈ scan k distance (state .reads ++ (p .number ∷ []))
-    now = rw (scan-snoc, ← own, ← e) (goes-on k (state .best) p (omega (arith, ap length e ∙ scan-length k distance (state .reads))) goes)
+    now = rw (scan-snoc, ← own, ← e) (enters k (state .best) p (omega (arith, ap length e ∙ scan-length k distance (state .reads))) goes)
 
 -- the distances are lowered at i alone, to its low
 module _ (k : ℕ) (low distance lowered : ℕ → ℕ) (i : ℕ) (at-i : lowered i ≡ low i) (elsewhere : (j : ℕ) → j ≢ i → distance j ≡ lowered j) where
@@ -36,18 +36,18 @@ module _ (k : ℕ) (low distance lowered : ℕ → ℕ) (i : ℕ) (at-i : lowere
       → ((p : Pair) → p ∈ ps → p .key ≡ low (p .number)) → ((p : Pair) → p ∈ ps → p .key ≤ lowered (p .number))
       → ¬ (i ∈ state .reads) → i ∈ (reading k distance ps state) .reads → pairOf low i ∈ scan k lowered (state .reads ++ numbersOf ps)
   unfolding reading readNext numbersOf
-  reading-lowered [] state e sorted keys bounds unread read = absurd (unread read)
-  reading-lowered (p ∷ ps) state e (more least rest) keys bounds unread read =
+  reading-lowered [] state e sorted keys bounds not-yet is-read = absurd (not-yet is-read)
+  reading-lowered (p ∷ ps) state e (more least rest) keys bounds not-yet is-read =
       go (goesOn k (state .best) p) refl (ℕ-discrete (p .number) i)
       (λ other.
       reading-lowered ps (readNext k distance state (p .number)) (best-after other) rest (λ q m. keys q (List·Memᴰ·tail m))
-      (λ q m. bounds q (List·Memᴰ·tail m)) (unread-after other))
+      (λ q m. bounds q (List·Memᴰ·tail m)) (not-yet-after other))
     where
       best-after : p .number ≢ i → (readNext k distance state (p .number)) .best ≡ scan k lowered ((readNext k distance state (p .number)) .reads)
       best-after other = rw (elsewhere (p .number) other) (next-best k lowered state (p .number) e)
 
-      unread-after : p .number ≢ i → ¬ (i ∈ (state .reads ++ (p .number ∷ [])))
-      unread-after other m = ⊎-elim unread (λ s. other (sym (List·Memᴰ·eq-of-singleton s))) (List·Memᴰ·append-cases (state .reads) m)
+      not-yet-after : p .number ≢ i → ¬ (i ∈ (state .reads ++ (p .number ∷ [])))
+      not-yet-after other m = ⊎-elim not-yet (λ s. other (sym (List·Memᴰ·eq-of-singleton s))) (List·Memᴰ·append-cases (state .reads) m)
 
       go : (t : Bool) → goesOn k (state .best) p ≡ t → Dec (p .number ≡ i)
           → (p .number ≢ i → i ∈ (reading k distance ps (readNext k distance state (p .number))) .reads
@@ -60,8 +60,8 @@ module _ (k : ℕ) (low distance lowered : ℕ → ℕ) (i : ℕ) (at-i : lowere
           Memᴰ·cast (λ j. record { key = low-key j; number = sym same j })
           (reads-next k lowered p ps state e goes (λ j. record { key = own j; number = p .number })
           (λ q m. at-most-trans (least q m) (level (bounds q (List·Memᴰ·tail m)) (omega arith))))
-      go true goes (no other) later = rw (← (append-snoc (state .reads) (p .number) (numbersOf ps))) (later other (rw goes at read))
-      go false stop same later = absurd (unread (rw stop at read))
+      go true goes (no other) later = rw (← (append-snoc (state .reads) (p .number) (numbersOf ps))) (later other (rw goes at is-read))
+      go false stop same later = absurd (not-yet (rw stop at is-read))
 
 -- ---- one distance changed
 

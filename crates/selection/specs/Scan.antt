@@ -1,7 +1,7 @@
 -- The scan's answer: its length and order, and what one more number does to it. Assumes nothing.
 use mathlib.Core.Path.{_≡_, refl, sym, ap, _∙_}
 use mathlib.Core.List.{List, [], _∷_, _++_, append-nil, List·Memᴰ·head, List·Memᴰ·tail}
-use Prim.Native.Nat.{ℕ, zero, suc, _-_, _≤_, min}
+use Prim.Native.Nat.{ℕ, _-_, _≤_, min}
 use native.Mathlib.Omega.{arith}
 use lib.ListN.{length, take, getD, length-take}
 use lib.Seq.{take-take}
@@ -29,7 +29,7 @@ unfolding scan
 scan-cut k distance is = take-take k k (ranked distance is) (omega arith)
 
 -- a number's pair is inserted, wherever the number stands
-pub scan-insert : (k : ℕ) (distance : ℕ → ℕ) (before : List ℕ) (i : ℕ) (after : List ℕ)
+scan-insert : (k : ℕ) (distance : ℕ → ℕ) (before : List ℕ) (i : ℕ) (after : List ℕ)
     → scan k distance (before ++ i ∷ after) ≡ take k (insert (pairOf distance i) (scan k distance (before ++ after)))
 unfolding scan
 scan-insert k distance before i after =

@@ -10,7 +10,7 @@ use lib.ListN.{length, take, getD, length-append}
 use lib.Seq.{append-snoc, take-nil}
 use borrow.Author.Tests.{ltb-false, le-ltb}
 use Rattle.order.specs.Pair.{Pair, below, insert, sort, keyed, ranked, numbersOf}
-use Rattle.selection.specs.Reading.{pairOf, scan, Reading, unread, leastPair, goesOn, readNext, reading}
+use Rattle.selection.specs.Reading.{scan, Reading, unread, leastPair, goesOn, readNext, reading}
 use Rattle.selection.specs.Members.{_∈_}
 use Rattle.selection.specs.Below.{AtMost, level, below-true, below-false, not-below}
 use Rattle.selection.specs.Scan.{scan-length, scan-snoc}
@@ -18,37 +18,37 @@ use Rattle.selection.specs.Scan.{scan-length, scan-snoc}
 -- ---- the test
 
 -- where it does not go on there are k best, and the k-th is at most the next pair
-pub record Stops (k : ℕ) (best : List Pair) (p : Pair) : Type 0 where
+pub record Stopped (k : ℕ) (best : List Pair) (p : Pair) : Type 0 where
   pub full : k ≤ length best
   pub late : AtMost (getD best (k - 1) leastPair) p
 
-pub stops : (k : ℕ) (best : List Pair) (p : Pair) → goesOn k best p ≡ false → Stops k best p
+pub stopped : (k : ℕ) (best : List Pair) (p : Pair) → goesOn k best p ≡ false → Stopped k best p
 unfolding goesOn
-stops k best p = go (ltb (length best) k) (below p (getD best (k - 1) leastPair)) refl refl
+stopped k best p = go (ltb (length best) k) (below p (getD best (k - 1) leastPair)) refl refl
   where
-    go : (t u : Bool) → ltb (length best) k ≡ t → below p (getD best (k - 1) leastPair) ≡ u → (t || u) ≡ false → Stops k best p
+    go : (t u : Bool) → ltb (length best) k ≡ t → below p (getD best (k - 1) leastPair) ≡ u → (t || u) ≡ false → Stopped k best p
     go true u a b e = absurd (true≢false e)
     go false true a b e = absurd (true≢false e)
     go false false a b e = record { full = ltb-false (length best) k a; late = below-false p (getD best (k - 1) leastPair) b }
 
 -- where it goes on, the pair itself would be one of the k best
-goes-in : (m : ℕ) (p : Pair) (best : List Pair) → (ltb (length best) (suc m) || below p (getD best m leastPair)) ≡ true → p ∈ take (suc m) (insert p best)
+enters-first : (m : ℕ) (p : Pair) (best : List Pair) → (ltb (length best) (suc m) || below p (getD best m leastPair)) ≡ true → p ∈ take (suc m) (insert p best)
 unfolding insert
-goes-in m p [] e = List·Memᴰ·head refl
-goes-in zero p (b ∷ bs) e = rw (not-below (below-true p b (rw (le-ltb (suc (length bs)) 1 (omega arith)) at e))) (List·Memᴰ·head refl)
-goes-in (suc m) p (b ∷ bs) e = go (below b p) (goes-in m p bs (rw (leb·suc-suc (suc (length bs)) (suc m)) at e))
+enters-first m p [] e = List·Memᴰ·head refl
+enters-first zero p (b ∷ bs) e = rw (not-below (below-true p b (rw (le-ltb (suc (length bs)) 1 (omega arith)) at e))) (List·Memᴰ·head refl)
+enters-first (suc m) p (b ∷ bs) e = go (below b p) (enters-first m p bs (rw (leb·suc-suc (suc (length bs)) (suc m)) at e))
   where
     go : (t : Bool) → p ∈ take (suc m) (insert p bs) → p ∈ take (suc (suc m)) (cond t (b ∷ insert p bs) (p ∷ b ∷ bs))
     go true rest = List·Memᴰ·tail rest
     go false rest = List·Memᴰ·head refl
 
-pub goes-on : (k : ℕ) (best : List Pair) (p : Pair) → length best ≤ k → goesOn k best p ≡ true → p ∈ take k (insert p best)
+pub enters : (k : ℕ) (best : List Pair) (p : Pair) → length best ≤ k → goesOn k best p ≡ true → p ∈ take k (insert p best)
 unfolding goesOn leastPair
-goes-on zero [] p fits e = absurd (false≢true (sym (not-below (level (omega arith) (omega arith))) ∙ e))
-goes-on zero (b ∷ bs) p fits e = absurd (omega arith)
-goes-on (suc m) best p fits e =
+enters zero [] p fits e = absurd (false≢true (sym (not-below (level (omega arith) (omega arith))) ∙ e))
+enters zero (b ∷ bs) p fits e = absurd (omega arith)
+enters (suc m) best p fits e =
     let last : suc m - 1 ≡ m = omega arith in
-    goes-in m p best (rw last at e)
+    enters-first m p best (rw last at e)
 
 -- ---- a step
 
@@ -94,7 +94,7 @@ module _ (k : ℕ) (distance : ℕ → ℕ) where
       go : (t : Bool) → goesOn k (state .best) p ≡ t → length (on .best) ≡ min k (length (state .reads ++ (p .number ∷ [])) + length ps)
           → length ((cond t on state) .best) ≡ min k (length (state .reads) + suc (length ps))
       go true goes rest = rest ∙ ap (min k) (omega (arith, length-append (state .reads) (p .number ∷ [])))
-      go false stop rest = omega (arith, ap length e ∙ scan-length k distance (state .reads), (stops k (state .best) p stop) .full)
+      go false stop rest = omega (arith, ap length e ∙ scan-length k distance (state .reads), (stopped k (state .best) p stop) .full)
 
   -- the numbers read are the first of the ranking
   pub reading-reads : (ps : List Pair) (state : Reading) → (m : ℕ) × ((reading k distance ps state) .reads ≡ state .reads ++ take m (numbersOf ps))

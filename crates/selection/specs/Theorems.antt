@@ -4,7 +4,7 @@
 use mathlib.Core.Path.{_≡_, refl, sym, ap, _∙_}
 use mathlib.Core.Bool.{true, false}
 use mathlib.Core.Logic.{_≢_}
-use mathlib.Core.List.{List, [], _∷_}
+use mathlib.Core.List.{List, _∷_}
 use Prim.Native.Nat.{ℕ, _+_, _≤_, min}
 use native.Mathlib.Omega.{arith}
 use lib.ListN.{length, take, drop, length-take, take-append-drop}
@@ -26,14 +26,14 @@ use Rattle.selection.specs.Least.{settles-needed, count-fixed}
 -- ---- one step at a time, from any state
 
 module _ (k : ℕ) (distance : ℕ → ℕ) (state : Reading) where
-  pub stops : (p : Pair) (ps : List Pair) → goesOn k (state .best) p ≡ false → reading k distance (p ∷ ps) state ≡ state
+  pub reading-stops : (p : Pair) (ps : List Pair) → goesOn k (state .best) p ≡ false → reading k distance (p ∷ ps) state ≡ state
   unfolding reading
-  stops p ps e = rw e
+  reading-stops p ps e = rw e
 
-  pub goes-on : (p : Pair) (ps : List Pair) → goesOn k (state .best) p ≡ true
+  pub reading-goes-on : (p : Pair) (ps : List Pair) → goesOn k (state .best) p ≡ true
       → reading k distance (p ∷ ps) state ≡ reading k distance ps (readNext k distance state (p .number))
   unfolding reading
-  goes-on p ps e = rw e
+  reading-goes-on p ps e = rw e
 
   -- where the best are those of the numbers read, as they are at the start, after each step and at the end (unread-best, next-best and
   -- reading-best in Steps.antt), they are min(k, count of reads) and sorted
