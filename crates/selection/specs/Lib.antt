@@ -1,6 +1,7 @@
 pub mod Reading
 pub mod Settles
 pub mod Theorems
+pub mod Loop
 pub mod Members
 pub mod Below
 pub mod Insertion

@@ -5,7 +5,7 @@ use mathlib.Core.List.{List, [], _∷_, _++_}
 use Prim.Native.Nat.{ℕ, _-_}
 use lib.Dec.{ltb}
 use lib.ListN.{length, take, getD}
-use Rattle.order.specs.Pair.{Pair, below, insert, ranked}
+use Rattle.order.specs.Pair.{Pair, below, insert, ranked, numbersOf}
 
 -- a number with its key
 abbrev pub pairOf : (ℕ → ℕ) → ℕ → Pair
@@ -45,5 +45,9 @@ reading k distance (p ∷ ps) state =
     cond (goesOn k (state .best) p) on state
 
 -- "The search reads patterns in order of (L, number)."
+abbrev pub readingOrder : (ℕ → ℕ) → List ℕ → List ℕ
+readingOrder low numbers = numbersOf (ranked low numbers)
+
+-- the whole reading
 unfoldable pub read : ℕ → (ℕ → ℕ) → (ℕ → ℕ) → List ℕ → Reading
 read k low distance numbers = reading k distance (ranked low numbers) unread

@@ -44,7 +44,7 @@ pub record Needed (k : ℕ) (possible : ℕ → ℕ → Type 0) (distance : ℕ 
   pub is-possible : possible i value
   pub changes : scan k (changed distance i value) numbers ≢ scan k distance numbers
 
--- how many of the numbers have one bound alone, so that nothing depends on reading them
+-- how many of the numbers have a low that is their high
 unfoldable pub fixed : (ℕ → ℕ) → (ℕ → ℕ) → List ℕ → ℕ
 fixed low high [] = 0
 fixed low high (i ∷ is) =

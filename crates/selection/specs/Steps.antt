@@ -22,14 +22,15 @@ pub record Stopped (k : ℕ) (best : List Pair) (p : Pair) : Type 0 where
   pub full : k ≤ length best
   pub late : AtMost (getD best (k - 1) leastPair) p
 
+neither : (t u : Bool) → (t || u) ≡ false → (t ≡ false) × (u ≡ false)
+neither true u e = absurd (true≢false e)
+neither false u e = (refl, e)
+
 pub stopped : (k : ℕ) (best : List Pair) (p : Pair) → goesOn k best p ≡ false → Stopped k best p
 unfolding goesOn
-stopped k best p = go (ltb (length best) k) (below p (getD best (k - 1) leastPair)) refl refl
-  where
-    go : (t u : Bool) → ltb (length best) k ≡ t → below p (getD best (k - 1) leastPair) ≡ u → (t || u) ≡ false → Stopped k best p
-    go true u a b e = absurd (true≢false e)
-    go false true a b e = absurd (true≢false e)
-    go false false a b e = record { full = ltb-false (length best) k a; late = below-false p (getD best (k - 1) leastPair) b }
+stopped k best p e =
+    let tests = neither _ _ e in
+    record { full = ltb-false (length best) k (tests .0); late = below-false p (getD best (k - 1) leastPair) (tests .1) }
 
 -- where it goes on, the pair itself would be one of the k best
 enters-first : (m : ℕ) (p : Pair) (best : List Pair) → (ltb (length best) (suc m) || below p (getD best m leastPair)) ≡ true → p ∈ take (suc m) (insert p best)

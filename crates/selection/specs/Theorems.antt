@@ -2,62 +2,41 @@
 -- (Reading.antt); what is possible, needed and settled is in Settles.antt. They hold for every k. The statements can be read without the
 -- proofs, whose arguments stand in the other files. Assumes nothing.
 use mathlib.Core.Path.{_≡_, refl, sym, ap, _∙_}
-use mathlib.Core.Bool.{true, false}
 use mathlib.Core.Logic.{_≢_}
-use mathlib.Core.List.{List, _∷_}
+use mathlib.Core.List.{List}
 use Prim.Native.Nat.{ℕ, _+_, _≤_, min}
 use native.Mathlib.Omega.{arith}
 use lib.ListN.{length, take, drop, length-take, take-append-drop}
 use lib.Seq.{take-at}
-use Rattle.order.specs.Pair.{Pair, ranked, numbersOf}
-use Rattle.selection.specs.Reading.{scan, Reading, unread, goesOn, readNext, reading, read}
+use Rattle.order.specs.Pair.{Pair, ranked}
+use Rattle.selection.specs.Reading.{scan, Reading, unread, readingOrder, read}
 use Rattle.selection.specs.Settles.{LowerBound, Bounds, Within, Agree, Settles, Needed, fixed}
 use Rattle.selection.specs.Members.{_∈_, Distinct, Entry, member-take, member-ranked, member-scan}
 use Rattle.selection.specs.Sorted.{Sorted}
 use Rattle.selection.specs.Insertion.{length-ranked}
 use Rattle.selection.specs.Ranking.{ranked-count, ranked-among, ranked-distinct, take-distinct}
-use Rattle.selection.specs.Scan.{ranked-sorted, scan-length, scan-sorted, scan-ranked}
+use Rattle.selection.specs.Scan.{ranked-sorted, scan-sorted, scan-ranked}
 use Rattle.selection.specs.Steps.{unread-best, reading-best, reading-length, reading-reads}
 use Rattle.selection.specs.Exact.{reading-exact}
 use Rattle.selection.specs.Stable.{reading-stable}
 use Rattle.selection.specs.Needed.{read-needed}
 use Rattle.selection.specs.Least.{settles-needed, count-fixed}
 
--- ---- one step at a time, from any state
-
-module _ (k : ℕ) (distance : ℕ → ℕ) (state : Reading) where
-  pub reading-stops : (p : Pair) (ps : List Pair) → goesOn k (state .best) p ≡ false → reading k distance (p ∷ ps) state ≡ state
-  unfolding reading
-  reading-stops p ps e = rw e
-
-  pub reading-goes-on : (p : Pair) (ps : List Pair) → goesOn k (state .best) p ≡ true
-      → reading k distance (p ∷ ps) state ≡ reading k distance ps (readNext k distance state (p .number))
-  unfolding reading
-  reading-goes-on p ps e = rw e
-
-  -- where the best are those of the numbers read, as they are at the start, after each step and at the end (unread-best, next-best and
-  -- reading-best in Steps.antt), they are min(k, count of reads) and sorted
-  pub best-count : state .best ≡ scan k distance (state .reads) → length (state .best) ≡ min k (length (state .reads))
-  best-count e = ap length e ∙ scan-length k distance (state .reads)
-
-  pub best-sorted : state .best ≡ scan k distance (state .reads) → Sorted (state .best)
-  best-sorted e = rw e (scan-sorted k distance (state .reads))
-
 module _ (k : ℕ) (low distance : ℕ → ℕ) (numbers : List ℕ) where
   -- ---- what is read
 
   -- the numbers read are the first of the ranking by low
-  pub reads-in-order : (read k low distance numbers) .reads ≡ take (length ((read k low distance numbers) .reads)) (numbersOf (ranked low numbers))
+  pub reads-in-order : (read k low distance numbers) .reads ≡ take (length ((read k low distance numbers) .reads)) (readingOrder low numbers)
   unfolding read unread
   reads-in-order =
       let r = reading-reads k distance (ranked low numbers) unread in
-      let ranking = numbersOf (ranked low numbers) in
+      let ranking = readingOrder low numbers in
       rw (r .1) (rw (take-append-drop (r .0) ranking) at (sym (take-at (take (r .0) ranking) (drop (r .0) ranking) (length (take (r .0) ranking)) refl)))
 
   pub reads-among : {i : ℕ} → i ∈ (read k low distance numbers) .reads → i ∈ numbers
   reads-among m =
       ranked-among low numbers
-      (member-take (length ((read k low distance numbers) .reads)) (numbersOf (ranked low numbers)) (rw reads-in-order at m))
+      (member-take (length ((read k low distance numbers) .reads)) (readingOrder low numbers) (rw reads-in-order at m))
 
   pub reads-distinct : Distinct numbers → Distinct ((read k low distance numbers) .reads)
   reads-distinct distinct = rw reads-in-order (take-distinct (length ((read k low distance numbers) .reads)) (ranked-distinct low distinct))
@@ -66,7 +45,7 @@ module _ (k : ℕ) (low distance : ℕ → ℕ) (numbers : List ℕ) where
   reads-count =
       let reads = (read k low distance numbers) .reads in
       omega
-      (arith, ap length reads-in-order ∙ length-take (length reads) (numbersOf (ranked low numbers)), ranked-count low numbers)
+      (arith, ap length reads-in-order ∙ length-take (length reads) (readingOrder low numbers), ranked-count low numbers)
 
   -- ---- the best, whether or not the lows are lower bounds
 
@@ -78,6 +57,9 @@ module _ (k : ℕ) (low distance : ℕ → ℕ) (numbers : List ℕ) where
   pub best-length : length ((read k low distance numbers) .best) ≡ min k (length numbers)
   unfolding read unread
   best-length = omega (arith, reading-length k distance (ranked low numbers) unread (unread-best k distance), length-ranked low numbers)
+
+  pub best-sorted : Sorted ((read k low distance numbers) .best)
+  best-sorted = rw best-of-reads (scan-sorted k distance ((read k low distance numbers) .reads))
 
   -- each is a number read, with its distance
   pub best-entries : {p : Pair} → p ∈ (read k low distance numbers) .best → Entry distance ((read k low distance numbers) .reads) p
