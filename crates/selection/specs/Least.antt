@@ -11,7 +11,7 @@ use lib.ListN.{length}
 use borrow.Author.Tests.{eqb-false}
 use Rattle.selection.specs.Settles.{Settles, Within, Needed, fixed, changed}
 use Rattle.selection.specs.Members.{_∈_, Distinct, none, more}
-use Rattle.selection.specs.Needed.{changed-elsewhere, changed-holds}
+use Rattle.selection.specs.Changed.{changed-elsewhere, changed-holds}
 
 -- ---- a set that settles the answer
 

@@ -11,5 +11,6 @@ pub mod Scan
 pub mod Steps
 pub mod Exact
 pub mod Stable
+pub mod Changed
 pub mod Needed
 pub mod Least

@@ -1,15 +1,14 @@
 -- What a loop that reads has to show: it goes through the reading order, and after the first `done` numbers of it have been read, to read
 -- the rest from there on is the whole reading. A law each for the start, a turn, the stop and the end. Assumes nothing.
-use mathlib.Core.Path.{_≡_, refl, sym, ap, _∙_}
+use mathlib.Core.Path.{_≡_, sym, ap, _∙_}
 use mathlib.Core.Bool.{true, false}
 use mathlib.Core.List.{List, [], _∷_}
 use Prim.Native.Nat.{ℕ, suc, _≤_, _<_, min}
 use native.Mathlib.Omega.{arith}
 use lib.ListN.{length, take, drop, getD, drop-of-length-le}
 use lib.Seq.{take-suc, drop-cons, length-take-le}
-use Rattle.order.specs.Pair.{Pair, keyed, ranked, numbersOf}
+use Rattle.order.specs.Pair.{Pair, keyed, ranked}
 use Rattle.selection.specs.Reading.{pairOf, scan, Reading, unread, goesOn, readNext, reading, readingOrder, read}
-use Rattle.selection.specs.Members.{_∈_}
 use Rattle.selection.specs.Sorted.{Sorted}
 use Rattle.selection.specs.Ranking.{ranked-count, ranked-keyed}
 use Rattle.selection.specs.Scan.{scan-length, scan-sorted, scan-snoc}

@@ -1,23 +1,24 @@
 -- A number that is read is in the answer once its distance is its low; so where it has another possible distance too, one of the two
 -- changes the answer. Assumes nothing.
-use mathlib.Core.Path.{_≡_, refl, sym, ap, _∙_, fun-ext}
-use mathlib.Core.Bool.{Bool, true, false}
+use mathlib.Core.Path.{_≡_, refl, sym, ap, _∙_}
+use mathlib.Core.Bool.{true}
 use mathlib.Core.Logic.{_≢_, ⊎-elim}
 use mathlib.Core.List.{List, [], _∷_, _++_, List·Memᴰ·head, List·Memᴰ·tail, List·Memᴰ·not-nil, List·Memᴰ·append-cases, List·Memᴰ·eq-of-singleton, Memᴰ·cast}
 use Prim.Native.Nat.{ℕ, _≤_}
 use native.Mathlib.Decide.{ℕ-discrete}
 use native.Mathlib.Omega.{arith}
-use borrow.Author.Tests.{eq-eqb, ne-eqb}
 use lib.ListN.{length}
 use lib.Seq.{append-snoc}
 use Rattle.order.specs.Pair.{Pair, ranked, numbersOf}
 use Rattle.selection.specs.Reading.{pairOf, scan, Reading, unread, goesOn, readNext, reading, read}
 use Rattle.selection.specs.Settles.{LowerBound, Bounds, Needed, changed}
+use Rattle.selection.specs.Changed.{changed-there, changed-elsewhere, changed-holds, changed-same}
 use Rattle.selection.specs.Members.{_∈_, member-ranked, member-scan}
 use Rattle.selection.specs.Below.{AtMost, level, at-most-trans}
-use Rattle.selection.specs.Sorted.{Sorted, more}
+use Rattle.selection.specs.Sorted.{Sorted, sorted-least, sorted-rest}
+use Rattle.selection.specs.Ranking.{ranked-lower}
 use Rattle.selection.specs.Scan.{ranked-sorted, scan-length, scan-snoc, scan-ranked, scan-keeps}
-use Rattle.selection.specs.Steps.{enters, next-best, unread-best}
+use Rattle.selection.specs.Steps.{enters, along, unread-best, next-best}
 
 -- the next pair is read, and pairs behind it leave it in the answer
 reads-next : (k : ℕ) (distance : ℕ → ℕ) (p : Pair) (ps : List Pair) (state : Reading) → state .best ≡ scan k distance (state .reads)
@@ -30,80 +31,76 @@ reads-next k distance p ps state e goes own late =
     now : p ∈ scan k distance (state .reads ++ (p .number ∷ []))
     now = rw (scan-snoc, ← own, ← e) (enters k (state .best) p (omega (arith, ap length e ∙ scan-length k distance (state .reads))) goes)
 
--- the distances are lowered at i alone, to its low
+-- ---- the distances are lowered at i alone, to its low
+
 module _ (k : ℕ) (low distance lowered : ℕ → ℕ) (i : ℕ) (at-i : lowered i ≡ low i) (elsewhere : (j : ℕ) → j ≢ i → distance j ≡ lowered j) where
+  -- another number is read next
+  best-elsewhere : (state : Reading) (j : ℕ) → j ≢ i → state .best ≡ scan k lowered (state .reads)
+      → (readNext k distance state j) .best ≡ scan k lowered ((readNext k distance state j) .reads)
+  unfolding readNext
+  best-elsewhere state j other e = rw (elsewhere j other) (next-best k lowered state j e)
+
+  unread-elsewhere : (state : Reading) (j : ℕ) → j ≢ i → ¬ (i ∈ state .reads) → ¬ (i ∈ (readNext k distance state j) .reads)
+  unfolding readNext
+  unread-elsewhere state j other not-yet m =
+      ⊎-elim not-yet (λ s. other (sym (List·Memᴰ·eq-of-singleton s))) (List·Memᴰ·append-cases (state .reads) m)
+
+  -- i's own pair comes next
+  own-pair : (p : Pair) → p .key ≡ low (p .number) → p .number ≡ i → (p ≡ pairOf lowered (p .number)) × (pairOf low i ≡ p)
+  own-pair p its-key same =
+      let own : p .key ≡ lowered (p .number) = cc in
+      let low-key : low i ≡ p .key = cc in
+      (λ j. record { key = own j; number = p .number }, λ j. record { key = low-key j; number = sym same j })
+
   reading-lowered : (ps : List Pair) (state : Reading) → state .best ≡ scan k lowered (state .reads) → Sorted ps
-      → ((p : Pair) → p ∈ ps → p .key ≡ low (p .number)) → ((p : Pair) → p ∈ ps → p .key ≤ lowered (p .number))
+      → ((q : Pair) → q ∈ ps → q .key ≡ low (q .number)) → ((q : Pair) → q ∈ ps → q .key ≤ lowered (q .number))
       → ¬ (i ∈ state .reads) → i ∈ (reading k distance ps state) .reads → pairOf low i ∈ scan k lowered (state .reads ++ numbersOf ps)
-  unfolding reading readNext numbersOf
-  reading-lowered [] state e sorted keys bounds not-yet is-read = absurd (not-yet is-read)
-  reading-lowered (p ∷ ps) state e (more least rest) keys bounds not-yet is-read =
-      go (goesOn k (state .best) p) refl (ℕ-discrete (p .number) i)
-      (λ other.
-      reading-lowered ps (readNext k distance state (p .number)) (best-after other) rest (λ q m. keys q (List·Memᴰ·tail m))
-      (λ q m. bounds q (List·Memᴰ·tail m)) (not-yet-after other))
-    where
-      best-after : p .number ≢ i → (readNext k distance state (p .number)) .best ≡ scan k lowered ((readNext k distance state (p .number)) .reads)
-      best-after other = rw (elsewhere (p .number) other) (next-best k lowered state (p .number) e)
+  unfolding readNext numbersOf
+  reading-lowered =
+      along k distance
+      {P = λ ps state end.
+      state .best ≡ scan k lowered (state .reads) → Sorted ps
+      → ((q : Pair) → q ∈ ps → q .key ≡ low (q .number)) → ((q : Pair) → q ∈ ps → q .key ≤ lowered (q .number))
+      → ¬ (i ∈ state .reads) → i ∈ end .reads → pairOf low i ∈ scan k lowered (state .reads ++ numbersOf ps)}
+      (record {
+        at-end = λ state e sorted keys bounds not-yet is-read. absurd (not-yet is-read);
+        at-stop = λ p ps state stop e sorted keys bounds not-yet is-read. absurd (not-yet is-read);
+        at-step = λ p ps state goes rest e sorted keys bounds not-yet is-read.
+            elim (ℕ-discrete (p .number) i) [
+              | yes same ↦
+                  let own = own-pair p (keys p (List·Memᴰ·head refl)) same in
+                  Memᴰ·cast (own .1)
+                  (reads-next k lowered p ps state e goes (own .0)
+                  (λ q m. at-most-trans (sorted-least sorted q (List·Memᴰ·tail m)) (level (bounds q (List·Memᴰ·tail m)) (omega arith))))
+              | no other ↦
+                  rw append-snoc
+                  at
+                  (rest (best-elsewhere state (p .number) other e) (sorted-rest sorted) (λ q m. keys q (List·Memᴰ·tail m))
+                  (λ q m. bounds q (List·Memᴰ·tail m)) (unread-elsewhere state (p .number) other not-yet) is-read)
+            ];
+      })
 
-      not-yet-after : p .number ≢ i → ¬ (i ∈ (state .reads ++ (p .number ∷ [])))
-      not-yet-after other m = ⊎-elim not-yet (λ s. other (sym (List·Memᴰ·eq-of-singleton s))) (List·Memᴰ·append-cases (state .reads) m)
-
-      go : (t : Bool) → goesOn k (state .best) p ≡ t → Dec (p .number ≡ i)
-          → (p .number ≢ i → i ∈ (reading k distance ps (readNext k distance state (p .number))) .reads
-          → pairOf low i ∈ scan k lowered ((state .reads ++ (p .number ∷ [])) ++ numbersOf ps))
-          → pairOf low i ∈ scan k lowered (state .reads ++ numbersOf (p ∷ ps))
-      go true goes (yes same) later =
-          let its-key = keys p (List·Memᴰ·head refl) in
-          let own : p .key ≡ lowered (p .number) = cc in
-          let low-key : low i ≡ p .key = cc in
-          Memᴰ·cast (λ j. record { key = low-key j; number = sym same j })
-          (reads-next k lowered p ps state e goes (λ j. record { key = own j; number = p .number })
-          (λ q m. at-most-trans (least q m) (level (bounds q (List·Memᴰ·tail m)) (omega arith))))
-      go true goes (no other) later = rw (← (append-snoc (state .reads) (p .number) (numbersOf ps))) (later other (rw goes at is-read))
-      go false stop same later = absurd (not-yet (rw stop at is-read))
-
--- ---- one distance changed
-
-changed-there : (distance : ℕ → ℕ) (i v : ℕ) → changed distance i v i ≡ v
-unfolding changed
-changed-there distance i v = rw (eq-eqb i i refl)
-
-pub changed-elsewhere : (distance : ℕ → ℕ) (i v j : ℕ) → j ≢ i → changed distance i v j ≡ distance j
-unfolding changed
-changed-elsewhere distance i v j other = rw (ne-eqb j i other)
-
--- what holds of v at i and of the distance elsewhere
-pub changed-holds : (distance : ℕ → ℕ) (i v j : ℕ) (P : ℕ → ℕ → Type 0) → P i v → P j (distance j) → P j (changed distance i v j)
-changed-holds distance i v j P there else = go (ℕ-discrete j i)
-  where
-    go : Dec (j ≡ i) → P j (changed distance i v j)
-    go (yes e) = rw (e, changed-there distance i v) there
-    go (no other) = rw (changed-elsewhere distance i v j other) else
-
-changed-same : (distance : ℕ → ℕ) (i : ℕ) → changed distance i (distance i) ≡ distance
-changed-same distance i = fun-ext (λ j. changed-holds distance i (distance i) j (λ n v. v ≡ distance n) refl refl)
+-- ---- i is read
 
 module _ (k : ℕ) (low distance : ℕ → ℕ) (numbers : List ℕ) (lower : LowerBound low distance numbers) {i : ℕ}
     (is-read : i ∈ (read k low distance numbers) .reads) where
+  -- it is in the answer once its distance is its low
   in-answer : pairOf low i ∈ scan k (changed distance i (low i)) numbers
   unfolding read unread
   in-answer =
-      rw (scan-ranked k (changed distance i (low i)) low numbers)
+      rw (scan-ranked k lowered low numbers)
       at
-      (reading-lowered k low distance (changed distance i (low i)) i (changed-there distance i (low i))
-      (λ j other. sym (changed-elsewhere distance i (low i) j other)) (ranked low numbers) unread (unread-best k (changed distance i (low i)))
-      (ranked-sorted low numbers) keys bounds List·Memᴰ·not-nil is-read)
+      (reading-lowered k low distance lowered i (changed-there distance i (low i)) (λ j other. sym (changed-elsewhere distance i (low i) j other))
+      (ranked low numbers) unread (unread-best k lowered) (ranked-sorted low numbers) (λ q m. (member-ranked low numbers m) .its-key)
+      (ranked-lower low lowered numbers still-lower) List·Memᴰ·not-nil is-read)
     where
-      keys : (p : Pair) → p ∈ ranked low numbers → p .key ≡ low (p .number)
-      keys p m = (member-ranked low numbers m) .its-key
+      lowered : ℕ → ℕ
+      lowered = changed distance i (low i)
 
-      bounds : (p : Pair) → p ∈ ranked low numbers → p .key ≤ changed distance i (low i) (p .number)
-      bounds p m =
-          rw (keys p m)
-          (changed-holds distance i (low i) (p .number) (λ j v. low j ≤ v) (omega arith)
-          (lower (p .number) ((member-ranked low numbers m) .its-number)))
+      still-lower : LowerBound low lowered numbers
+      still-lower j m = changed-holds distance i (low i) j (λ n v. low n ≤ v) (omega arith) (lower j m)
 
+  -- so the answer changes with its low or, where that is its distance already, with its high
   pub read-needed : (possible : ℕ → ℕ → Type 0) (high : ℕ → ℕ) → Bounds possible low high numbers → i ∈ numbers → low i ≢ high i
       → Needed k possible distance numbers i
   read-needed possible high bounds here differ = go (ℕ-discrete (distance i) (low i))

@@ -20,6 +20,7 @@ pub record Reading : Type 0 where
   pub best : List Pair
   pub reads : List ℕ
 
+-- nothing read yet
 unfoldable pub unread : Reading
 unread = record { best = []; reads = [] }
 

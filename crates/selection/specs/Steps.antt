@@ -51,68 +51,84 @@ enters (suc m) best p fits e =
     let last : suc m - 1 ≡ m = omega arith in
     enters-first m p best (rw last at e)
 
--- ---- a step
+-- ---- along a reading
 
 module _ (k : ℕ) (distance : ℕ → ℕ) where
-  -- the best are the scan's answer over the numbers read
-  pub next-best : (state : Reading) (i : ℕ) → state .best ≡ scan k distance (state .reads)
-      → (readNext k distance state i) .best ≡ scan k distance ((readNext k distance state i) .reads)
-  unfolding readNext
-  next-best state i e = rw (e, scan-snoc k distance (state .reads) i)
+  -- what holds at the end of the ranking, where the reading stops, and of a step if it holds of the rest
+  pub record Along (P : List Pair → Reading → Reading → Type 0) : Type 0 where
+    pub at-end : (state : Reading) → P [] state state
+    pub at-stop : (p : Pair) (ps : List Pair) (state : Reading) → goesOn k (state .best) p ≡ false → P (p ∷ ps) state state
+    pub at-step : (p : Pair) (ps : List Pair) (state : Reading) → goesOn k (state .best) p ≡ true
+        → P ps (readNext k distance state (p .number)) (reading k distance ps (readNext k distance state (p .number)))
+        → P (p ∷ ps) state (reading k distance ps (readNext k distance state (p .number)))
+
+  -- holds of the whole
+  pub along : {P : List Pair → Reading → Reading → Type 0} → Along P → (ps : List Pair) (state : Reading) → P ps state (reading k distance ps state)
+  unfolding reading
+  along a [] state = a .at-end state
+  along {P} a (p ∷ ps) state = go (goesOn k (state .best) p) refl (along a ps (readNext k distance state (p .number)))
+    where
+      on : Reading
+      on = reading k distance ps (readNext k distance state (p .number))
+
+      go : (t : Bool) → goesOn k (state .best) p ≡ t → P ps (readNext k distance state (p .number)) on → P (p ∷ ps) state (cond t on state)
+      go true goes rest = a .at-step p ps state goes rest
+      go false stop rest = a .at-stop p ps state stop
+
+  -- ---- the best are the scan's answer over the numbers read
 
   pub unread-best : unread .best ≡ scan k distance (unread .reads)
   unfolding unread scan ranked sort keyed
   unread-best = sym (take-nil k)
 
-  pub next-read : (state : Reading) (i : ℕ) → i ∈ (readNext k distance state i) .reads
+  pub next-best : (state : Reading) (i : ℕ) → state .best ≡ scan k distance (state .reads)
+      → (readNext k distance state i) .best ≡ scan k distance ((readNext k distance state i) .reads)
   unfolding readNext
-  next-read state i = Memᴰ·append-right (state .reads) (List·Memᴰ·head refl)
+  next-best state i e = rw (e, scan-snoc k distance (state .reads) i)
 
   pub reading-best : (ps : List Pair) (state : Reading) → state .best ≡ scan k distance (state .reads)
       → (reading k distance ps state) .best ≡ scan k distance ((reading k distance ps state) .reads)
-  unfolding reading
-  reading-best [] state e = e
-  reading-best (p ∷ ps) state e = go (goesOn k (state .best) p) (reading-best ps (readNext k distance state (p .number)) (next-best state (p .number) e))
-    where
-      on : Reading
-      on = reading k distance ps (readNext k distance state (p .number))
-
-      go : (t : Bool) → on .best ≡ scan k distance (on .reads) → (cond t on state) .best ≡ scan k distance ((cond t on state) .reads)
-      go true rest = rest
-      go false rest = e
+  reading-best =
+      along {P = λ ps state end. state .best ≡ scan k distance (state .reads) → end .best ≡ scan k distance (end .reads)}
+      (record {
+        at-end = λ state e. e;
+        at-stop = λ p ps state stop e. e;
+        at-step = λ p ps state goes rest e. rest (next-best state (p .number) e);
+      })
 
   -- it stops short of the ranking's end only with k best
   pub reading-length : (ps : List Pair) (state : Reading) → state .best ≡ scan k distance (state .reads)
       → length ((reading k distance ps state) .best) ≡ min k (length (state .reads) + length ps)
-  unfolding reading readNext
-  reading-length [] state e = ap length e ∙ scan-length k distance (state .reads) ∙ ap (min k) (omega arith)
-  reading-length (p ∷ ps) state e =
-      go (goesOn k (state .best) p) refl (reading-length ps (readNext k distance state (p .number)) (next-best state (p .number) e))
+  unfolding readNext
+  reading-length =
+      along
+      {P = λ ps state end. state .best ≡ scan k distance (state .reads) → length (end .best) ≡ min k (length (state .reads) + length ps)}
+      (record {
+        at-end = λ state e. omega (arith, count state e);
+        at-stop = λ p ps state stop e. omega (arith, count state e, (stopped k (state .best) p stop) .full);
+        at-step = λ p ps state goes rest e.
+            rest (next-best state (p .number) e) ∙ ap (min k) (omega (arith, length-append (state .reads) (p .number ∷ [])));
+      })
     where
-      on : Reading
-      on = reading k distance ps (readNext k distance state (p .number))
+      count : (state : Reading) → state .best ≡ scan k distance (state .reads) → length (state .best) ≡ min k (length (state .reads))
+      count state e = ap length e ∙ scan-length k distance (state .reads)
 
-      go : (t : Bool) → goesOn k (state .best) p ≡ t → length (on .best) ≡ min k (length (state .reads ++ (p .number ∷ [])) + length ps)
-          → length ((cond t on state) .best) ≡ min k (length (state .reads) + suc (length ps))
-      go true goes rest = rest ∙ ap (min k) (omega (arith, length-append (state .reads) (p .number ∷ [])))
-      go false stop rest = omega (arith, ap length e ∙ scan-length k distance (state .reads), (stopped k (state .best) p stop) .full)
+  -- ---- the numbers read are the first of the ranking
 
-  -- the numbers read are the first of the ranking
   pub reading-reads : (ps : List Pair) (state : Reading) → (m : ℕ) × ((reading k distance ps state) .reads ≡ state .reads ++ take m (numbersOf ps))
-  unfolding reading readNext numbersOf
-  reading-reads [] state = (0, sym (append-nil (state .reads)))
-  reading-reads (p ∷ ps) state = go (goesOn k (state .best) p) (reading-reads ps (readNext k distance state (p .number)))
-    where
-      on : Reading
-      on = reading k distance ps (readNext k distance state (p .number))
+  unfolding readNext numbersOf
+  reading-reads =
+      along {P = λ ps state end. (m : ℕ) × (end .reads ≡ state .reads ++ take m (numbersOf ps))}
+      (record {
+        at-end = λ state. (0, sym (append-nil (state .reads)));
+        at-stop = λ p ps state stop. (0, sym (append-nil (state .reads)));
+        at-step = λ p ps state goes rest.
+            (suc (rest .0), rest .1 ∙ append-snoc (state .reads) (p .number) (take (rest .0) (numbersOf ps)));
+      })
 
-      go : (t : Bool) → (m : ℕ) × (on .reads ≡ (state .reads ++ (p .number ∷ [])) ++ take m (numbersOf ps))
-          → (m : ℕ) × ((cond t on state) .reads ≡ state .reads ++ take m (p .number ∷ numbersOf ps))
-      go true (m, e) = (suc m, e ∙ append-snoc (state .reads) (p .number) (take m (numbersOf ps)))
-      go false rest = (0, sym (append-nil (state .reads)))
-
-  -- what has been read stays read
-  pub reads-kept : (ps : List Pair) (state : Reading) {i : ℕ} → i ∈ state .reads → i ∈ (reading k distance ps state) .reads
-  reads-kept ps state m =
-      let r = reading-reads ps state in
-      rw (r .1) (Memᴰ·append-left (take (r .0) (numbersOf ps)) m)
+  -- a number stays read
+  pub next-read : (ps : List Pair) (state : Reading) (i : ℕ) → i ∈ (reading k distance ps (readNext k distance state i)) .reads
+  unfolding readNext
+  next-read ps state i =
+      let r = reading-reads ps (readNext k distance state i) in
+      rw (r .1) (Memᴰ·append-left (take (r .0) (numbersOf ps)) (Memᴰ·append-right (state .reads) (List·Memᴰ·head refl)))

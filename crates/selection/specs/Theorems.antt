@@ -11,10 +11,10 @@ use lib.Seq.{take-at}
 use Rattle.order.specs.Pair.{Pair, ranked}
 use Rattle.selection.specs.Reading.{scan, Reading, unread, readingOrder, read}
 use Rattle.selection.specs.Settles.{LowerBound, Bounds, Within, Agree, Settles, Needed, fixed}
-use Rattle.selection.specs.Members.{_∈_, Distinct, Entry, member-take, member-ranked, member-scan}
+use Rattle.selection.specs.Members.{_∈_, Distinct, Entry, member-take, member-scan}
 use Rattle.selection.specs.Sorted.{Sorted}
 use Rattle.selection.specs.Insertion.{length-ranked}
-use Rattle.selection.specs.Ranking.{ranked-count, ranked-among, ranked-distinct, take-distinct}
+use Rattle.selection.specs.Ranking.{ranked-lower, ranked-count, ranked-among, ranked-distinct, take-distinct}
 use Rattle.selection.specs.Scan.{ranked-sorted, scan-sorted, scan-ranked}
 use Rattle.selection.specs.Steps.{unread-best, reading-best, reading-length, reading-reads}
 use Rattle.selection.specs.Exact.{reading-exact}
@@ -70,12 +70,8 @@ module _ (k : ℕ) (low distance : ℕ → ℕ) (numbers : List ℕ) where
   pub exact : LowerBound low distance numbers → (read k low distance numbers) .best ≡ scan k distance numbers
   unfolding read unread
   exact lower =
-      reading-exact k distance (ranked low numbers) unread (unread-best k distance) (ranked-sorted low numbers) no-key-above ∙ scan-ranked k distance low numbers
-    where
-      no-key-above : (p : Pair) → p ∈ ranked low numbers → p .key ≤ distance (p .number)
-      no-key-above p m =
-          let entry = member-ranked low numbers m in
-          rw (entry .its-key) (lower (p .number) (entry .its-number))
+      reading-exact k distance (ranked low numbers) unread (unread-best k distance) (ranked-sorted low numbers) (ranked-lower low distance numbers lower)
+      ∙ scan-ranked k distance low numbers
 
   -- ---- stable: the distances of unread numbers do not matter
 
