@@ -29,8 +29,8 @@ neither false u e = (refl, e)
 pub stopped : (k : ℕ) (best : List Pair) (p : Pair) → goesOn k best p ≡ false → Stopped k best p
 unfolding goesOn
 stopped k best p e =
-    let tests = neither _ _ e in
-    record { full = ltb-false (length best) k (tests .0); late = below-false p (getD best (k - 1) leastPair) (tests .1) }
+    let tests = neither (ltb (length best) _) _ e in
+    record { full = omega (arith, ltb-false); late = below-false p (getD best (k - 1) leastPair) (tests .1) }
 
 -- where it goes on, the pair itself would be one of the k best
 enters-first : (m : ℕ) (p : Pair) (best : List Pair) → (ltb (length best) (suc m) || below p (getD best m leastPair)) ≡ true → p ∈ take (suc m) (insert p best)
