@@ -1,13 +1,12 @@
 -- A number that is read is in the answer once its distance is its low; so where it has another possible distance too, one of the two
 -- changes the answer. Assumes nothing.
-use mathlib.Core.Path.{_≡_, refl, sym, ap, _∙_}
+use mathlib.Core.Path.{_≡_, refl, sym, _∙_}
 use mathlib.Core.Bool.{true}
 use mathlib.Core.Logic.{_≢_, ⊎-elim}
 use mathlib.Core.List.{List, [], _∷_, _++_, List·Memᴰ·head, List·Memᴰ·tail, List·Memᴰ·not-nil, List·Memᴰ·append-cases, List·Memᴰ·eq-of-singleton, Memᴰ·cast}
 use Prim.Native.Nat.{ℕ, _≤_}
 use native.Mathlib.Decide.{ℕ-discrete}
 use native.Mathlib.Omega.{arith}
-use lib.ListN.{length}
 use lib.Seq.{append-snoc}
 use Rattle.order.specs.Pair.{Pair, ranked, numbersOf}
 use Rattle.selection.specs.Reading.{pairOf, scan, Reading, unread, goesOn, readNext, reading, read}
@@ -17,8 +16,8 @@ use Rattle.selection.specs.Members.{_∈_, member-ranked, member-scan}
 use Rattle.selection.specs.Below.{AtMost, level, at-most-trans}
 use Rattle.selection.specs.Sorted.{Sorted, sorted-least, sorted-rest}
 use Rattle.selection.specs.Ranking.{ranked-lower}
-use Rattle.selection.specs.Scan.{ranked-sorted, scan-length, scan-snoc, scan-ranked, scan-keeps}
-use Rattle.selection.specs.Steps.{enters, along, unread-best, next-best}
+use Rattle.selection.specs.Scan.{ranked-sorted, scan-snoc, scan-ranked, scan-keeps}
+use Rattle.selection.specs.Steps.{enters, along, unread-best, next-best, best-count}
 
 -- the next pair is read, and pairs behind it leave it in the answer
 reads-next : (k : ℕ) (distance : ℕ → ℕ) (p : Pair) (ps : List Pair) (state : Reading) → state .best ≡ scan k distance (state .reads)
@@ -29,7 +28,7 @@ reads-next k distance p ps state e goes own late =
     rw (← (append-snoc (state .reads) (p .number) (numbersOf ps))) (scan-keeps k distance (state .reads ++ (p .number ∷ [])) ps late now)
   where
     now : p ∈ scan k distance (state .reads ++ (p .number ∷ []))
-    now = rw (scan-snoc, ← own, ← e) (enters k (state .best) p (omega (arith, ap length e ∙ scan-length k distance (state .reads))) goes)
+    now = rw (scan-snoc, ← own, ← e) (enters k (state .best) p (omega (arith, best-count k distance state e)) goes)
 
 -- ---- the distances are lowered at i alone, to its low
 

@@ -86,6 +86,9 @@ module _ (k : ℕ) (distance : ℕ → ℕ) where
   unfolding readNext
   next-best state i e = rw (e, scan-snoc k distance (state .reads) i)
 
+  pub best-count : (state : Reading) → state .best ≡ scan k distance (state .reads) → length (state .best) ≡ min k (length (state .reads))
+  best-count state e = ap length e ∙ scan-length k distance (state .reads)
+
   pub reading-best : (ps : List Pair) (state : Reading) → state .best ≡ scan k distance (state .reads)
       → (reading k distance ps state) .best ≡ scan k distance ((reading k distance ps state) .reads)
   reading-best =
@@ -104,14 +107,11 @@ module _ (k : ℕ) (distance : ℕ → ℕ) where
       along
       {P = λ ps state end. state .best ≡ scan k distance (state .reads) → length (end .best) ≡ min k (length (state .reads) + length ps)}
       (record {
-        at-end = λ state e. omega (arith, count state e);
-        at-stop = λ p ps state stop e. omega (arith, count state e, (stopped k (state .best) p stop) .full);
+        at-end = λ state e. omega (arith, best-count state e);
+        at-stop = λ p ps state stop e. omega (arith, best-count state e, (stopped k (state .best) p stop) .full);
         at-step = λ p ps state goes rest e.
             rest (next-best state (p .number) e) ∙ ap (min k) (omega (arith, length-append (state .reads) (p .number ∷ [])));
       })
-    where
-      count : (state : Reading) → state .best ≡ scan k distance (state .reads) → length (state .best) ≡ min k (length (state .reads))
-      count state e = ap length e ∙ scan-length k distance (state .reads)
 
   -- ---- the numbers read are the first of the ranking
 

@@ -33,11 +33,13 @@ module _ (k : ℕ) (low distance : ℕ → ℕ) (numbers : List ℕ) where
       let ranking = readingOrder low numbers in
       rw (r .1) (rw (take-append-drop (r .0) ranking) at (sym (take-at (take (r .0) ranking) (drop (r .0) ranking) (length (take (r .0) ranking)) refl)))
 
+  -- each is one of the numbers
   pub reads-among : {i : ℕ} → i ∈ (read k low distance numbers) .reads → i ∈ numbers
   reads-among m =
       ranked-among low numbers
       (member-take (length ((read k low distance numbers) .reads)) (readingOrder low numbers) (rw reads-in-order at m))
 
+  -- none is read twice
   pub reads-distinct : Distinct numbers → Distinct ((read k low distance numbers) .reads)
   reads-distinct distinct = rw reads-in-order (take-distinct (length ((read k low distance numbers) .reads)) (ranked-distinct low distinct))
 
@@ -54,6 +56,7 @@ module _ (k : ℕ) (low distance : ℕ → ℕ) (numbers : List ℕ) where
   unfolding read
   best-of-reads = reading-best k distance (ranked low numbers) unread (unread-best k distance)
 
+  -- they are k, or all where there are fewer
   pub best-length : length ((read k low distance numbers) .best) ≡ min k (length numbers)
   unfolding read unread
   best-length = omega (arith, reading-length k distance (ranked low numbers) unread (unread-best k distance), length-ranked low numbers)
@@ -65,7 +68,7 @@ module _ (k : ℕ) (low distance : ℕ → ℕ) (numbers : List ℕ) where
   pub best-entries : {p : Pair} → p ∈ (read k low distance numbers) .best → Entry distance ((read k low distance numbers) .reads) p
   best-entries m = member-scan k distance ((read k low distance numbers) .reads) (rw best-of-reads at m)
 
-  -- ---- exact: the best are the scan's answer
+  -- ---- exact: where no low is above its number's distance, the best are the scan's answer
 
   pub exact : LowerBound low distance numbers → (read k low distance numbers) .best ≡ scan k distance numbers
   unfolding read unread
@@ -75,11 +78,13 @@ module _ (k : ℕ) (low distance : ℕ → ℕ) (numbers : List ℕ) where
 
   -- ---- stable: the distances of unread numbers do not matter
 
+  -- the reading is the same, best and reads
   pub stable : (other : ℕ → ℕ) → Agree ((read k low distance numbers) .reads) other distance → read k low other numbers ≡ read k low distance numbers
   unfolding read
   stable other agree = reading-stable k distance other (ranked low numbers) unread agree
 
 module _ (k : ℕ) (low distance : ℕ → ℕ) (numbers : List ℕ) where
+  -- and so is the scan's answer, where the lows are lower bounds of both
   pub stable-answer : (other : ℕ → ℕ) → LowerBound low distance numbers → LowerBound low other numbers
       → Agree ((read k low distance numbers) .reads) other distance → scan k other numbers ≡ scan k distance numbers
   stable-answer other lower lower-other agree =
@@ -94,18 +99,16 @@ module _ (k : ℕ) (low distance : ℕ → ℕ) (numbers : List ℕ) where
   needed possible high bounds lower is-read differ =
       read-needed k low distance numbers lower is-read possible high bounds (reads-among k low distance numbers is-read) differ
 
--- ---- least: the numbers read settle the answer, and nothing much smaller does
+-- ---- least: the numbers read settle the answer, and every set that settles it holds those of them with two bounds
 
 module _ (k : ℕ) (possible : ℕ → ℕ → Type 0) (low high distance : ℕ → ℕ) (numbers : List ℕ) (bounds : Bounds possible low high numbers)
     (own : Within possible distance numbers) where
   lower-than : (other : ℕ → ℕ) → Within possible other numbers → LowerBound low other numbers
   lower-than other within i m = bounds .least i (other i) m (within i m)
 
-  -- the numbers read settle the answer
   pub reads-settle : Settles k possible distance numbers ((read k low distance numbers) .reads)
   reads-settle other within agree = stable-answer k low distance numbers other (lower-than distance own) (lower-than other within) agree
 
-  -- a set that settles it holds every read number with two bounds
   pub settling-holds : (set : List ℕ) → Settles k possible distance numbers set
       → (i : ℕ) → i ∈ (read k low distance numbers) .reads → low i ≢ high i → i ∈ set
   settling-holds set settles i is-read differ =
