@@ -4,6 +4,7 @@ use mathlib.Core.Bool.{Bool, true, _&&_}
 use mathlib.Core.List.{List}
 use Prim.Native.Nat.{ℕ, zero, suc, _*_, _<_}
 use lib.IntN.{ℤ, pos}
+use lib.Signed.{ltZ}
 use lib.ListN.{length, take, drop, getD}
 use Rattle.partition.specs.Marks.{dimensionMarks}
 use Rattle.partition.specs.Region.{inRegion}
@@ -24,6 +25,23 @@ inFirst d b marks codes i vector (suc t) =
 pub record InCell (d b : ℕ) (marks : List ℤ) (codes : List ℕ) (i : ℕ) (vector : List ℤ) : Type 0 where
   pub components : length vector ≡ d
   pub inside : inFirst d b marks codes i vector d ≡ true
+
+-- whether none of the regions that code i names in the first t dimensions is empty
+unfoldable pub noEmptyFirst : ℕ → ℕ → List ℤ → List ℕ → ℕ → ℕ → Bool
+noEmptyFirst d b marks codes i zero = true
+noEmptyFirst d b marks codes i (suc t) =
+    let region = codeRegion d b codes i t in
+    let part = dimensionMarks d b marks (suc t) in
+    noEmptyFirst d b marks codes i t && ltZ (getD part region (pos 0)) (getD part (suc region) (pos 0))
+
+-- the first i codes name no empty region
+unfoldable pub noEmptyCodes : ℕ → ℕ → List ℤ → List ℕ → ℕ → Bool
+noEmptyCodes d b marks codes zero = true
+noEmptyCodes d b marks codes (suc i) = noEmptyCodes d b marks codes i && noEmptyFirst d b marks codes i d
+
+-- no code names an empty region, and no spare bit is set
+abbrev pub goodCodes : ℕ → ℕ → ℕ → List ℤ → List ℕ → Bool
+goodCodes d b n marks codes = noEmptyCodes d b marks codes n && spareZero b n codes
 
 -- "Codes are the patterns' own if each pattern lies in its code's cell and the spare bits are zero."
 pub record Own (d b n : ℕ) (marks : List ℤ) (codes : List ℕ) (vectors : List ℤ) : Type 0 where
