@@ -26,18 +26,20 @@ pub record InCell (d b : ℕ) (marks : List ℤ) (codes : List ℕ) (i : ℕ) (v
   pub components : length vector ≡ d
   pub inside : inFirst d b marks codes i vector d ≡ true
 
--- whether none of the regions that code i names in the first t dimensions is empty
-unfoldable pub noEmptyFirst : ℕ → ℕ → List ℤ → List ℕ → ℕ → ℕ → Bool
-noEmptyFirst d b marks codes i zero = true
-noEmptyFirst d b marks codes i (suc t) =
-    let region = codeRegion d b codes i t in
-    let part = dimensionMarks d b marks (suc t) in
-    noEmptyFirst d b marks codes i t && ltZ (getD part region (pos 0)) (getD part (suc region) (pos 0))
+-- whether region r of one dimension's marks has a value: "equal neighbours make an empty region"
+unfoldable pub hasValue : List ℤ → ℕ → Bool
+hasValue marks r = ltZ (getD marks r (pos 0)) (getD marks (suc r) (pos 0))
+
+-- whether each region that code i names for one of the first t dimensions has a value
+unfoldable pub noneEmpty : ℕ → ℕ → List ℤ → List ℕ → ℕ → ℕ → Bool
+noneEmpty d b marks codes i zero = true
+noneEmpty d b marks codes i (suc t) =
+    noneEmpty d b marks codes i t && hasValue (dimensionMarks d b marks (suc t)) (codeRegion d b codes i t)
 
 -- the first i codes name no empty region
 unfoldable pub noEmptyCodes : ℕ → ℕ → List ℤ → List ℕ → ℕ → Bool
 noEmptyCodes d b marks codes zero = true
-noEmptyCodes d b marks codes (suc i) = noEmptyCodes d b marks codes i && noEmptyFirst d b marks codes i d
+noEmptyCodes d b marks codes (suc i) = noEmptyCodes d b marks codes i && noneEmpty d b marks codes i d
 
 -- no code names an empty region, and no spare bit is set
 abbrev pub goodCodes : ℕ → ℕ → ℕ → List ℤ → List ℕ → Bool

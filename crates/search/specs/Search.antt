@@ -8,7 +8,8 @@ use lib.IntN.{ℤ}
 use lib.ListN.{length}
 use Rattle.refusal.specs.declared.Refusal.the-variants.{Dimension, Bits, Count, Neighbours, Length, Component, Mark, Code, Cell}
 use Rattle.refusal.specs.First.{Row, _⇒_}
-use Rattle.limits.specs.Limits.{isDimensionCount, isBits, isVectorCount, isComponent}
+use Rattle.limits.specs.Limits.{isDimensionCount, isBits, isVectorCount}
+use Rattle.whole.specs.Components.{areComponents}
 use Rattle.order.specs.Pair.{Pair, countFrom}
 use Rattle.selection.specs.Reading.{scan, Reading, read}
 use Rattle.layout.specs.Layout.{firstMarks}
@@ -55,10 +56,6 @@ searched l query k = read k (lowIn l query) (distanceIn l query) (numbersIn l)
 
 -- ---- causes
 
-unfoldable pub allComponents : List ℤ → Bool
-allComponents [] = true
-allComponents (z ∷ zs) = isComponent z && allComponents zs
-
 -- whether each of these vectors lies in its code's cell
 unfoldable pub inOwnCells : Library → List ℕ → Bool
 inOwnCells l [] = true
@@ -87,7 +84,7 @@ searchCauses l query k room =
     ∷ (not (isVectorCount (l .n)) ⇒ Count)
     ∷ (not (leb 1 k && leb k (l .n)) ⇒ Neighbours)
     ∷ (not (exactLengths l query k room) ⇒ Length)
-    ∷ (not (allComponents query) ⇒ Component)
+    ∷ (not (areComponents query) ⇒ Component)
     ∷ (not (goodMarks (l .d) (l .b) (l .marks)) ⇒ Mark)
     ∷ (not (goodCodes (l .d) (l .b) (l .n) (l .marks) (l .codes)) ⇒ Code)
     ∷ (not (inOwnCells l ((searched l query k) .reads)) ⇒ Cell)
