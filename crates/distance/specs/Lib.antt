@@ -1,2 +1,4 @@
 pub mod Distance
 pub mod Bounds
+pub mod Places
+pub mod Steps
