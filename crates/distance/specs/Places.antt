@@ -56,6 +56,19 @@ gap-turned a b =
     let hb : mag b < m = omega arith in
     omega (arith, gap-place m a b ha hb, gap-place m b a hb ha)
 
+-- a gap is at most the two numbers' sizes together
+place-size : (m : ℕ) (z : ℤ) → mag z < m → (place m z ≤ m + mag z) × (m ≤ place m z + mag z + 1)
+unfolding place
+place-size m (pos n) h = (omega arith, omega arith)
+place-size m (negsuc n) h = (omega arith, omega arith)
+
+pub gap-size : (a b : ℤ) → gap a b ≤ mag a + mag b + 1
+gap-size a b =
+    let m : ℕ = suc (mag a + mag b) in
+    let ha : mag a < m = omega arith in
+    let hb : mag b < m = omega arith in
+    omega (arith, gap-place m a b ha hb, place-size m a ha, place-size m b hb)
+
 -- the key of a number of 32 bits is its place from 2^31 on
 key-place : (z : ℤ) → keyOf z ≡ place (2 ^ 31) z
 unfolding keyOf place

@@ -2,37 +2,17 @@
 -- empty both are reached, wherever the query lies. Assumes nothing.
 use mathlib.Core.Path.{_≡_, refl, sym, ap, _∙_}
 use mathlib.Core.Bool.{Bool, true, false, not, cond}
-use Prim.Native.Nat.{ℕ, zero, suc, _≤_, zero-le, max}
+use Prim.Native.Nat.{ℕ, _≤_, zero-le, max}
 use native.Mathlib.Omega.{arith}
-use borrow.Author.Tests.{ltb-true, ltb-false, le-leb}
-use lib.Dec.{ltb, leb·zero, leb·suc-zero, leb·suc-suc}
-use lib.IntN.{ℤ, pos, negsuc, predℤ}
+use borrow.Author.Tests.{ltb-true, ltb-false}
+use lib.Dec.{ltb}
+use lib.IntN.{ℤ, predℤ}
 use lib.Signed.{leZ, ltZ}
 use Rattle.limits.specs.Tests.{leZ-not}
 use Rattle.distance.specs.Distance.{gap}
 use Rattle.distance.specs.Bounds.{shortest, longest}
+use Rattle.distance.specs.Order.{le-self, lt-le, lt-pred}
 use Rattle.distance.specs.Places.{gap-between, gap-turned}
-
--- ---- tests of order
-
-le-self : (a : ℤ) → leZ a a ≡ true
-le-self (pos a) = le-leb a a (omega arith)
-le-self (negsuc a) = le-leb a a (omega arith)
-
-lt-le : (a b : ℤ) → ltZ a b ≡ true → leZ a b ≡ true
-lt-le (pos a) (pos b) h = le-leb a b (omega (arith, ltb-true a b h))
-lt-le (pos a) (negsuc b) h = h
-lt-le (negsuc a) (pos b) h = refl
-lt-le (negsuc a) (negsuc b) h = le-leb b a (omega (arith, ltb-true b a h))
-
--- below a number is at most the one before it
-lt-pred : (a b : ℤ) → ltZ a b ≡ leZ a (predℤ b)
-lt-pred (pos a) (pos zero) = leb·suc-zero a
-lt-pred (pos a) (pos (suc b)) = leb·suc-suc a b
-lt-pred (pos a) (negsuc b) = refl
-lt-pred (negsuc a) (pos zero) = sym (leb·zero a)
-lt-pred (negsuc a) (pos (suc b)) = refl
-lt-pred (negsuc a) (negsuc b) = refl
 
 -- ---- the bounds of a step
 
@@ -64,6 +44,15 @@ module _ {low v high : ℤ} (inside : Inside low v high) (q : ℤ) where
       go : (below : Bool) → ltZ v q ≡ below → gap q v ≤ max (gap q low) (gap q (predℤ high))
       go true e = omega (arith, gap-between low v q (inside .above) (lt-le v q e), gap-turned q low, gap-turned q v)
       go false e = omega (arith, gap-between q v (predℤ high) (leZ-not v q ∙ ap not e) to-last)
+
+pub shortest-le-longest : (q low high : ℤ) → shortest q low high ≤ longest q low high
+unfolding shortest longest
+shortest-le-longest q low high = go (ltZ q low) (ltZ (predℤ high) q)
+  where
+    go : (below above : Bool) → cond below (gap low q) (cond above (gap q (predℤ high)) 0) ≤ max (gap q low) (gap q (predℤ high))
+    go true above = omega (arith, gap-turned low q)
+    go false true = omega arith
+    go false false = zero-le
 
 -- ---- both are reached
 
