@@ -1,0 +1,26 @@
+-- Lists of components (cause 6 tests them). Assumes nothing.
+use mathlib.Core.Path.{_≡_, refl}
+use mathlib.Core.Bool.{Bool, true, _&&_, and-eq-true-iff}
+use mathlib.Core.List.{List, [], _∷_}
+use Prim.Native.Nat.{ℕ, zero, suc, _<_}
+use native.Mathlib.Omega.{arith}
+use lib.IntN.{ℤ, pos}
+use lib.ListN.{length, getD}
+use Rattle.limits.specs.Limits.{isComponent}
+
+-- whether all are in range
+unfoldable pub areComponents : List ℤ → Bool
+areComponents [] = true
+areComponents (z ∷ zs) = isComponent z && areComponents zs
+
+-- each is then, and 0 past the end; and where each is, all are
+pub component-at : (zs : List ℤ) (t : ℕ) → areComponents zs ≡ true → isComponent (getD zs t (pos 0)) ≡ true
+unfolding areComponents
+component-at [] t h = refl
+component-at (z ∷ zs) zero h = and-eq-true-iff (isComponent z) (areComponents zs) .0 h .0
+component-at (z ∷ zs) (suc t) h = component-at zs t (and-eq-true-iff (isComponent z) (areComponents zs) .0 h .1)
+
+pub all-components : (zs : List ℤ) → ((t : ℕ) → t < length zs → isComponent (getD zs t (pos 0)) ≡ true) → areComponents zs ≡ true
+unfolding areComponents
+all-components [] each = refl
+all-components (z ∷ zs) each = and-eq-true-iff (isComponent z) (areComponents zs) .1 (each 0 (omega arith), all-components zs (λ t h. each (suc t) (omega arith)))
