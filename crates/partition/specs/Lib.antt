@@ -3,4 +3,6 @@ pub mod Region
 pub mod Within
 pub mod Regions
 pub mod Located
+pub mod RegionCount
+pub mod Lookup
 pub mod Made
