@@ -1,3 +1,8 @@
 pub mod Marks
 pub mod Region
+pub mod Within
+pub mod Regions
+pub mod Located
+pub mod RegionCount
+pub mod Lookup
 pub mod Made
