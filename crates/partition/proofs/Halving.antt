@@ -38,10 +38,10 @@ located-part {marks} {part} {o} {last} {r} {v} is located = record { bound = ome
     whole : inMarks marks v ≡ true → Holds marks (o + r) v
     whole inside =
         let ends = is .ends inside in
+        let first = is .same 0 (omega arith) in
+        let final = last-mark part last (is .count) ∙ is .same last (omega arith) in
         let found =
-        located .holds
-        (within-marks part v
-        (record { lower = rw (is .same 0 (omega arith), add-zero) (ends .lower); upper = rw (last-mark part last (is .count), is .same last (omega arith)) (ends .upper) })) in
+        located .holds (within-marks part v (record { lower = rw (first, add-zero) (ends .lower); upper = rw final (ends .upper) })) in
         let exists : suc r ≤ last = omega (arith, is .count, found .exists) in
         within-holds (omega (arith, is .fits)) (rw (is .same r (omega arith), is .same (suc r) exists, add-suc) at (holds-within found))
 
@@ -69,5 +69,9 @@ module _ (marks : List ℤ) (v : ℤ) (h r : ℕ) (exists : h < length marks) wh
             count = omega (arith, length-drop h marks);
             fits = omega arith;
             same = λ i le. getD-drop h marks i (pos 0);
-            ends = λ inside. record { lower = leZ-not v (getD marks h (pos 0)) ∙ ap not above; upper = rw (← last-mark marks (h + (length marks - h - 1)) (omega arith)) (marks-within marks v inside .upper) };
+            ends =
+                λ inside. record {
+                  lower = leZ-not v (getD marks h (pos 0)) ∙ ap not above;
+                  upper = rw (← last-mark marks (h + (length marks - h - 1)) (omega arith)) (marks-within marks v inside .upper);
+                };
           }

@@ -15,5 +15,6 @@ pub record Located (marks : List ℤ) (v : ℤ) (r : ℕ) : Type 0 where
   pub holds : inMarks marks v ≡ true → Holds marks r v
 
 -- in marks that never fall, it is the region
-pub located-is : {marks : List ℤ} {v : ℤ} {r : ℕ} → goodDimension marks ≡ true → inMarks marks v ≡ true → Located marks v r → r ≡ regionOf marks v
+pub located-is : {marks : List ℤ} {v : ℤ} {r : ℕ} → goodDimension marks ≡ true → inMarks marks v ≡ true → Located marks v r
+    → r ≡ regionOf marks v
 located-is good inside located = region-of-is good (located .holds inside)

@@ -1,7 +1,9 @@
 -- Numbers of regions: "With w bits it has 2^w regions", and w is 0 to 6 (document 01, "Marks, regions, codes"). Assumes nothing.
-use mathlib.Core.Path.{_≡_, refl, sym}
-use mathlib.Core.Bool.{Bool, true, false, _||_, true≢false}
+use mathlib.Core.Path.{_≡_, refl, ap, _∙_}
+use mathlib.Core.Logic.{inl, inr}
+use mathlib.Core.Bool.{Bool, true, false, _||_, or-true}
 use Prim.Native.Nat.{ℕ, zero, suc, _^_, _≤_}
+use native.Mathlib.Nat.{eq-or-lt-of-le, le-of-suc-le-suc}
 use native.Mathlib.Omega.{arith}
 use borrow.Author.Tests.{eqb-true, eq-eqb}
 use lib.Dec.{eqb}
@@ -32,3 +34,14 @@ power-of (suc bits) n holds = go (eqb n (2 ^ suc bits)) refl holds (power-of bit
     go false e holds less =
         let power = less holds in
         record { w = power .w; within = omega (arith, power .within); is = power .is }
+
+pub is-power : (bits w : ℕ) → w ≤ bits → isPower bits (2 ^ w) ≡ true
+unfolding isPower
+is-power zero w le =
+    let none : w ≡ 0 = omega arith in
+    rw none
+is-power (suc bits) w le =
+    elim (eq-or-lt-of-le le) [
+      | inl e ↦ rw (eq-eqb (2 ^ w) (2 ^ suc bits) (ap (λ (k : ℕ). 2 ^ k) e))
+      | inr l ↦ ap (λ (t : Bool). eqb (2 ^ w) (2 ^ suc bits) || t) (is-power bits w (le-of-suc-le-suc l)) ∙ or-true (eqb (2 ^ w) (2 ^ suc bits))
+    ]

@@ -51,6 +51,7 @@ module _ {t : ℕ} where
   abbrev half : Start t → ℕ
   half c = length (c .args .marks .now) / 2
 
+  -- the test of the mark in the middle, on the numbers themselves
   below-half : (c : Read t) {held : Bool} → let start = c .before .before in let mark = getD (start .args .marks .now) (half start) (pos 0) in
       ltZ (toZ w32 (ofZ w32 (start .args .v))) (toZ w32 (ofZ w32 mark)) ≡ held → ltZ (start .args .v) mark ≡ held
   below-half c test =

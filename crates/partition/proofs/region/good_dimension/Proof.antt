@@ -2,7 +2,7 @@
 use mathlib.Core.Path.{_≡_, refl, sym, ap, _∙_}
 use mathlib.Core.Bool.{Bool, true, false, _&&_, and-assoc}
 use mathlib.Core.List.{List}
-use Prim.Native.Nat.{ℕ, suc, _+_, _-_, _≤_, _<_}
+use Prim.Native.Nat.{ℕ, suc, _-_, _≤_, _<_}
 use native.Mathlib.Numerals.{add-one}
 use native.Mathlib.Omega.{arith}
 use borrow.Author.Tests.{not-true, not-false}
@@ -28,7 +28,9 @@ unfolding goodDimension
 good-from marks i t exists test =
     let m = getD marks i (pos 0) in
     let ms = drop (suc i) marks in
-    ap goodDimension (drop-cons marks i (pos 0) exists) ∙ sym (and-assoc (isMark m) (notAbove m ms) (goodDimension ms)) ∙ ap (λ (s : Bool). s && goodDimension ms) (sym test)
+    ap goodDimension (drop-cons marks i (pos 0) exists)
+    ∙ sym (and-assoc (isMark m) (notAbove m ms) (goodDimension ms))
+    ∙ ap (λ (s : Bool). s && goodDimension ms) (sym test)
 
 good-none : (marks : List ℤ) (i : ℕ) → length marks ≤ i → goodDimension (drop i marks) ≡ true
 unfolding goodDimension

@@ -1,6 +1,6 @@
 -- `good_mark` meets its contract: the last mark is above none, and any other is compared with the next. Assumes nothing.
 use mathlib.Core.Path.{_≡_, sym, ap, _∙_}
-use mathlib.Core.Bool.{Bool, true, false, _&&_}
+use mathlib.Core.Bool.{true}
 use mathlib.Core.List.{List}
 use Prim.Native.Nat.{ℕ, suc, _+_, _<_}
 use native.Mathlib.Numerals.{add-one}
@@ -43,7 +43,8 @@ returns-2 : tie.Need-returns-2
 returns-2 c =
     let test = c .before .before in
     let start = test .before .before in
-    rw (sym (range-test test) ∙ not-false (test .is-mark .result) (c .before .if1 .left), last-above-none (mark start) (start .args .marks .now) (start .args .i) (c .if2 .taken))
+    let in-range = sym (range-test test) ∙ not-false (test .is-mark .result) (c .before .if1 .left) in
+    rw (in-range, last-above-none (mark start) (start .args .marks .now) (start .args .i) (c .if2 .taken))
 
 returns-3 : tie.Need-returns-3
 returns-3 c =
@@ -52,8 +53,9 @@ returns-3 c =
     let start = test .before .before in
     let marks = start .args .marks .now in
     let i = start .args .i in
+    let in-range = sym (range-test test) ∙ not-false (test .is-mark .result) (other .before .if1 .left) in
     read-back leZ (mark start) (getD marks (i + 1) (pos 0)) (c .before .result .given) (c .result2 .given)
-    ∙ rw (sym (range-test test) ∙ not-false (test .is-mark .result) (other .before .if1 .left), not-above-next (mark start) marks i (omega arith))
+    ∙ rw (in-range, not-above-next (mark start) marks i (omega arith))
 
 pub good-mark-spec : {M : Type 1} → statement M
 good-mark-spec =

@@ -1,5 +1,5 @@
 -- `is_mark` meets its contract: a signed number is read back from its bits. Assumes nothing.
-use mathlib.Core.Path.{_≡_, sym, _∙_}
+use mathlib.Core.Path.{sym, _∙_}
 use lib.Dec.{lit<}
 use lib.Signed.{leZ}
 use Rattle.limits.specs.Limits.{leastMark, greatestMark}
