@@ -4,3 +4,6 @@ pub mod Within
 pub mod Regions
 pub mod Located
 pub mod Made
+pub mod InOrder
+pub mod MadeDimension
+pub mod MadeLaws
