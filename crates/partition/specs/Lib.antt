@@ -7,3 +7,6 @@ pub mod Located
 pub mod RegionCount
 pub mod Lookup
 pub mod Made
+pub mod InOrder
+pub mod MadeDimension
+pub mod MadeLaws
