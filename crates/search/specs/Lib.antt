@@ -1,5 +1,6 @@
 pub mod Search
 pub mod Accepted
+pub mod Scanning
 pub mod Settled
 pub mod Rows
 pub mod Instance
