@@ -1,20 +1,15 @@
--- The scan call: its causes, its answer in two lists, and laws of the lists that the code computes. Assumes nothing.
-use mathlib.Core.Path.{_≡_, refl, sym, ap, _∙_}
-use mathlib.Core.Bool.{Bool, not, _&&_}
-use mathlib.Core.List.{List, [], _∷_, map}
-use Prim.Native.Nat.{ℕ, zero, suc, _+_, _*_, _<_}
-use native.Mathlib.Omega.{arith}
+-- The scan call: its answer and its causes. Assumes nothing.
+use mathlib.Core.Bool.{not, _&&_}
+use mathlib.Core.List.{List, [], _∷_}
+use Prim.Native.Nat.{ℕ, _*_}
 use lib.Dec.{leb, eqb}
 use lib.IntN.{ℤ}
-use lib.ListN.{length, getD}
+use lib.ListN.{length}
 use Rattle.refusal.specs.declared.Refusal.the-variants.{Dimension, Count, Neighbours, Length, Component}
 use Rattle.refusal.specs.First.{Row, _⇒_}
 use Rattle.limits.specs.Limits.{isDimensionCount, isVectorCount}
 use Rattle.whole.specs.Components.{areComponents}
-use Rattle.order.specs.Pair.{Pair, countFrom, keyed, ranked, numbersOf}
-use Rattle.order.specs.Members.{_∈_}
-use Rattle.order.specs.Counted.{counted}
-use Rattle.order.specs.Rank.{keyAt, ranking}
+use Rattle.order.specs.Pair.{Pair, countFrom}
 use Rattle.selection.specs.Reading.{scan}
 use Rattle.approximation.specs.Cells.{vectorAt}
 use Rattle.distance.specs.Distance.{distanceOf}
