@@ -4,6 +4,7 @@ pub mod Within
 pub mod Regions
 pub mod Located
 pub mod Made
+pub mod Making
 pub mod InOrder
 pub mod MadeDimension
 pub mod MadeLaws

@@ -1,1 +1,2 @@
 // The partition of each dimension into regions by marks.
+pub mod made;
