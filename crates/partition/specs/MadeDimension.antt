@@ -68,7 +68,7 @@ good-by-marks (m ∷ next ∷ ms) each rise =
 
 -- ---- places
 
-place-below : (i n w : ℕ) → i < 2 ^ w → 0 < n → i * n / 2 ^ w < n
+pub place-below : (i n w : ℕ) → i < 2 ^ w → 0 < n → i * n / 2 ^ w < n
 place-below i n w below some = div-lt-iff-lt-mul (pow-pos w) .1 (rw (mul-comm n (2 ^ w)) (mul-lt-mul-of-pos-right below some))
 
 place-rises : (i j n w : ℕ) → i ≤ j → i * n / 2 ^ w ≤ j * n / 2 ^ w
