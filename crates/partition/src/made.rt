@@ -5,7 +5,7 @@ use refusal::Verdict;
 ghost use mathlib.Core.Path.{_≡_};
 ghost use mathlib.Core.Bool.{true};
 ghost use mathlib.Core.List.{map};
-ghost use Prim.Native.Nat.{_+_, _*_, _^_, _≤_, _<_};
+ghost use Prim.Native.Nat.{_+_, _^_, _≤_, _<_};
 ghost use lib.IntN.{pos, sucℤ};
 ghost use lib.ListN.{length, take, getD};
 ghost use Rattle.refusal.specs.First.{first, outcome};
@@ -76,11 +76,20 @@ fn make_dimension(d: usize, n: usize, t: usize, w: usize, vectors: &[i32], part:
     requires { ⌜ MarksOf d n t w (now vectors) (length (now part)) ⌝ }
     ensures { λ _. ⌜ take (2 ^ w + 1) (now (part .exit)) ≡ madeDimension n w (inOrder (column d n (now (vectors .entry)) t)) ⌝ }
 {
+    let mut numbers = [0u32; MAX_VECTORS];
+    rank_column(d, t, vectors, &mut numbers[..n]);
+    write_marks(d, t, w, vectors, &numbers[..n], part);
+}
+
+// The vectors' numbers in the order of their components in one dimension.
+fn rank_column(d: usize, t: usize, vectors: &[i32], numbers: &mut [u32])
+    requires { ⌜ (ColumnOf d (length (now numbers)) t) × (1 ≤ length (now numbers)) ⌝ }
+    ensures { λ _. ⌜ Ranks d t (now (vectors .entry)) (now (numbers .exit)) ⌝ }
+{
+    let n = numbers.len();
     let mut keys = [0u64; MAX_VECTORS];
     column_keys(d, t, vectors, &mut keys[..n]);
-    let mut numbers = [0u32; MAX_VECTORS];
-    order::rank(&keys[..n], &mut numbers[..n]);
-    write_marks(d, t, w, vectors, &numbers[..n], part);
+    order::rank(&keys[..n], numbers);
 }
 
 // The keys of one dimension's components.

@@ -14,7 +14,7 @@ use mir.ValLaws.{toZ-ofZ}
 use borrow.Author.Needs.{needs}
 use Rattle.limits.specs.Limits.{maxDimensionBits, maxVectors}
 use Rattle.partition.specs.Made.{column, inOrder, madeDimension}
-use Rattle.partition.specs.Making.{MarksOf, Ranks}
+use Rattle.partition.specs.Making.{MarksOf}
 use Rattle.partition.specs.InOrder.{column-ordered}
 use Rattle.partition.specs.MadeDimension.{place-below, made-length, made-at, made-last}
 use Rattle.partition.proofs.Filled.{filled-one}
