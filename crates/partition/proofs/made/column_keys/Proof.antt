@@ -35,10 +35,12 @@ loop-again c =
     let a = c .before .before .before .before .args in
     let n = length (a .keys .now) in
     let within : at .i < n = omega arith in
-    let next = c .key-at .ensures ∙ sym (column-key-at (a .d) n (a .vectors .now) (a .t) (at .i) within) in
-    (omega arith, simp length-set (at .inv .1),
-    filled-one (at .keys) (map keyOf (column (a .d) n (a .vectors .now) (a .t))) (at .i) (c .key-at .result) 0 (omega arith)
-    (omega (arith, keys-length (a .d) n (a .t) (a .vectors .now))) (at .inv .2) next)
+    let next = c .key-at .ensures ∙ sym (column-key-at (a .d) n (a .vectors .now) (a .t) (at .i) within) in (
+      omega arith,
+      simp length-set (at .inv .1),
+      filled-one (at .keys) (map keyOf (column (a .d) n (a .vectors .now) (a .t))) (at .i) (c .key-at .result) 0 (omega arith)
+          (omega (arith, keys-length (a .d) n (a .t) (a .vectors .now))) (at .inv .2) next,
+    )
 
 returns : tie.Need-returns Inv-loop μ-loop
 returns c =

@@ -1,47 +1,35 @@
+-- `make_marks` meets its contract: the marks are made where nothing refuses, and else left as they were. Assumes nothing.
+use mathlib.Core.Path.{_≡_, sym, _∙_}
+use lib.ListN.{length}
 use borrow.Author.Needs.{needs}
+use Rattle.refusal.specs.declared.Verdict.the-variants.{Accepted}
+use Rattle.refusal.specs.First.{first, outcome-accepted, outcome-refused}
+use Rattle.partition.specs.Making.{makeCauses}
 use Rattle.partition.proofs.made.make_marks.Statement.{statement}
 use Rattle.partition.proofs.made.make_marks.Tie as tie
-use Rattle.partition.proofs.made.make_marks.Reads as reads
-use Rattle.partition.proofs.made.make_marks.Lts as lts
-use Rattle.partition.proofs.made.check_making.Reads as check-making-reads
-use Rattle.partition.proofs.made.make_dimensions.Reads as make-dimensions-reads
 
--- src/made.rt:25:9
-check-making-requires : tie.Need-check-making-requires
-check-making-requires c κs = search needs
+accepted : (c : tie.After-enum-told) → let a = c .before .before .before .args in
+    first (makeCauses (a .d) (a .b) (a .n) (a .vectors .now) (length (a .marks .now))) ≡ Accepted
+accepted c = sym (c .before .before .check-making .ensures) ∙ c .enum-told .given .1
 
--- src/made.rt:28:47
-enum-told : tie.Need-enum-told
-enum-told c = search needs
-
--- src/made.rt:28:13
-make-dimensions-requires : tie.Need-make-dimensions-requires
-make-dimensions-requires c κs = ?
-
--- src/made.rt:31:26
-enum-known-verdict : tie.Need-enum-known-verdict
-enum-known-verdict c = search needs
-
--- src/made.rt:19:1
-same-length : tie.Need-same-length
-same-length c = search needs
-
--- src/made.rt:19:1
 returns : tie.Need-returns
-returns c = ?
+returns c =
+    let none = accepted (c .before .before .before) in
+    (sym none, c .before .make-dimensions .ensures ∙ sym (outcome-accepted _ _ none))
 
--- src/made.rt:19:1
 returns-2 : tie.Need-returns-2
-returns-2 c = ?
+returns-2 c =
+    let refused = sym (c .before .before .before .check-making .ensures) ∙ c .before .verdict .given .1 in
+    (sym refused, sym (outcome-refused _ _ refused))
 
 pub make-marks-spec : {M : Type 1} → statement M
 make-marks-spec =
     tie.close
     (tie.spec
-    check-making-requires
-    enum-told
-    make-dimensions-requires
-    enum-known-verdict
-    same-length
+    (λ c κs. search needs)
+    (λ c. search needs)
+    (λ c κs. accepted (c .before))
+    (λ c. search needs)
+    (λ c. search needs)
     returns
     returns-2)

@@ -49,7 +49,7 @@ product w i n few below count =
     omega arith
 
 module _ {d t w : ℕ} {vectors : List ℤ} {numbers : List ℕ} {room regions : ℕ} {part : List ℤ} {i : ℕ}
-  (given : MarksOf d (length numbers) t w vectors room) (at : Filled d t w vectors numbers room regions part i) where
+    (given : MarksOf d (length numbers) t w vectors room) (at : Filled d t w vectors numbers room regions part i) where
   count-made : length (whole d t w vectors numbers) ≡ 2 ^ w + 1
   count-made = made-length (length numbers) w (inOrder (column d (length numbers) vectors t))
 
@@ -65,7 +65,7 @@ module _ {d t w : ℕ} {vectors : List ℤ} {numbers : List ℕ} {room regions :
         among = omega arith;
         same = simp length-set (at .same);
         so-far = filled-one part (whole d t w vectors numbers) i x (pos 0) (omega (arith, at .same, given .fits)) (omega (arith, count-made)) (at .so-far)
-        (is ∙ sym (made-at (length numbers) w (inOrder (column d (length numbers) vectors t)) i below));
+            (is ∙ sym (made-at (length numbers) w (inOrder (column d (length numbers) vectors t)) i below));
       }
 
   end : regions ≤ i → (x : ℤ) → x ≡ sucℤ (getD (inOrder (column d (length numbers) vectors t)) (length numbers - 1) (pos 0))
