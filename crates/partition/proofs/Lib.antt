@@ -1,2 +1,5 @@
+-- What the proofs of several functions use.
 pub mod ReadBack
 pub mod Halving
+mod Filled
+mod Columns

@@ -48,6 +48,9 @@ module _ (d n : ℕ) (vectors : List ℤ) (t : ℕ) where
   unfolding column
   column-at = counted-map (λ i. getD vectors (i * d + t) (pos 0)) n
 
+  pub column-key-at : (i : ℕ) → i < n → getD (map keyOf (column d n vectors t)) i 0 ≡ keyOf (getD vectors (i * d + t) (pos 0))
+  column-key-at i within = map-at keyOf (column d n vectors t) i (pos 0) 0 (rw column-length within) ∙ ap keyOf (column-at i within)
+
   column-components : areComponents vectors ≡ true → (i : ℕ) → isComponent (getD (column d n vectors t) i (pos 0)) ≡ true
   unfolding column
   column-components are = map-each (λ i. getD vectors (i * d + t) (pos 0)) (countFrom 0 n) (λ i. component-at vectors are (i * d + t))

@@ -8,6 +8,7 @@ pub mod Located
 pub mod RegionCount
 pub mod Lookup
 pub mod Made
+pub mod Making
 pub mod InOrder
 pub mod MadeDimension
 pub mod MadeLaws

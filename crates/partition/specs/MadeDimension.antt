@@ -42,6 +42,13 @@ component-mark z is =
     let range = key-range z is in
     key-is-mark z (range .above) (omega (arith, range .below))
 
+-- the number behind a component is a mark
+pub next-mark : (z : ℤ) → isComponent z ≡ true → isMark (sucℤ z) ≡ true
+next-mark z is =
+    let range = key-range z is in
+    let key = key-suc z (component-small z is) in
+    key-is-mark (sucℤ z) (omega (arith, range .above)) (omega (arith, range .below))
+
 mark-le : (a b : ℤ) → isMark a ≡ true → isMark b ≡ true → keyOf a ≤ keyOf b → leZ a b ≡ true
 mark-le a b is-a is-b le = key-le a b (mark-small a is-a) (mark-small b is-b) ∙ le-leb (keyOf a) (keyOf b) le
 
@@ -61,7 +68,7 @@ good-by-marks (m ∷ next ∷ ms) each rise =
 
 -- ---- places
 
-place-below : (i n w : ℕ) → i < 2 ^ w → 0 < n → i * n / 2 ^ w < n
+pub place-below : (i n w : ℕ) → i < 2 ^ w → 0 < n → i * n / 2 ^ w < n
 place-below i n w below some = div-lt-iff-lt-mul (pow-pos w) .1 (rw (mul-comm n (2 ^ w)) (mul-lt-mul-of-pos-right below some))
 
 place-rises : (i j n w : ℕ) → i ≤ j → i * n / 2 ^ w ≤ j * n / 2 ^ w
@@ -100,9 +107,7 @@ module _ {n : ℕ} (w : ℕ) {ordered : List ℤ} (some : 0 < n) (is : Ordered n
   lower-mark i = component-mark (lower n w ordered i) (is .components (i * n / 2 ^ w))
 
   top-mark : isMark (sucℤ (greatest n w ordered)) ≡ true
-  top-mark =
-      let range = key-range (greatest n w ordered) (is .components (n - 1)) in
-      key-is-mark (sucℤ (greatest n w ordered)) (rw top-key (omega (arith, range .above))) (rw top-key (omega (arith, range .below)))
+  top-mark = next-mark (greatest n w ordered) (is .components (n - 1))
 
   -- no component is above the greatest
   key-below-top : (p : ℕ) → p < n → keyOf (getD ordered p (pos 0)) < keyOf (sucℤ (greatest n w ordered))
