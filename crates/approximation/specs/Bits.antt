@@ -1,6 +1,8 @@
 -- Numbers as lists of bits, high bit first. A bit is 0 or 1. Assumes nothing.
+use mathlib.Core.Bool.{Bool, true, _&&_}
 use mathlib.Core.List.{List, [], _∷_, _++_}
 use Prim.Native.Nat.{ℕ, zero, suc, _+_, _*_, _/_, _%_, _^_}
+use lib.Dec.{eqb}
 use lib.ListN.{drop, getD}
 
 -- the low w bits of a number
@@ -22,3 +24,8 @@ bytesOf (suc count) bits = fromBits 8 bits ∷ bytesOf count (drop 8 bits)
 unfoldable pub byteBits : List ℕ → List ℕ
 byteBits [] = []
 byteBits (x ∷ xs) = lowBits 8 x ++ byteBits xs
+
+-- whether all bits are zero
+unfoldable pub allZero : List ℕ → Bool
+allZero [] = true
+allZero (x ∷ bits) = eqb x 0 && allZero bits

@@ -1,12 +1,12 @@
 -- Codes (document 01, "Marks, regions, codes"; source document 003 calls them approximations): the region numbers of n vectors, a row of d
 -- numbers for each vector, packed into bytes and unpacked again. b is the number of bits of a code. Assumes nothing.
-use mathlib.Core.Bool.{Bool, true, _&&_, cond}
+use mathlib.Core.Bool.{Bool, cond}
 use mathlib.Core.List.{List, [], _∷_, _++_}
 use Prim.Native.Nat.{ℕ, zero, suc, _+_, _*_, _/_}
 use lib.Dec.{eqb}
 use lib.ListN.{drop}
 use Rattle.layout.specs.Layout.{bitsOf, firstBits}
-use Rattle.approximation.specs.Bits.{lowBits, fromBits, bytesOf, byteBits}
+use Rattle.approximation.specs.Bits.{lowBits, fromBits, bytesOf, byteBits, allZero}
 
 -- the column behind column t, the first behind the last
 abbrev pub nextColumn : ℕ → ℕ → ℕ
@@ -38,11 +38,6 @@ unpacked d b n codes = split d b 0 (n * d) (byteBits codes)
 -- the region that code i names for dimension t + 1: it stands behind the bits of i codes and of the first t dimensions
 unfoldable pub codeRegion : ℕ → ℕ → List ℕ → ℕ → ℕ → ℕ
 codeRegion d b codes i t = fromBits (bitsOf d b (suc t)) (drop (i * b + firstBits d b t) (byteBits codes))
-
--- whether all bits are zero
-unfoldable pub allZero : List ℕ → Bool
-allZero [] = true
-allZero (x ∷ bits) = eqb x 0 && allZero bits
 
 -- whether no bit behind the n codes is set
 abbrev pub spareZero : ℕ → ℕ → List ℕ → Bool

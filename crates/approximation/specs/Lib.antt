@@ -1,3 +1,4 @@
 pub mod Bits
+pub mod BitLaws
 pub mod Codes
 pub mod Cells
