@@ -19,7 +19,7 @@ pub data Binary : List ℕ → Type 0 where
   none : Binary []
   more : {x : ℕ} {bits : List ℕ} → x < 2 → Binary bits → Binary (x ∷ bits)
 
-binary-drop : (n : ℕ) {bits : List ℕ} → Binary bits → Binary (drop n bits)
+pub binary-drop : (n : ℕ) {bits : List ℕ} → Binary bits → Binary (drop n bits)
 binary-drop zero h = h
 binary-drop (suc n) none = none
 binary-drop (suc n) (more x h) = binary-drop n h
@@ -144,6 +144,11 @@ zero-at [] zeros i = refl
 zero-at (x ∷ bits) zeros zero = sym (eqb-true x 0 (and-eq-true-iff (eqb x 0) (allZero bits) .0 zeros .0))
 zero-at (x ∷ bits) zeros (suc i) = zero-at bits (and-eq-true-iff (eqb x 0) (allZero bits) .0 zeros .1) i
 
+pub zeros : (n : ℕ) → allZero (replicate n 0) ≡ true
+unfolding allZero
+zeros zero = refl
+zeros (suc n) = zeros n
+
 -- nothing is lost where the other bits are zero
 pub padded-same : (w : ℕ) (bits : List ℕ) → allZero (drop w bits) ≡ true → Same (padded w bits) bits
 unfolding padded
@@ -152,13 +157,22 @@ padded-same (suc w) bits zeros zero = refl
 padded-same (suc w) [] zeros (suc i) = padded-same w [] (rw drop-nil zeros) i
 padded-same (suc w) (x ∷ bits) zeros (suc i) = padded-same w bits zeros i
 
-low-from : (w : ℕ) {bits : List ℕ} → Binary bits → lowBits w (fromBits w bits) ≡ padded w bits
+pub low-from : (w : ℕ) {bits : List ℕ} → Binary bits → lowBits w (fromBits w bits) ≡ padded w bits
 unfolding lowBits fromBits padded
 low-from zero h = refl
 low-from (suc w) {bits} h =
     rw (high (getD bits 0 0) w (from-lt w (binary-drop 1 h)), mod-eq-of-lt (binary-first h), low-over w (getD bits 0 0) (fromBits w (drop 1 bits)), low-from w (binary-drop 1 h))
 
 -- ---- bytes
+
+abbrev pub Bytes : List ℕ → Type 0
+Bytes bytes = (i : ℕ) → getD bytes i 0 < 256
+
+pub bytes-of : (count : ℕ) {bits : List ℕ} → Binary bits → Bytes (bytesOf count bits)
+unfolding bytesOf
+bytes-of zero h i = omega arith
+bytes-of (suc count) h zero = from-lt 8 h
+bytes-of (suc count) h (suc i) = bytes-of count (binary-drop 8 h) i
 
 -- bits as bytes, read back
 pub bits-bytes : (count : ℕ) {bits : List ℕ} → Binary bits → byteBits (bytesOf count bits) ≡ padded (count * 8) bits
@@ -168,9 +182,6 @@ bits-bytes (suc count) {bits} h =
     rw (low-from 8 h, bits-bytes count (binary-drop 8 h), suc-mul count 8, add-comm (count * 8) 8) (sym (padded-add 8 (count * 8) bits))
 
 -- and bytes as bits
-abbrev pub Bytes : List ℕ → Type 0
-Bytes bytes = (i : ℕ) → getD bytes i 0 < 256
-
 pub bytes-bits : (bytes : List ℕ) → Bytes bytes → bytesOf (length bytes) (byteBits bytes) ≡ bytes
 unfolding byteBits bytesOf
 bytes-bits [] h = refl

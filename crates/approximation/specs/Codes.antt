@@ -1,11 +1,11 @@
 -- Codes (document 01, "Marks, regions, codes"; source document 003 calls them approximations): the region numbers of n vectors, a row of d
 -- numbers for each vector, packed into bytes and unpacked again. b is the number of bits of a code. Assumes nothing.
-use mathlib.Core.Bool.{Bool, cond}
+use mathlib.Core.Bool.{Bool, true, _&&_, cond}
 use mathlib.Core.List.{List, [], _∷_, _++_}
 use Prim.Native.Nat.{ℕ, zero, suc, _+_, _*_, _/_}
-use lib.Dec.{eqb}
+use lib.Dec.{ltb, eqb}
 use lib.ListN.{drop}
-use Rattle.layout.specs.Layout.{bitsOf, firstBits}
+use Rattle.layout.specs.Layout.{bitsOf, regionCount, firstBits}
 use Rattle.approximation.specs.Bits.{lowBits, fromBits, bytesOf, byteBits, allZero}
 
 -- the column behind column t, the first behind the last
@@ -17,6 +17,11 @@ nextColumn d t = cond (eqb (suc t) d) 0 (suc t)
 unfoldable pub joined : ℕ → ℕ → ℕ → List ℕ → List ℕ
 joined d b t [] = []
 joined d b t (r ∷ rs) = lowBits (bitsOf d b (suc t)) r ++ joined d b (nextColumn d t) rs
+
+-- whether each region number, from column t on, is one of its dimension's: none is "past the last"
+unfoldable pub regionsFit : ℕ → ℕ → ℕ → List ℕ → Bool
+regionsFit d b t [] = true
+regionsFit d b t (r ∷ rs) = ltb r (regionCount d b (suc t)) && regionsFit d b (nextColumn d t) rs
 
 -- the exact length of n codes
 abbrev pub codeLength : ℕ → ℕ → ℕ
