@@ -1,12 +1,20 @@
--- Tests of order on whole numbers: not below is at least. Assumes nothing.
+-- Tests of order: two that agree, not below is at least, a number between two others. Assumes nothing.
 use mathlib.Core.Path.{_≡_, refl, sym, ap, _∙_}
-use mathlib.Core.Bool.{Bool, true, false, not}
-use Prim.Native.Nat.{ℕ, suc, _≤_}
+use mathlib.Core.Bool.{Bool, true, false, not, _&&_}
+use Prim.Native.Nat.{ℕ, suc, _≤_, _<_}
 use native.Mathlib.Omega.{arith}
 use borrow.Author.Tests.{leb-true, leb-false, le-leb, lt-leb}
 use lib.Dec.{leb, ltb}
 use lib.IntN.{ℤ, pos, negsuc}
 use lib.Signed.{ltZ, leZ}
+
+-- two tests that hold together and fail together
+pub same-leb : (a b c d : ℕ) → (a ≤ b → c ≤ d) → (b < a → d < c) → leb a b ≡ leb c d
+same-leb a b c d up down = go (leb a b) refl
+  where
+    go : (t : Bool) → leb a b ≡ t → t ≡ leb c d
+    go true e = sym (le-leb c d (up (leb-true a b e)))
+    go false e = sym (lt-leb c d (down (leb-false a b e)))
 
 pub leb-not : (a b : ℕ) → leb b a ≡ not (ltb a b)
 leb-not a b = go (ltb a b) refl
@@ -33,3 +41,18 @@ ltb-not a b = sym (ap not (leb-not a b) ∙ not-not (ltb a b))
 
 pub ltZ-not : (a b : ℤ) → ltZ a b ≡ not (leZ b a)
 ltZ-not a b = sym (ap not (leZ-not a b) ∙ not-not (ltZ a b))
+
+-- ---- a number between two others
+
+pub record Between (low x high : ℕ) : Type 0 where
+  pub above : low ≤ x
+  pub below : x ≤ high
+
+pub between : (low x high : ℕ) → leb low x && leb x high ≡ true → Between low x high
+between low x high holds = go (leb low x) refl holds
+  where
+    go : (t : Bool) → leb low x ≡ t → t && leb x high ≡ true → Between low x high
+    go true e holds = record { above = leb-true low x e; below = leb-true x high holds }
+    go false e holds =
+        let impossible : _≡_ {A = ℕ} 0 1 = cc in
+        absurd (omega arith)

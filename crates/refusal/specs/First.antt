@@ -24,6 +24,12 @@ abbrev pub outcome {ℓ} : {A : Type ℓ} → Verdict → A → (Refusal → A) 
 outcome Accepted result refused = result
 outcome (Refused cause) result refused = refused cause
 
+pub outcome-accepted {ℓ} : {A : Type ℓ} {v : Verdict} (result : A) (refused : Refusal → A) → v ≡ Accepted → outcome v result refused ≡ result
+outcome-accepted result refused e = rw e
+
+pub outcome-refused {ℓ} : {A : Type ℓ} {v : Verdict} {cause : Refusal} (result : A) (refused : Refusal → A) → v ≡ Refused cause → outcome v result refused ≡ refused cause
+outcome-refused result refused e = rw e
+
 -- whether some row's test holds
 unfoldable pub any : List Row → Bool
 any [] = false
@@ -69,3 +75,23 @@ first-after ((false ⇒ other) ∷ before) after cause none = first-after before
 
 pub first-refuses : (rows : List Row) (cause : Refusal) → IsFirst rows cause → first rows ≡ Refused cause
 first-refuses rows cause is = rw (is .split) (first-after (is .before) (is .after) cause (is .none-before))
+
+-- ---- a row at a time
+
+pub first-here : {test : Bool} (cause : Refusal) (rows : List Row) → test ≡ true → first ((test ⇒ cause) ∷ rows) ≡ Refused cause
+unfolding first
+first-here cause rows holds = rw holds
+
+pub first-next : {test : Bool} (cause : Refusal) (rows : List Row) → test ≡ false → first ((test ⇒ cause) ∷ rows) ≡ first rows
+unfolding first
+first-next cause rows fails = rw fails
+
+-- where nothing refuses, the first test fails, and nothing behind it refuses
+pub record Passed (test : Bool) (rows : List Row) : Type 0 where
+  pub fails : test ≡ false
+  pub rest : first rows ≡ Accepted
+
+pub passed : (test : Bool) (cause : Refusal) (rows : List Row) → first ((test ⇒ cause) ∷ rows) ≡ Accepted → Passed test rows
+unfolding first
+passed true cause rows accepted = record { fails = cc; rest = cc }
+passed false cause rows accepted = record { fails = refl; rest = accepted }

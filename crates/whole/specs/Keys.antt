@@ -3,12 +3,12 @@ use mathlib.Core.Path.{_≡_, refl, sym, ap, _∙_}
 use mathlib.Core.Bool.{Bool, true, false, not, _&&_}
 use Prim.Native.Nat.{ℕ, suc, _+_, _-_, _^_, _≤_, _<_}
 use native.Mathlib.Omega.{arith}
-use borrow.Author.Tests.{leb-true, leb-false, le-leb, lt-leb}
+use borrow.Author.Tests.{leb-true, le-leb, lt-leb}
 use lib.Dec.{leb, ltb, lit<}
 use lib.IntN.{ℤ, pos, negsuc}
 use lib.Signed.{mag, ltZ, leZ}
 use Rattle.limits.specs.Limits.{isComponent, isMark}
-use Rattle.limits.specs.Tests.{leb-not, ltb-not, ltZ-not}
+use Rattle.limits.specs.Tests.{same-leb, ltb-not, ltZ-not}
 
 -- 2^31 more, so that every number of 32 bits has a key of its own
 unfoldable pub keyOf : ℤ → ℕ
@@ -23,20 +23,13 @@ unfolding keyOf
 key-fits (pos n) h = omega arith
 key-fits (negsuc n) h = omega arith
 
-same-le : (a b c d : ℕ) → (a ≤ b → c ≤ d) → (b < a → d < c) → leb a b ≡ leb c d
-same-le a b c d up down = go (leb a b) refl
-  where
-    go : (t : Bool) → leb a b ≡ t → t ≡ leb c d
-    go true e = sym (le-leb c d (up (leb-true a b e)))
-    go false e = sym (lt-leb c d (down (leb-false a b e)))
-
 -- the order of keys is the order of numbers
 pub key-le : (a b : ℤ) → mag a < 2 ^ 31 → mag b < 2 ^ 31 → leZ a b ≡ leb (keyOf a) (keyOf b)
 unfolding keyOf
-key-le (pos a) (pos b) ha hb = same-le a b (2 ^ 31 + a) (2 ^ 31 + b) (omega arith) (omega arith)
+key-le (pos a) (pos b) ha hb = same-leb a b (2 ^ 31 + a) (2 ^ 31 + b) (omega arith) (omega arith)
 key-le (pos a) (negsuc b) ha hb = sym (lt-leb (2 ^ 31 + a) (2 ^ 31 - suc b) (omega arith))
 key-le (negsuc a) (pos b) ha hb = sym (le-leb (2 ^ 31 - suc a) (2 ^ 31 + b) (omega arith))
-key-le (negsuc a) (negsuc b) ha hb = same-le b a (2 ^ 31 - suc a) (2 ^ 31 - suc b) (λ h. omega arith) (λ h. omega arith)
+key-le (negsuc a) (negsuc b) ha hb = same-leb b a (2 ^ 31 - suc a) (2 ^ 31 - suc b) (λ h. omega arith) (λ h. omega arith)
 
 pub key-lt : (a b : ℤ) → mag a < 2 ^ 31 → mag b < 2 ^ 31 → ltZ a b ≡ ltb (keyOf a) (keyOf b)
 key-lt a b ha hb = ltZ-not a b ∙ ap not (key-le b a hb ha) ∙ sym (ltb-not (keyOf a) (keyOf b))
@@ -45,10 +38,10 @@ key-lt a b ha hb = ltZ-not a b ∙ ap not (key-le b a hb ha) ∙ sym (ltb-not (k
 within : (top : ℕ) (z : ℤ) → leZ (negsuc 32767) z && leZ z (pos top) ≡ leb (2 ^ 31 - 32768) (keyOf z) && leb (keyOf z) (2 ^ 31 + top)
 unfolding keyOf
 within top (pos n) =
-    rw (le-leb (2 ^ 31 - 32768) (2 ^ 31 + n) (omega arith)) (same-le n top (2 ^ 31 + n) (2 ^ 31 + top) (omega arith) (omega arith))
+    rw (le-leb (2 ^ 31 - 32768) (2 ^ 31 + n) (omega arith)) (same-leb n top (2 ^ 31 + n) (2 ^ 31 + top) (omega arith) (omega arith))
 within top (negsuc n) =
     rw (le-leb (2 ^ 31 - suc n) (2 ^ 31 + top) (omega arith))
-    (ap (λ (t : Bool). t && true) (same-le n 32767 (2 ^ 31 - 32768) (2 ^ 31 - suc n) (λ h. omega arith) (λ h. omega arith)))
+    (ap (λ (t : Bool). t && true) (same-leb n 32767 (2 ^ 31 - 32768) (2 ^ 31 - suc n) (λ h. omega arith) (λ h. omega arith)))
 
 pub key-component : (z : ℤ) → isComponent z ≡ leb (2 ^ 31 - 32768) (keyOf z) && leb (keyOf z) (2 ^ 31 + 32767)
 key-component z = within 32767 z

@@ -1,0 +1,17 @@
+-- `check_dimension` meets its contract: the dimension's number first. Assumes nothing.
+use mathlib.Core.Path.{_∙_}
+use borrow.Author.Needs.{needs}
+use Rattle.refusal.specs.First.{first}
+use Rattle.layout.proofs.check_dimension.Statement.{statement}
+use Rattle.layout.proofs.check_dimension.Tie as tie
+
+returns : tie.Need-returns
+unfolding first
+returns c = rw (← c .before .is-between .ensures, c .if1 .taken)
+
+returns-2 : tie.Need-returns-2
+unfolding first
+returns-2 c = rw (← c .before .before .is-between .ensures, c .before .if1 .left) (c .check-shape .ensures)
+
+pub check-dimension-spec : {M : Type 1} → statement M
+check-dimension-spec = tie.close (tie.spec (λ c κs. search needs) returns (λ c κs. search needs) returns-2)

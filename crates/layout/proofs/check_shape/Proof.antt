@@ -1,0 +1,20 @@
+-- `check_shape` meets its contract: the tests in their order. Assumes nothing.
+use borrow.Author.Needs.{needs}
+use Rattle.refusal.specs.First.{first}
+use Rattle.layout.proofs.check_shape.Statement.{statement}
+use Rattle.layout.proofs.check_shape.Tie as tie
+
+returns : tie.Need-returns
+unfolding first
+returns c = rw (← c .before .is-dimension-count .ensures, c .if1 .taken)
+
+returns-2 : tie.Need-returns-2
+unfolding first
+returns-2 c = rw (← c .before .before .before .is-dimension-count .ensures, c .before .before .if1 .left, ← c .before .is-bits .ensures, c .if2 .taken)
+
+returns-3 : tie.Need-returns-3
+unfolding first
+returns-3 c = rw (← c .before .before .before .is-dimension-count .ensures, c .before .before .if1 .left, ← c .before .is-bits .ensures, c .if2 .left)
+
+pub check-shape-spec : {M : Type 1} → statement M
+check-shape-spec = tie.close (tie.spec (λ c κs. search needs) returns (λ c κs. search needs) returns-2 returns-3)
