@@ -11,12 +11,10 @@ use lib.Dec.{eqb}
 use lib.ListN.{length, getD, drop, replicate, length-append}
 use lib.Seq.{drop-at, drop-drop}
 use Rattle.layout.specs.Layout.{bitsOf, regionCount, firstBits}
+use Rattle.layout.specs.Laws.{all-bits}
 use Rattle.approximation.specs.Bits.{lowBits, fromBits, bytesOf, byteBits, allZero}
 use Rattle.approximation.specs.BitLaws.{Binary, none, binary-drop, binary-append, binary-low, binary-bytes, Bytes, padded, length-low, length-bytes, length-byte-bits, low-from, from-low, from-lt, padded-add, padded-long, padded-same, zeros, bytes-same, bytes-of, bits-bytes, bytes-bits}
 use Rattle.approximation.specs.Codes.{nextColumn, joined, regionsFit, codeLength, packed, split, unpacked, codeRegion, spareZero}
-
-all-bits : (d b : ℕ) → 0 < d → firstBits d b d ≡ b
-all-bits d b h = ?
 
 -- ---- region numbers joined, and split again
 
@@ -84,7 +82,7 @@ module _ (d b : ℕ) (some : 0 < d) where
 
   length-from : (p : ℕ) (regions : List ℕ) → before d b p + length (joined d b (p % d) regions) ≡ before d b (p + length regions)
   unfolding joined
-  length-from p [] = rw (add-zero, add-zero)
+  length-from p [] = rw (add-zero (before d b p), add-zero p)
   length-from p (r ∷ rs) =
       let w = bitsOf d b (suc (p % d)) in
       rw (length-append (lowBits w r) (joined d b (nextColumn d (p % d)) rs), length-low w r, next-column p, ← add-assoc, next-before p, add-suc p (length rs), ← suc-add p (length rs))
