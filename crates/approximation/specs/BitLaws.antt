@@ -6,13 +6,13 @@ use Prim.Native.Nat.{ℕ, zero, suc, _+_, _-_, _*_, _/_, _%_, _^_, _≤_, _<_, z
 use native.Mathlib.Nat.{suc-add, add-comm, zero-add, sub-zero, suc-sub-suc, suc-mul, zero-mul, mul-assoc, mul-comm, mul-le-mul-right, mul-add-div-right, mul-add-mod-self-right, mod-lt, mod-eq-of-lt, pow-suc, pow-succ', le-of-suc-le-suc}
 use native.Mathlib.Numerals.{one-add}
 use native.Mathlib.Omega.{arith}
-use borrow.Author.Tests.{eqb-true, eqb-false, ne-eqb}
+use borrow.Author.Tests.{eqb-true, eqb-false, le-leb, ne-eqb}
 use lib.Arith.{digits-lt}
 use lib.Dec.{eqb}
 use lib.ListN.{length, getD, drop, replicate, length-append}
 use lib.Seq.{drop-at, drop-nil, getD-drop, drop-drop}
-use lib.Pow.{pow-pos, shr-shr, high, mod-pow-add, split}
-use Rattle.approximation.specs.Bits.{lowBits, fromBits, bytesOf, byteBits, allZero}
+use lib.Pow.{pow-pos, pow-mono, shr-shr, high, mod-pow-add, split}
+use Rattle.approximation.specs.Bits.{lowBits, fromBits, bytesOf, byteBits, bitsAt, allZero}
 
 -- each is 0 or 1
 pub data Binary : List ℕ → Type 0 where
@@ -202,3 +202,13 @@ pub binary-bytes : (bytes : List ℕ) → Binary (byteBits bytes)
 unfolding byteBits
 binary-bytes [] = none
 binary-bytes (x ∷ bytes) = binary-append (binary-low 8 x) (binary-bytes bytes)
+
+-- up to 8 bits are read as they stand, and make a byte
+pub bits-at : (bytes : List ℕ) (from w : ℕ) → w ≤ 8 → bitsAt bytes from w ≡ fromBits w (drop from (byteBits bytes))
+unfolding bitsAt
+bits-at bytes from w few = rw (le-leb w 8 few)
+
+pub bits-at-lt : (bytes : List ℕ) (from w : ℕ) → w ≤ 8 → bitsAt bytes from w < 256
+bits-at-lt bytes from w few =
+    let power : 2 ^ w ≤ 2 ^ 8 = pow-mono few in
+    rw (bits-at bytes from w few) (omega (arith, from-lt w (binary-drop from (binary-bytes bytes))))
