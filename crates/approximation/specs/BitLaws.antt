@@ -3,7 +3,7 @@ use mathlib.Core.Path.{_≡_, refl, sym, ap, _∙_}
 use mathlib.Core.Bool.{Bool, true, false, _&&_, and-eq-true-iff}
 use mathlib.Core.List.{List, [], _∷_, _++_, append-assoc}
 use Prim.Native.Nat.{ℕ, zero, suc, _+_, _-_, _*_, _/_, _%_, _^_, _≤_, _<_, zero-le}
-use native.Mathlib.Nat.{suc-add, add-comm, zero-add, sub-zero, suc-sub-suc, suc-mul, zero-mul, mul-assoc, mul-comm, mul-le-mul-right, mul-add-div-right, mul-add-mod-self-right, mod-lt, mod-eq-of-lt, pow-suc, pow-succ', le-of-suc-le-suc}
+use native.Mathlib.Nat.{suc-add, add-comm, zero-add, sub-zero, suc-sub-suc, suc-mul, zero-mul, zero-div, mul-assoc, mul-comm, mul-le-mul-right, mul-add-div-right, mul-add-mod-self-right, mod-lt, mod-eq-of-lt, pow-suc, pow-succ', le-of-suc-le-suc}
 use native.Mathlib.Numerals.{one-add}
 use native.Mathlib.Omega.{arith}
 use borrow.Author.Tests.{eqb-true, eqb-false, le-leb, ne-eqb}
@@ -120,6 +120,15 @@ unfolding bytesOf
 bytes-same zero one other same = refl
 bytes-same (suc count) one other same =
     rw (from-same 8 one other same, bytes-same count (drop 8 one) (drop 8 other) (same-drop 8 one other same))
+
+-- zeros at the end are not seen
+pub same-zeros : (w : ℕ) (bits : List ℕ) → Same bits (bits ++ lowBits w 0)
+unfolding lowBits
+same-zeros zero [] i = refl
+same-zeros (suc w) [] zero = rw zero-div
+same-zeros (suc w) [] (suc i) = same-zeros w [] i
+same-zeros w (x ∷ bits) zero = refl
+same-zeros w (x ∷ bits) (suc i) = same-zeros w bits i
 
 -- the first w bits of a list, with zeros past its end
 unfoldable pub padded : ℕ → List ℕ → List ℕ

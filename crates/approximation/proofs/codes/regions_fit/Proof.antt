@@ -15,7 +15,7 @@ use lib.Pow.{pow-pos}
 use lib.Seq.{drop-cons, drop-length}
 use Rattle.layout.specs.Layout.{bitsOf, regionCount}
 use Rattle.approximation.specs.Codes.{nextColumn, regionsFit}
-use Rattle.approximation.proofs.Columns.{fewest, width, next-below}
+use Rattle.approximation.proofs.Columns.{fewest, width, next-below, fit-next}
 use Rattle.approximation.proofs.codes.regions_fit.Statement.{statement}
 use Rattle.approximation.proofs.codes.regions_fit.Tie as tie
 
@@ -37,13 +37,7 @@ shifted x w = go (eqb (x / 2 ^ w) 0) refl
         let large : ¬ (x < 2 ^ w) = λ small. eqb-false (x / 2 ^ w) 0 e (div-eq-of-lt small) in
         le-ltb x (2 ^ w) (omega arith)
 
--- the number at i, and those behind it
-fit-one : (d b t w : ℕ) (regions : List ℕ) (i : ℕ) → w ≡ bitsOf d b (suc t) → i < length regions
-    → regionsFit d b t (drop i regions) ≡ eqb (getD regions i 0 / 2 ^ w) 0 && regionsFit d b (nextColumn d t) (drop (i + 1) regions)
-unfolding regionsFit
-fit-one d b t w regions i is within = rw (drop-cons regions i 0 within, add-one, is, shifted (getD regions i 0) (bitsOf d b (suc t)))
-
--- so the whole list is decided by that number, and those behind it
+-- the whole list is decided by the number at i, and those behind it
 turn : (c : tie.After-column-bits Inv-loop μ-loop) → let at = c .before .before .before .loop in let start = c .before .before .before .before .before in
     regionsFit (start .args .d) (start .args .b) 0 (start .args .regions .now)
     ≡ eqb (getD (start .args .regions .now) (at .i) 0 / 2 ^ c .column-bits .result) 0
@@ -51,7 +45,9 @@ turn : (c : tie.After-column-bits Inv-loop μ-loop) → let at = c .before .befo
 turn c =
     let start = c .before .before .before .before .before in
     let at = c .before .before .before .loop in
-    at .inv .1 ∙ fit-one (start .args .d) (start .args .b) (at .column) (c .column-bits .result) (start .args .regions .now) (at .i) (width (start .pre) (c .column-bits .ensures) .is) (omega arith)
+    let args = start .args in
+    at .inv .1 ∙ fit-next (args .d) (args .b) (at .column) (args .regions .now) (at .i) (c .before .before .loop-test .taken)
+    ∙ rw (width (start .pre) (c .column-bits .ensures) .is, shifted (getD (args .regions .now) (at .i) 0) (bitsOf (args .d) (args .b) (suc (at .column))))
 
 returns : tie.Need-returns Inv-loop μ-loop
 returns c = sym (turn (c .before) ∙ rw (ne-eqb _ 0 (c .if1 .taken)))
