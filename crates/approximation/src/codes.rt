@@ -72,10 +72,13 @@ fn check_lengths(d: usize, b: usize, n: usize, regions: usize, codes: usize) -> 
     if !limits::is_vector_count(n) {
         return Verdict::Refused(Refusal::Count);
     }
-    if regions == n * d && codes == (n * b + 7) / 8 {
-        return Verdict::Accepted;
+    if regions != n * d {
+        return Verdict::Refused(Refusal::Length);
     }
-    Verdict::Refused(Refusal::Length)
+    if codes != (n * b + 7) / 8 {
+        return Verdict::Refused(Refusal::Length);
+    }
+    Verdict::Accepted
 }
 
 // Whether each region number is one of its dimension's.
