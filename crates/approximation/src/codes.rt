@@ -1,6 +1,7 @@
 // Codes: the region numbers of vectors, a row of d numbers for each, packed into bytes and unpacked again.
 use crate::bits::bits_at;
 use crate::bits::low;
+use limits::MAX_VECTORS;
 use refusal::Refusal;
 use refusal::Verdict;
 ghost use mathlib.Core.Path.{_≡_};
@@ -14,7 +15,7 @@ ghost use Rattle.limits.specs.Limits.{maxDimensions, maxVectors};
 ghost use Rattle.layout.specs.Stretch.{Shape};
 ghost use Rattle.approximation.specs.Bits.{bytesOf, byteBits};
 ghost use Rattle.approximation.specs.Codes.{nextColumn, joined, regionsFit, packed, split, unpacked};
-ghost use Rattle.approximation.specs.Pack.{lengthCauses, sizeCauses, packCauses, unpackCauses};
+ghost use Rattle.approximation.specs.Pack.{lengthCauses, sizeCauses, packCauses, unpackCauses, regionNamed};
 
 // n rows of region numbers packed into codes of b bits. Refused are numbers of dimensions, bits or vectors out of their limits, buffers
 // of other lengths, and a region number past the last of its dimension.
@@ -52,6 +53,22 @@ pub fn unpack(d: usize, b: usize, n: usize, codes: &[u8], regions: &mut [u8]) ->
             Verdict::Accepted
         }
         Verdict::Refused(cause) => Verdict::Refused(cause),
+    }
+}
+
+// The region that code i names for dimension j, from 1; 0 where there is no such dimension, and for an i past MAX_VECTORS.
+pub fn code_region(d: usize, b: usize, codes: &[u8], i: usize, j: usize) -> usize
+    ensures { λ r. ⌜ r ≡ regionNamed d b (now (codes .entry)) i j ⌝ }
+{
+    if MAX_VECTORS <= i {
+        return 0;
+    }
+    match layout::check_dimension(d, b, j) {
+        Verdict::Accepted => {
+            let from = i * b + layout::bits_before(d, b, j);
+            bits_at(codes, from, column_bits(b / d, b % d, j - 1))
+        }
+        Verdict::Refused(_) => 0,
     }
 }
 
