@@ -3,3 +3,4 @@ pub mod ReadBack
 pub mod Halving
 mod Filled
 mod Columns
+mod Prefix
