@@ -14,3 +14,5 @@ pub mod Stable
 pub mod Changed
 pub mod Needed
 pub mod Least
+pub mod Kept
+pub mod Place
