@@ -16,3 +16,4 @@ pub mod Needed
 pub mod Least
 pub mod Kept
 pub mod Place
+pub mod Holds
