@@ -7,12 +7,20 @@ use refusal::Verdict;
 use whole::compare::at_most;
 use whole::compare::is_below;
 ghost use mathlib.Core.Path.{_≡_};
-ghost use Prim.Native.Nat.{_≤_, _<_};
+ghost use mathlib.Core.Bool.{_&&_};
+ghost use Prim.Native.Nat.{suc, _≤_, _<_};
+ghost use lib.IntN.{pos};
+ghost use lib.Dec.{eqb};
+ghost use lib.ListN.{getD};
 ghost use Rattle.refusal.specs.declared.Verdict.the-variants.{Accepted};
 ghost use Rattle.refusal.specs.First.{first};
 ghost use Rattle.limits.specs.Limits.{maxVectors};
+ghost use Rattle.layout.specs.Layout.{firstMarks};
 ghost use Rattle.layout.specs.Stretch.{shapeCauses};
-ghost use Rattle.approximation.specs.Cells.{inFirst, noneEmpty, noEmptyCodes};
+ghost use Rattle.partition.specs.Marks.{dimensionMarks};
+ghost use Rattle.partition.specs.Region.{inRegion};
+ghost use Rattle.approximation.specs.Codes.{codeLength, codeRegion};
+ghost use Rattle.approximation.specs.Cells.{inFirst, hasValue, noneEmpty, noEmptyCodes};
 ghost use Rattle.approximation.specs.CellCauses.{cellHolds, namedCauses, shapedCodeCauses, codeCauses};
 ghost use Rattle.approximation.specs.CellLaws.{markPlace, Named};
 
@@ -38,11 +46,7 @@ fn all_in_regions(d: usize, b: usize, marks: &[i32], codes: &[u8], i: usize, vec
 {
     let mut t = 0;
     while t < d {
-        let at = lower_mark(d, b, codes, i, t);
-        if !at_most(marks, at, vector, t) {
-            return false;
-        }
-        if !is_below(vector, t, marks, at + 1) {
+        if !in_region(d, b, marks, codes, i, vector, t) {
             return false;
         }
         t += 1;
@@ -67,16 +71,21 @@ fn check_shaped(d: usize, b: usize, n: usize, marks: &[i32], codes: &[u8]) -> Ve
     if !limits::is_vector_count(n) {
         return Verdict::Refused(Refusal::Count);
     }
-    if marks.len() != layout::marks_length(d, b) {
-        return Verdict::Refused(Refusal::Length);
-    }
-    if codes.len() != (n * b + 7) / 8 {
+    if !exact_lengths(d, b, n, marks.len(), codes.len()) {
         return Verdict::Refused(Refusal::Length);
     }
     match partition::marks::check_marks(d, b, marks) {
         Verdict::Accepted => check_named(d, b, n, marks, codes),
         Verdict::Refused(_) => Verdict::Refused(Refusal::Mark),
     }
+}
+
+// Whether the marks and the codes are as many as they must be.
+fn exact_lengths(d: usize, b: usize, n: usize, marks: usize, codes: usize) -> bool
+    requires { ⌜ (first (shapeCauses d b) ≡ Accepted) × (n ≤ maxVectors) ⌝ }
+    ensures { λ r. ⌜ r ≡ eqb marks (firstMarks d b d) && eqb codes (codeLength b n) ⌝ }
+{
+    marks == layout::marks_length(d, b) && codes == (n * b + 7) / 8
 }
 
 // The same where only 9 is left.
@@ -115,13 +124,39 @@ fn none_empty(d: usize, b: usize, marks: &[i32], codes: &[u8], i: usize) -> bool
 {
     let mut t = 0;
     while t < d {
-        let at = lower_mark(d, b, codes, i, t);
-        if !is_below(marks, at, marks, at + 1) {
+        if !has_value(d, b, marks, codes, i, t) {
             return false;
         }
         t += 1;
     }
     true
+}
+
+// Whether the component of dimension t + 1 lies in the region that code i names for it.
+fn in_region(
+    d: usize,
+    b: usize,
+    marks: &[i32],
+    codes: &[u8],
+    i: usize,
+    vector: &[i32],
+    t: usize,
+) -> bool
+    requires { ⌜ (first (shapeCauses d b) ≡ Accepted) × (t < d) × (i < maxVectors) ⌝ }
+    ensures { λ r. ⌜ r ≡ inRegion (dimensionMarks d b (now (marks .entry)) (suc t)) (codeRegion d b (now (codes .entry)) i t)
+        (getD (now (vector .entry)) t (pos 0)) ⌝ }
+{
+    let at = lower_mark(d, b, codes, i, t);
+    at_most(marks, at, vector, t) && is_below(vector, t, marks, at + 1)
+}
+
+// Whether that region has a value.
+fn has_value(d: usize, b: usize, marks: &[i32], codes: &[u8], i: usize, t: usize) -> bool
+    requires { ⌜ (first (shapeCauses d b) ≡ Accepted) × (t < d) × (i < maxVectors) ⌝ }
+    ensures { λ r. ⌜ r ≡ hasValue (dimensionMarks d b (now (marks .entry)) (suc t)) (codeRegion d b (now (codes .entry)) i t) ⌝ }
+{
+    let at = lower_mark(d, b, codes, i, t);
+    is_below(marks, at, marks, at + 1)
 }
 
 // Where the lower mark of the region that code i names for dimension t + 1 stands in the marks buffer.

@@ -1,60 +1,59 @@
+-- `all_in_regions` meets its contract: the components passed lie in their regions. Assumes nothing.
+use mathlib.Core.Path.{_≡_, refl, sym, ap, _∙_}
+use mathlib.Core.Bool.{true}
+use mathlib.Core.List.{List}
+use Prim.Native.Nat.{ℕ, suc, _-_, _≤_, zero-le}
+use native.Mathlib.Numerals.{add-one}
+use native.Mathlib.Omega.{arith}
+use borrow.Author.Needs.{needs}
+use borrow.Author.Tests.{not-true, not-false}
+use lib.IntN.{ℤ, pos}
+use lib.ListN.{getD}
+use Rattle.limits.specs.Tests.{All, all-next, all-fails}
+use Rattle.partition.specs.Marks.{dimensionMarks}
+use Rattle.partition.specs.Region.{inRegion}
+use Rattle.approximation.specs.Codes.{codeRegion}
+use Rattle.approximation.specs.Cells.{inFirst}
 use Rattle.approximation.proofs.cells.all_in_regions.Statement.{statement}
 use Rattle.approximation.proofs.cells.all_in_regions.Tie as tie
-use Rattle.approximation.proofs.cells.all_in_regions.Reads as reads
-use Rattle.approximation.proofs.cells.all_in_regions.Lts as lts
-use Rattle.approximation.proofs.cells.lower_mark.Reads as lower-mark-reads
-use Rattle.whole.proofs.compare.at_most.Reads as at-most-reads
-use Rattle.whole.proofs.compare.is_below.Reads as is-below-reads
 
 abbrev Inv-loop : tie.InvT-loop
-Inv-loop d b marks codes i vector t₀ t = ?
+Inv-loop d b marks codes i vector t₀ t = (t ≤ d) × (inFirst d b marks codes i vector t ≡ true)
 
 abbrev μ-loop : tie.MeasureT-loop
-μ-loop d b marks codes i vector t₀ t = ?
+μ-loop d b marks codes i vector t₀ t = d - t
 
--- src/cells.rt:40:5
+tests : (d b : ℕ) (marks : List ℤ) (codes : List ℕ) (i : ℕ) (vector : List ℤ)
+    → All (inFirst d b marks codes i vector) (λ t. inRegion (dimensionMarks d b marks (suc t)) (codeRegion d b codes i t) (getD vector t (pos 0)))
+unfolding inFirst
+tests d b marks codes i vector = record { next = λ t. refl }
+
 loop-holds : tie.Need-loop-holds Inv-loop μ-loop
-loop-holds c = ?
+unfolding inFirst
+loop-holds c = (zero-le, refl)
 
--- src/cells.rt:41:13
-lower-mark-requires : tie.Need-lower-mark-requires Inv-loop μ-loop
-lower-mark-requires c κs = ?
-
--- src/cells.rt:42:13
-at-most-requires : tie.Need-at-most-requires Inv-loop μ-loop
-at-most-requires c κs = ?
-
--- src/cells.rt:43:13
 returns : tie.Need-returns Inv-loop μ-loop
-returns c = ?
+returns c =
+    let args = c .before .before .before .before .before .args in
+    sym
+    (all-fails (tests (args .d) (args .b) (args .marks .now) (args .codes .now) (args .i) (args .vector .now)) (args .d) (c .before .before .before .loop .t)
+    (c .before .before .loop-test .taken) (sym (c .before .in-region .ensures) ∙ not-true (c .before .in-region .result) (c .if1 .taken)))
 
--- src/cells.rt:45:40
-add-is-below : tie.Need-add-is-below Inv-loop μ-loop
-add-is-below c = ?
-
--- src/cells.rt:45:13
-is-below-requires : tie.Need-is-below-requires Inv-loop μ-loop
-is-below-requires c κs = ?
-
--- src/cells.rt:46:13
-returns-2 : tie.Need-returns-2 Inv-loop μ-loop
-returns-2 c = ?
-
--- src/cells.rt:48:9
-add-t : tie.Need-add-t Inv-loop μ-loop
-add-t c = ?
-
--- src/cells.rt:40:5
-loop-less : tie.Need-loop-less Inv-loop μ-loop
-loop-less c = ?
-
--- src/cells.rt:40:5
 loop-again : tie.Need-loop-again Inv-loop μ-loop
-loop-again c = ?
+loop-again c =
+    let args = c .before .before .before .before .before .args in
+    let at = c .before .before .before .loop in (
+      omega arith,
+      rw (add-one (at .t))
+          (all-next (tests (args .d) (args .b) (args .marks .now) (args .codes .now) (args .i) (args .vector .now)) (at .t) (at .inv .1)
+          ∙ sym (c .before .in-region .ensures) ∙ not-false (c .before .in-region .result) (c .if1 .left)),
+    )
 
--- src/cells.rt:35:1
-returns-3 : tie.Need-returns-3 Inv-loop μ-loop
-returns-3 c = ?
+returns-2 : tie.Need-returns-2 Inv-loop μ-loop
+returns-2 c =
+    let args = c .before .before .before .args in
+    let all : c .before .loop .t ≡ args .d = omega arith in
+    sym (ap (inFirst (args .d) (args .b) (args .marks .now) (args .codes .now) (args .i) (args .vector .now)) (sym all) ∙ c .before .loop .inv .1)
 
 pub all-in-regions-spec : {M : Type 1} → statement M
 all-in-regions-spec =
@@ -63,13 +62,9 @@ all-in-regions-spec =
     Inv-loop
     μ-loop
     loop-holds
-    lower-mark-requires
-    at-most-requires
+    (λ c κs. (c .before .before .before .pre .0, c .loop-test .taken, c .before .before .before .pre .1))
     returns
-    add-is-below
-    is-below-requires
-    returns-2
-    add-t
-    loop-less
+    (λ c. omega arith)
+    (λ c. omega arith)
     loop-again
-    returns-3)
+    returns-2)

@@ -1,51 +1,56 @@
+-- `none_empty` meets its contract: the regions passed have values. Assumes nothing.
+use mathlib.Core.Path.{_≡_, refl, sym, ap, _∙_}
+use mathlib.Core.Bool.{true}
+use mathlib.Core.List.{List}
+use Prim.Native.Nat.{ℕ, suc, _-_, _≤_, zero-le}
+use native.Mathlib.Numerals.{add-one}
+use native.Mathlib.Omega.{arith}
+use borrow.Author.Needs.{needs}
+use borrow.Author.Tests.{not-true, not-false}
+use lib.IntN.{ℤ}
+use Rattle.limits.specs.Tests.{All, all-next, all-fails}
+use Rattle.partition.specs.Marks.{dimensionMarks}
+use Rattle.approximation.specs.Codes.{codeRegion}
+use Rattle.approximation.specs.Cells.{hasValue, noneEmpty}
 use Rattle.approximation.proofs.cells.none_empty.Statement.{statement}
 use Rattle.approximation.proofs.cells.none_empty.Tie as tie
-use Rattle.approximation.proofs.cells.none_empty.Reads as reads
-use Rattle.approximation.proofs.cells.none_empty.Lts as lts
-use Rattle.approximation.proofs.cells.lower_mark.Reads as lower-mark-reads
-use Rattle.whole.proofs.compare.is_below.Reads as is-below-reads
 
 abbrev Inv-loop : tie.InvT-loop
-Inv-loop d b marks codes i t₀ t = ?
+Inv-loop d b marks codes i t₀ t = (t ≤ d) × (noneEmpty d b marks codes i t ≡ true)
 
 abbrev μ-loop : tie.MeasureT-loop
-μ-loop d b marks codes i t₀ t = ?
+μ-loop d b marks codes i t₀ t = d - t
 
--- src/cells.rt:117:5
+tests : (d b : ℕ) (marks : List ℤ) (codes : List ℕ) (i : ℕ) → All (noneEmpty d b marks codes i) (λ t. hasValue (dimensionMarks d b marks (suc t)) (codeRegion d b codes i t))
+unfolding noneEmpty
+tests d b marks codes i = record { next = λ t. refl }
+
 loop-holds : tie.Need-loop-holds Inv-loop μ-loop
-loop-holds c = ?
+unfolding noneEmpty
+loop-holds c = (zero-le, refl)
 
--- src/cells.rt:118:13
-lower-mark-requires : tie.Need-lower-mark-requires Inv-loop μ-loop
-lower-mark-requires c κs = ?
-
--- src/cells.rt:119:40
-add-is-below : tie.Need-add-is-below Inv-loop μ-loop
-add-is-below c = ?
-
--- src/cells.rt:119:13
-is-below-requires : tie.Need-is-below-requires Inv-loop μ-loop
-is-below-requires c κs = ?
-
--- src/cells.rt:120:13
 returns : tie.Need-returns Inv-loop μ-loop
-returns c = ?
+returns c =
+    let args = c .before .before .before .before .before .args in
+    sym
+    (all-fails (tests (args .d) (args .b) (args .marks .now) (args .codes .now) (args .i)) (args .d) (c .before .before .before .loop .t)
+    (c .before .before .loop-test .taken) (sym (c .before .has-value .ensures) ∙ not-true (c .before .has-value .result) (c .if1 .taken)))
 
--- src/cells.rt:122:9
-add-t : tie.Need-add-t Inv-loop μ-loop
-add-t c = ?
-
--- src/cells.rt:117:5
-loop-less : tie.Need-loop-less Inv-loop μ-loop
-loop-less c = ?
-
--- src/cells.rt:117:5
 loop-again : tie.Need-loop-again Inv-loop μ-loop
-loop-again c = ?
+loop-again c =
+    let args = c .before .before .before .before .before .args in
+    let at = c .before .before .before .loop in (
+      omega arith,
+      rw (add-one (at .t))
+          (all-next (tests (args .d) (args .b) (args .marks .now) (args .codes .now) (args .i)) (at .t) (at .inv .1)
+          ∙ sym (c .before .has-value .ensures) ∙ not-false (c .before .has-value .result) (c .if1 .left)),
+    )
 
--- src/cells.rt:112:1
 returns-2 : tie.Need-returns-2 Inv-loop μ-loop
-returns-2 c = ?
+returns-2 c =
+    let args = c .before .before .before .args in
+    let all : c .before .loop .t ≡ args .d = omega arith in
+    sym (ap (noneEmpty (args .d) (args .b) (args .marks .now) (args .codes .now) (args .i)) (sym all) ∙ c .before .loop .inv .1)
 
 pub none-empty-spec : {M : Type 1} → statement M
 none-empty-spec =
@@ -54,11 +59,9 @@ none-empty-spec =
     Inv-loop
     μ-loop
     loop-holds
-    lower-mark-requires
-    add-is-below
-    is-below-requires
+    (λ c κs. (c .before .before .before .pre .0, c .loop-test .taken, c .before .before .before .pre .1))
     returns
-    add-t
-    loop-less
+    (λ c. omega arith)
+    (λ c. omega arith)
     loop-again
     returns-2)
