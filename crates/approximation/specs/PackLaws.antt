@@ -1,11 +1,11 @@
 -- Laws of codes: packing and unpacking undo each other, and where a region number stands in its code. Assumes nothing.
 use mathlib.Core.Path.{_≡_, refl, sym, ap, _∙_}
-use mathlib.Core.Bool.{Bool, true, false, _&&_, cond, and-eq-true-iff}
+use mathlib.Core.Bool.{Bool, true, false, cond, and-eq-true-iff}
 use mathlib.Core.List.{List, [], _∷_, _++_, append-assoc}
 use Prim.Native.Nat.{ℕ, zero, suc, _+_, _-_, _*_, _/_, _%_, _^_, _≤_, _<_}
-use native.Mathlib.Nat.{le-of-suc-le-suc, suc-add, add-suc, add-comm, add-assoc, add-zero, zero-add, zero-mul, suc-mul, zero-div, zero-mod, mul-mod-left, mul-div-left, mod-lt, mod-eq-of-lt, div-add-mod'}
+use native.Mathlib.Nat.{le-of-suc-le-suc, suc-add, add-suc, add-assoc, add-zero, zero-add, zero-mul, suc-mul, zero-div, zero-mod, mul-mod-left, mul-div-left, mod-lt, mod-eq-of-lt, div-add-mod'}
 use native.Mathlib.Omega.{arith}
-use borrow.Author.Tests.{ltb-true, lt-ltb, eqb-true, eqb-false, eq-eqb, ne-eqb}
+use borrow.Author.Tests.{ltb-true, lt-ltb, eqb-true, eqb-false}
 use lib.Arith.{digits-lt, digits-div, digits-mod}
 use lib.Dec.{eqb, lit≤}
 use lib.ListN.{length, getD, drop, replicate, length-append, length-drop}

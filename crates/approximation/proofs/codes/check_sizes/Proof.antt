@@ -1,7 +1,6 @@
 -- `codes::check_sizes` meets its contract: the shape's causes come first. Assumes nothing.
 use mathlib.Core.Path.{sym, _∙_}
 use borrow.Author.Needs.{needs}
-use Rattle.refusal.specs.First.{first}
 use Rattle.layout.specs.Stretch.{shapeCauses, shape}
 use Rattle.approximation.specs.Pack.{lengthCauses, append-accepted, append-refused}
 use Rattle.approximation.proofs.codes.check_sizes.Statement.{statement}

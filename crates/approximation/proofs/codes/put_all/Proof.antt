@@ -1,20 +1,17 @@
 -- `codes::put_all` meets its contract: the bytes written so far, then the bits that wait and those of the numbers that are left, are the
 -- whole. Assumes nothing.
-use mathlib.Core.Path.{_≡_, refl, sym, ap, _∙_}
+use mathlib.Core.Path.{_≡_, refl}
 use mathlib.Core.Bool.{true, and-eq-true-iff}
-use mathlib.Core.List.{List, [], _∷_, _++_}
-use Prim.Native.Nat.{ℕ, zero, suc, _+_, _-_, _*_, _/_, _%_, _^_, _≤_, _<_}
+use mathlib.Core.List.{List, []}
+use Prim.Native.Nat.{ℕ, suc, _+_, _-_, _*_, _/_, _%_, _^_, _≤_, _<_}
 use native.Mathlib.Nat.{sub-zero}
-use native.Mathlib.Numerals.{add-one}
 use native.Mathlib.Omega.{arith}
-use borrow.Author.Needs.{needs}
 use borrow.Author.Tests.{ltb-true}
 use lib.Dec.{ltb}
-use lib.ListN.{length, getD, take, drop, set, length-set, drop-of-length-le}
+use lib.ListN.{length, getD, drop, set, length-set, drop-of-length-le}
 use lib.Pow.{pow-mono, shl-exact}
-use lib.Seq.{drop-cons}
 use Rattle.layout.specs.Layout.{bitsOf}
-use Rattle.approximation.specs.Bits.{lowBits, bytesOf}
+use Rattle.approximation.specs.Bits.{lowBits}
 use Rattle.approximation.specs.Codes.{nextColumn, joined, regionsFit}
 use Rattle.approximation.proofs.Columns.{Width, fewest, width, next-below, fit-next, joined-next}
 use Rattle.approximation.proofs.Writing.{Writing, push, has-room, is-byte, emit, no-bits, last-lt, last-byte}
