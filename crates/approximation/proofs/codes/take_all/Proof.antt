@@ -8,6 +8,7 @@ use borrow.Author.Needs.{needs}
 use lib.ListN.{length, take, drop, set, length-set}
 use lib.Seq.{drop-drop}
 use Rattle.order.proofs.Written.{written-one, written-all}
+use Rattle.limits.specs.Limits.{maxDimensionBits}
 use Rattle.approximation.specs.Bits.{byteBits, bitsAt}
 use Rattle.approximation.specs.BitLaws.{bits-at, bits-at-lt}
 use Rattle.approximation.specs.Codes.{nextColumn, split}
@@ -20,7 +21,7 @@ record Taking (d b : ℕ) (codes regions : List ℕ) (n column i from : ℕ) : T
   within : i ≤ n
   room : length regions ≡ n
   inside : column < d
-  near : from ≤ 6 * i
+  near : from ≤ maxDimensionBits * i
   so-far : take i regions ++ split d b column (n - i) (drop from (byteBits codes)) ≡ split d b 0 n (byteBits codes)
 
 abbrev Inv-loop : tie.InvT-loop
