@@ -9,13 +9,13 @@ use native.Mathlib.Omega.{arith}
 use lib.Dec.{eqb}
 use lib.ListN.{length}
 use borrow.Author.Tests.{eqb-false}
+use Rattle.order.specs.Members.{_∈_, Distinct, none, more}
 use Rattle.selection.specs.Settles.{Settles, Within, Needed, fixed, changed}
-use Rattle.selection.specs.Members.{_∈_, Distinct, none, more}
 use Rattle.selection.specs.Changed.{changed-elsewhere, changed-holds}
 
 -- ---- a set that settles the answer
 
-member? : (i : ℕ) (is : List ℕ) → Dec (i ∈ is)
+pub member? : (i : ℕ) (is : List ℕ) → Dec (i ∈ is)
 member? i [] = no List·Memᴰ·not-nil
 member? i (j ∷ is) = go (ℕ-discrete i j) (member? i is)
   where

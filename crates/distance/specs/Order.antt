@@ -1,0 +1,38 @@
+-- Tests of order on whole numbers. Assumes nothing.
+use mathlib.Core.Path.{_≡_, refl, sym, ap, _∙_, subst}
+use mathlib.Core.Bool.{Bool, true, false, not}
+use Prim.Native.Nat.{zero, suc}
+use native.Mathlib.Omega.{arith}
+use borrow.Author.Tests.{ltb-true, le-leb}
+use lib.Dec.{T, leb·zero, leb·suc-zero, leb·suc-suc}
+use lib.IntN.{ℤ, pos, negsuc, predℤ}
+use lib.Signed.{leZ, ltZ, leZ-yes, ltZ-yes, <ℤ-≤ℤ-trans, clashℤ}
+use Rattle.limits.specs.Tests.{leZ-not}
+
+pub le-self : (a : ℤ) → leZ a a ≡ true
+le-self (pos a) = le-leb a a (omega arith)
+le-self (negsuc a) = le-leb a a (omega arith)
+
+pub lt-le : (a b : ℤ) → ltZ a b ≡ true → leZ a b ≡ true
+lt-le (pos a) (pos b) h = le-leb a b (omega (arith, ltb-true a b h))
+lt-le (pos a) (negsuc b) h = h
+lt-le (negsuc a) (pos b) h = refl
+lt-le (negsuc a) (negsuc b) h = le-leb b a (omega (arith, ltb-true b a h))
+
+-- below a number is at most the one before it
+pub lt-pred : (a b : ℤ) → ltZ a b ≡ leZ a (predℤ b)
+lt-pred (pos a) (pos zero) = leb·suc-zero a
+lt-pred (pos a) (pos (suc b)) = leb·suc-suc a b
+lt-pred (pos a) (negsuc b) = refl
+lt-pred (negsuc a) (pos zero) = sym (leb·zero a)
+lt-pred (negsuc a) (pos (suc b)) = refl
+lt-pred (negsuc a) (negsuc b) = refl
+
+pub le-trans : (a b c : ℤ) → leZ a b ≡ true → leZ b c ≡ true → leZ a c ≡ true
+le-trans a b c ab bc = go (ltZ c a) refl
+  where
+    go : (t : Bool) → ltZ c a ≡ t → leZ a c ≡ true
+    go true e =
+        clashℤ {a = c} {b = b} (<ℤ-≤ℤ-trans {b = a} (ltZ-yes (subst T (sym e) tt)) (leZ-yes (subst T (sym ab) tt)))
+        (leZ-yes (subst T (sym bc) tt))
+    go false e = leZ-not c a ∙ ap not e
