@@ -6,8 +6,7 @@ use Prim.Native.Nat.{ℕ}
 use Rattle.refusal.specs.declared.Refusal.{Refusal}
 use Rattle.refusal.specs.declared.Verdict.{Verdict}
 use Rattle.refusal.specs.declared.Verdict.the-variants.{Accepted, Refused}
-use Rattle.refusal.specs.First.{Row, _⇒_, first, outcome, first-here, first-next}
-use Rattle.approximation.specs.Pack.{append-accepted, append-refused}
+use Rattle.refusal.specs.First.{Row, _⇒_, first, outcome, outcome-accepted, outcome-refused, first-here, first-next, first-append}
 
 -- the verdict is the first cause's, and the buffer holds what is new, or what it held before
 abbrev pub Answer : List Row → List ℕ → List ℕ → Verdict → List ℕ → Type 0
@@ -18,13 +17,13 @@ refuse rows old new refused = (sym refused, rw refused)
 
 module _ (rows : List Row) (test : Bool) (last : Refusal) (old new : List ℕ) where
   pub refused-before : {cause : Refusal} → first rows ≡ Refused cause → Answer (rows ++ ((test ⇒ last) ∷ [])) old new (Refused cause) old
-  refused-before refused = refuse _ old new (append-refused rows _ refused)
+  refused-before refused = refuse _ old new (first-append rows _ ∙ outcome-refused _ _ refused)
 
   pub refused-last : first rows ≡ Accepted → test ≡ true → Answer (rows ++ ((test ⇒ last) ∷ [])) old new (Refused last) old
-  refused-last accepted holds = refuse _ old new (append-accepted rows _ accepted ∙ first-here last [] holds)
+  refused-last accepted holds = refuse _ old new (first-append rows _ ∙ outcome-accepted _ _ accepted ∙ first-here last [] holds)
 
   pub accepted-all : first rows ≡ Accepted → test ≡ false → {now : List ℕ} → now ≡ new → Answer (rows ++ ((test ⇒ last) ∷ [])) old new Accepted now
   unfolding first
   accepted-all accepted fails is =
-      let none : first (rows ++ ((test ⇒ last) ∷ [])) ≡ Accepted = append-accepted rows _ accepted ∙ first-next last [] fails in
+      let none : first (rows ++ ((test ⇒ last) ∷ [])) ≡ Accepted = first-append rows _ ∙ outcome-accepted _ _ accepted ∙ first-next last [] fails in
       (sym none, rw none is)
