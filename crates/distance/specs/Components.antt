@@ -14,11 +14,11 @@ areComponents [] = true
 areComponents (z ∷ zs) = isComponent z && areComponents zs
 
 -- each is then, and 0 past the end; and where each is, all are
-pub component-at : (zs : List ℤ) (t : ℕ) → areComponents zs ≡ true → isComponent (getD zs t (pos 0)) ≡ true
+pub component-at : (zs : List ℤ) → areComponents zs ≡ true → (t : ℕ) → isComponent (getD zs t (pos 0)) ≡ true
 unfolding areComponents
-component-at [] t h = refl
-component-at (z ∷ zs) zero h = and-eq-true-iff (isComponent z) (areComponents zs) .0 h .0
-component-at (z ∷ zs) (suc t) h = component-at zs t (and-eq-true-iff (isComponent z) (areComponents zs) .0 h .1)
+component-at [] h t = refl
+component-at (z ∷ zs) h zero = and-eq-true-iff (isComponent z) (areComponents zs) .0 h .0
+component-at (z ∷ zs) h (suc t) = component-at zs (and-eq-true-iff (isComponent z) (areComponents zs) .0 h .1) t
 
 pub all-components : (zs : List ℤ) → ((t : ℕ) → t < length zs → isComponent (getD zs t (pos 0)) ≡ true) → areComponents zs ≡ true
 unfolding areComponents

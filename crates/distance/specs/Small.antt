@@ -16,7 +16,7 @@ use Rattle.approximation.specs.Codes.{codeRegion}
 use Rattle.distance.specs.Distance.{gap, squared, firstDistance, distanceOf}
 use Rattle.distance.specs.Bounds.{shortest, longest, firstBound, lowerOf, upperOf}
 use Rattle.distance.specs.Components.{areComponents, component-at}
-use Rattle.distance.specs.Places.{gap-size}
+use Rattle.distance.specs.Places.{gap-size, pred-size}
 use Rattle.distance.specs.Steps.{shortest-le-longest}
 use Rattle.distance.specs.CellBounds.{squared-le}
 use Rattle.distance.specs.CellComponents.{good-mark}
@@ -38,11 +38,6 @@ component-size z h =
     let within = within-size 32767 z (both .0) (both .1) (omega arith) in
     omega arith
 
-pred-size : (z : ℤ) → mag (predℤ z) ≤ mag z + 1
-pred-size (pos zero) = zero-le
-pred-size (pos (suc n)) = omega arith
-pred-size (negsuc n) = omega arith
-
 longest-size : (q low high : ℤ) → mag q ≤ 32768 → mag low ≤ 32768 → mag high ≤ 32768 → longest q low high ≤ 2 ^ 17
 unfolding longest
 longest-size q low high hq hl hh = omega (arith, gap-size q low, gap-size q (predℤ high), pred-size high)
@@ -63,7 +58,7 @@ squares-small sum step none more (suc n) small =
 
 module _ (query : List ℤ) (known : areComponents query ≡ true) where
   query-size : (t : ℕ) → mag (getD query t (pos 0)) ≤ 32768
-  query-size t = component-size (getD query t (pos 0)) (component-at query t known)
+  query-size t = component-size (getD query t (pos 0)) (component-at query known t)
 
   pub distance-small : (vector : List ℤ) → areComponents vector ≡ true → (d : ℕ) → d ≤ maxDimensions → distanceOf d query vector < 2 ^ 64
   distance-small vector vectors d few =
@@ -75,7 +70,7 @@ module _ (query : List ℤ) (known : areComponents query ≡ true) where
       step t h =
           omega
           (arith, gap-size (getD query t (pos 0)) (getD vector t (pos 0)), query-size t,
-            component-size (getD vector t (pos 0)) (component-at vector t vectors))
+            component-size (getD vector t (pos 0)) (component-at vector vectors t))
 
   module _ (d b : ℕ) (marks : List ℤ) (good : goodMarks d b marks ≡ true) (few : d ≤ maxDimensions) (codes : List ℕ) (i : ℕ) where
     bound-small : (step : ℤ → ℤ → ℤ → ℕ) → ((q low high : ℤ) → mag q ≤ 32768 → mag low ≤ 32768 → mag high ≤ 32768 → step q low high ≤ 2 ^ 17)
