@@ -14,10 +14,9 @@ use lib.Seq.{getD-at}
 use Rattle.partition.specs.Marks.{dimensionMarks}
 use Rattle.partition.specs.Region.{inRegion}
 use Rattle.approximation.specs.Codes.{codeRegion}
-use Rattle.approximation.specs.Cells.{InCell, inFirst}
+use Rattle.approximation.specs.Cells.{InCell, inFirst, hasValue, noneEmpty}
 use Rattle.distance.specs.Distance.{squared, gap, firstDistance, distanceOf}
 use Rattle.distance.specs.Bounds.{shortest, longest, stepTo, firstBound, lowerOf, upperOf}
-use Rattle.distance.specs.Empty.{hasValue, noneEmpty}
 use Rattle.distance.specs.Steps.{Inside, shortest-le, le-longest, Reached, shortest-reached, longest-reached}
 
 pub squared-le : {a b : ℕ} → a ≤ b → squared a ≤ squared b

@@ -15,7 +15,7 @@ use Rattle.partition.specs.Marks.{dimensionMarks, notAbove, goodDimension, good
 use Rattle.partition.specs.Region.{inRegion}
 use Rattle.approximation.specs.Codes.{codeRegion}
 use Rattle.approximation.specs.Cells.{InCell, inFirst}
-use Rattle.distance.specs.Components.{areComponents, all-components}
+use Rattle.whole.specs.Components.{areComponents, all-components}
 use Rattle.distance.specs.Order.{lt-pred, le-trans}
 use Rattle.distance.specs.Steps.{Inside}
 use Rattle.distance.specs.CellBounds.{in-region}

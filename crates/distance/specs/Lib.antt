@@ -1,7 +1,5 @@
 pub mod Distance
 pub mod Bounds
-pub mod Empty
-pub mod Components
 pub mod Order
 pub mod Places
 pub mod Steps

@@ -15,7 +15,7 @@ use Rattle.partition.specs.Marks.{dimensionMarks, goodMarks}
 use Rattle.approximation.specs.Codes.{codeRegion}
 use Rattle.distance.specs.Distance.{gap, squared, firstDistance, distanceOf}
 use Rattle.distance.specs.Bounds.{shortest, longest, firstBound, lowerOf, upperOf}
-use Rattle.distance.specs.Components.{areComponents, component-at}
+use Rattle.whole.specs.Components.{areComponents, component-at}
 use Rattle.distance.specs.Places.{gap-size, pred-size}
 use Rattle.distance.specs.Steps.{shortest-le-longest}
 use Rattle.distance.specs.CellBounds.{squared-le}

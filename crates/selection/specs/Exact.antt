@@ -7,11 +7,11 @@ use Prim.Native.Nat.{ℕ, _-_, _≤_}
 use native.Mathlib.Omega.{arith}
 use lib.ListN.{getD}
 use lib.Seq.{append-snoc}
-use Rattle.order.specs.Pair.{Pair, numbersOf}
-use Rattle.selection.specs.Reading.{pairOf, scan, Reading, leastPair, goesOn, readNext, reading}
-use Rattle.selection.specs.Members.{_∈_}
-use Rattle.selection.specs.Below.{AtMost, level, at-most-trans}
-use Rattle.selection.specs.Sorted.{Sorted, sorted-least, sorted-rest}
+use Rattle.order.specs.Pair.{Pair, pairOf, numbersOf}
+use Rattle.order.specs.AtMost.{AtMost, level, at-most-trans}
+use Rattle.order.specs.Members.{_∈_}
+use Rattle.order.specs.Sorted.{Sorted, sorted-least, sorted-rest}
+use Rattle.selection.specs.Reading.{scan, Reading, leastPair, goesOn, readNext, reading}
 use Rattle.selection.specs.Scan.{scan-late}
 use Rattle.selection.specs.Steps.{stopped, along, next-best}
 

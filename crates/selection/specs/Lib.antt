@@ -2,11 +2,6 @@ pub mod Reading
 pub mod Settles
 pub mod Theorems
 pub mod Loop
-pub mod Members
-pub mod Below
-pub mod Insertion
-pub mod Sorted
-pub mod Ranking
 pub mod Scan
 pub mod Steps
 pub mod Exact

@@ -7,10 +7,11 @@ use Prim.Native.Nat.{ℕ, suc, _≤_, _<_, min}
 use native.Mathlib.Omega.{arith}
 use lib.ListN.{length, take, drop, getD, drop-of-length-le}
 use lib.Seq.{take-suc, drop-cons, length-take-le}
-use Rattle.order.specs.Pair.{Pair, keyed, ranked}
-use Rattle.selection.specs.Reading.{pairOf, scan, Reading, unread, goesOn, readNext, reading, readingOrder, read}
-use Rattle.selection.specs.Sorted.{Sorted}
-use Rattle.selection.specs.Ranking.{ranked-count, ranked-keyed}
+use Rattle.order.specs.Pair.{Pair, pairOf, keyed, ranked}
+use Rattle.order.specs.Merge.{keyed-ranked}
+use Rattle.order.specs.Sorted.{Sorted}
+use Rattle.order.specs.Ranking.{ranked-count}
+use Rattle.selection.specs.Reading.{scan, Reading, unread, goesOn, readNext, reading, readingOrder, read}
 use Rattle.selection.specs.Scan.{scan-length, scan-sorted, scan-snoc}
 use Rattle.selection.specs.Steps.{unread-best}
 
@@ -55,7 +56,7 @@ module _ (k : ℕ) (low distance : ℕ → ℕ) (numbers : List ℕ) where
   reached-start =
       record {
         rest =
-            rw (ranked-keyed low numbers) (ap (λ (b : List Pair). reading k distance (ranked low numbers) (record { best = b; reads = [] })) (sym (unread-best k distance)));
+            rw (keyed-ranked low numbers) (ap (λ (b : List Pair). reading k distance (ranked low numbers) (record { best = b; reads = [] })) (sym (unread-best k distance)));
       }
 
   module _ (done : ℕ) (reached : Reached k low distance numbers done) where

@@ -8,15 +8,14 @@ use Prim.Native.Nat.{ℕ, _≤_}
 use native.Mathlib.Decide.{ℕ-discrete}
 use native.Mathlib.Omega.{arith}
 use lib.Seq.{append-snoc}
-use Rattle.order.specs.Pair.{Pair, ranked, numbersOf}
-use Rattle.selection.specs.Reading.{pairOf, scan, Reading, unread, goesOn, readNext, reading, read}
+use Rattle.order.specs.Pair.{Pair, pairOf, ranked, numbersOf}
+use Rattle.order.specs.AtMost.{AtMost, level, at-most-trans}
+use Rattle.order.specs.Members.{_∈_, member-ranked}
+use Rattle.order.specs.Sorted.{Sorted, ranked-sorted, sorted-least, sorted-rest}
+use Rattle.selection.specs.Reading.{scan, Reading, unread, goesOn, readNext, reading, read}
 use Rattle.selection.specs.Settles.{LowerBound, Bounds, Needed, changed}
 use Rattle.selection.specs.Changed.{changed-there, changed-elsewhere, changed-holds, changed-same}
-use Rattle.selection.specs.Members.{_∈_, member-ranked, member-scan}
-use Rattle.selection.specs.Below.{AtMost, level, at-most-trans}
-use Rattle.selection.specs.Sorted.{Sorted, sorted-least, sorted-rest}
-use Rattle.selection.specs.Ranking.{ranked-lower}
-use Rattle.selection.specs.Scan.{ranked-sorted, scan-snoc, scan-ranked, scan-keeps}
+use Rattle.selection.specs.Scan.{member-scan, ranked-lower, scan-snoc, scan-ranked, scan-keeps}
 use Rattle.selection.specs.Steps.{enters, along, unread-best, next-best, best-count}
 
 -- the next pair is read, and pairs behind it leave it in the answer

@@ -5,11 +5,7 @@ use mathlib.Core.List.{List, [], _∷_, _++_}
 use Prim.Native.Nat.{ℕ, _-_}
 use lib.Dec.{ltb}
 use lib.ListN.{length, take, getD}
-use Rattle.order.specs.Pair.{Pair, below, insert, ranked, numbersOf}
-
--- a number with its key
-abbrev pub pairOf : (ℕ → ℕ) → ℕ → Pair
-pairOf key i = record { key = key i; number = i }
+use Rattle.order.specs.Pair.{Pair, below, insert, pairOf, ranked, numbersOf}
 
 -- "A full scan's answer is the k least pairs (distance, number) over all patterns, least first."
 unfoldable pub scan : ℕ → (ℕ → ℕ) → List ℕ → List Pair

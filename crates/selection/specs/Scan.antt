@@ -1,20 +1,21 @@
--- The scan's answer: its length and order, and what one more number does to it. Assumes nothing.
+-- The scan's answer: its members, length and order, and what one more number does to it; and a ranking by lows. Assumes nothing.
 use mathlib.Core.Path.{_≡_, refl, sym, ap, _∙_}
 use mathlib.Core.List.{List, [], _∷_, _++_, append-nil, List·Memᴰ·head, List·Memᴰ·tail}
 use Prim.Native.Nat.{ℕ, _-_, _≤_, min}
 use native.Mathlib.Omega.{arith}
 use lib.ListN.{length, take, getD, length-take}
 use lib.Seq.{take-take}
-use Rattle.order.specs.Pair.{Pair, insert, keyed, ranked, numbersOf}
-use Rattle.selection.specs.Reading.{pairOf, scan, leastPair}
-use Rattle.selection.specs.Members.{_∈_}
-use Rattle.selection.specs.Below.{AtMost}
-use Rattle.selection.specs.Insertion.{insert-cut, length-ranked, ranked-insert, ranked-ranked}
-use Rattle.selection.specs.Sorted.{Sorted, sort-sorted, take-sorted, insert-late, stays-first}
+use Rattle.order.specs.Pair.{Pair, insert, pairOf, ranked, numbersOf}
+use Rattle.order.specs.AtMost.{AtMost}
+use Rattle.order.specs.Members.{_∈_, Entry, member-take, member-ranked}
+use Rattle.order.specs.Insertion.{insert-cut, length-ranked, ranked-insert, ranked-ranked}
+use Rattle.order.specs.Sorted.{Sorted, ranked-sorted, take-sorted, insert-late, stays-first}
+use Rattle.selection.specs.Reading.{scan, leastPair}
+use Rattle.selection.specs.Settles.{LowerBound}
 
-pub ranked-sorted : (key : ℕ → ℕ) (is : List ℕ) → Sorted (ranked key is)
-unfolding ranked
-ranked-sorted key is = sort-sorted (keyed key is)
+pub member-scan : {p : Pair} (k : ℕ) (key : ℕ → ℕ) (is : List ℕ) → p ∈ scan k key is → Entry key is p
+unfolding scan
+member-scan k key is m = member-ranked key is (member-take k (ranked key is) m)
 
 pub scan-sorted : (k : ℕ) (distance : ℕ → ℕ) (is : List ℕ) → Sorted (scan k distance is)
 unfolding scan
@@ -64,3 +65,10 @@ scan-keeps k distance before (p ∷ ps) late m =
     rw (ranked-insert distance before (p .number) (numbersOf ps))
     (stays-first k (pairOf distance (p .number)) (ranked-sorted distance (before ++ numbersOf ps)) (late p (List·Memᴰ·head refl))
     (scan-keeps k distance before ps (λ q n. late q (List·Memᴰ·tail n)) m))
+
+-- ---- a ranking by lows
+
+pub ranked-lower : (low distance : ℕ → ℕ) (is : List ℕ) → LowerBound low distance is → (q : Pair) → q ∈ ranked low is → q .key ≤ distance (q .number)
+ranked-lower low distance is lower q m =
+    let entry = member-ranked low is m in
+    rw (entry .its-key) (lower (q .number) (entry .its-number))

@@ -6,8 +6,8 @@ use mathlib.Core.List.{List, [], _∷_}
 use mathlib.Core.Logic.{_≢_}
 use Prim.Native.Nat.{ℕ, suc, _≤_}
 use lib.Dec.{eqb}
+use Rattle.order.specs.Members.{_∈_}
 use Rattle.selection.specs.Reading.{scan}
-use Rattle.selection.specs.Members.{_∈_}
 
 -- no low is above its number's distance
 abbrev pub LowerBound : (ℕ → ℕ) → (ℕ → ℕ) → List ℕ → Type 0

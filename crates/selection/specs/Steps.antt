@@ -10,9 +10,9 @@ use lib.ListN.{length, take, getD, length-append}
 use lib.Seq.{append-snoc, take-nil}
 use borrow.Author.Tests.{ltb-false, le-ltb}
 use Rattle.order.specs.Pair.{Pair, below, insert, sort, keyed, ranked, numbersOf}
+use Rattle.order.specs.AtMost.{AtMost, level, below-true, below-false, not-below}
+use Rattle.order.specs.Members.{_∈_}
 use Rattle.selection.specs.Reading.{scan, Reading, unread, leastPair, goesOn, readNext, reading}
-use Rattle.selection.specs.Members.{_∈_}
-use Rattle.selection.specs.Below.{AtMost, level, below-true, below-false, not-below}
 use Rattle.selection.specs.Scan.{scan-length, scan-snoc}
 
 -- ---- the test

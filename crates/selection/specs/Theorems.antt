@@ -9,13 +9,13 @@ use native.Mathlib.Omega.{arith}
 use lib.ListN.{length, take, drop, length-take, take-append-drop}
 use lib.Seq.{take-at}
 use Rattle.order.specs.Pair.{Pair, ranked}
+use Rattle.order.specs.Members.{_∈_, Distinct, Entry, member-take}
+use Rattle.order.specs.Insertion.{length-ranked}
+use Rattle.order.specs.Sorted.{Sorted, ranked-sorted}
+use Rattle.order.specs.Ranking.{ranked-count, ranked-among, ranked-distinct, take-distinct}
 use Rattle.selection.specs.Reading.{scan, Reading, unread, readingOrder, read}
 use Rattle.selection.specs.Settles.{LowerBound, Bounds, Within, Agree, Settles, Needed, fixed}
-use Rattle.selection.specs.Members.{_∈_, Distinct, Entry, member-take, member-scan}
-use Rattle.selection.specs.Sorted.{Sorted}
-use Rattle.selection.specs.Insertion.{length-ranked}
-use Rattle.selection.specs.Ranking.{ranked-lower, ranked-count, ranked-among, ranked-distinct, take-distinct}
-use Rattle.selection.specs.Scan.{ranked-sorted, scan-sorted, scan-ranked}
+use Rattle.selection.specs.Scan.{member-scan, ranked-lower, scan-sorted, scan-ranked}
 use Rattle.selection.specs.Steps.{unread-best, reading-best, reading-length, reading-reads}
 use Rattle.selection.specs.Exact.{reading-exact}
 use Rattle.selection.specs.Stable.{reading-stable}

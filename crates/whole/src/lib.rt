@@ -1,4 +1,6 @@
 // Whole numbers of 32 bits, read from a slice, and as keys: numbers from 0 on in the same order.
+pub mod components;
+
 ghost use mathlib.Core.Path.{_≡_};
 ghost use lib.IntN.{pos};
 ghost use lib.ListN.{getD};

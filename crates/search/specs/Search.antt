@@ -1,0 +1,91 @@
+-- The full scan and the search (document 01, "Distance, bounds, reading order"; source document 003, section 3.3.2, the near-optimal search).
+-- Assumes nothing.
+use mathlib.Core.Bool.{Bool, true, not, _&&_}
+use mathlib.Core.List.{List, [], _∷_}
+use Prim.Native.Nat.{ℕ, _*_}
+use lib.Dec.{leb, eqb}
+use lib.IntN.{ℤ}
+use lib.ListN.{length}
+use Rattle.refusal.specs.declared.Refusal.the-variants.{Dimension, Bits, Count, Neighbours, Length, Component, Mark, Code, Cell}
+use Rattle.refusal.specs.First.{Row, _⇒_}
+use Rattle.limits.specs.Limits.{isDimensionCount, isBits, isVectorCount}
+use Rattle.whole.specs.Components.{areComponents}
+use Rattle.order.specs.Pair.{Pair, countFrom}
+use Rattle.selection.specs.Reading.{scan, Reading, read}
+use Rattle.layout.specs.Layout.{firstMarks}
+use Rattle.partition.specs.Marks.{goodMarks}
+use Rattle.approximation.specs.Codes.{codeLength}
+use Rattle.approximation.specs.Cells.{vectorAt, inFirst, goodCodes}
+use Rattle.distance.specs.Distance.{distanceOf}
+use Rattle.distance.specs.Bounds.{lowerOf, upperOf}
+
+-- the vectors that are searched, with their marks and codes
+pub record Library : Type 0 where
+  pub d : ℕ
+  pub b : ℕ
+  pub n : ℕ
+  pub marks : List ℤ
+  pub codes : List ℕ
+  pub vectors : List ℤ
+
+-- the numbers of its vectors
+abbrev pub numbersIn : Library → List ℕ
+numbersIn l = countFrom 0 (l .n)
+
+-- a vector's distance from the query, and its cell's least and greatest distance
+abbrev pub distanceIn : Library → List ℤ → ℕ → ℕ
+distanceIn l query i = distanceOf (l .d) query (vectorAt (l .d) (l .vectors) i)
+
+abbrev pub lowIn : Library → List ℤ → ℕ → ℕ
+lowIn l query i = lowerOf (l .d) (l .b) (l .marks) (l .codes) query i
+
+abbrev pub highIn : Library → List ℤ → ℕ → ℕ
+highIn l query i = upperOf (l .d) (l .b) (l .marks) (l .codes) query i
+
+-- whether vector i lies in its code's cell
+abbrev pub inOwnCell : Library → ℕ → Bool
+inOwnCell l i = inFirst (l .d) (l .b) (l .marks) (l .codes) i (vectorAt (l .d) (l .vectors) i) (l .d)
+
+-- "A full scan's answer is the k least pairs (distance, number) over all patterns, least first."
+abbrev pub scanned : Library → List ℤ → ℕ → List Pair
+scanned l query k = scan k (distanceIn l query) (numbersIn l)
+
+-- the reading order "worked out from query, k, marks, codes and patterns": the k best pairs read, and the numbers read, in reading order
+abbrev pub searched : Library → List ℤ → ℕ → Reading
+searched l query k = read k (lowIn l query) (distanceIn l query) (numbersIn l)
+
+-- ---- causes
+
+-- whether each of these vectors lies in its code's cell
+unfoldable pub inOwnCells : Library → List ℕ → Bool
+inOwnCells l [] = true
+inOwnCells l (i ∷ is) = inOwnCell l i && inOwnCells l is
+
+-- the lengths of the buffers that the answer is lent in
+pub record Room : Type 0 where
+  pub numbers : ℕ
+  pub distances : ℕ
+  pub reads : ℕ
+
+-- every buffer has its exact length
+abbrev pub exactLengths : Library → List ℤ → ℕ → Room → Bool
+exactLengths l query k room =
+    eqb (length query) (l .d)
+    && (eqb (length (l .marks)) (firstMarks (l .d) (l .b) (l .d))
+    && (eqb (length (l .codes)) (codeLength (l .b) (l .n))
+    && (eqb (length (l .vectors)) (l .n * l .d)
+    && (eqb (room .numbers) k && (eqb (room .distances) k && eqb (room .reads) (l .n))))))
+
+-- "the search tests 6 on the query only, 8 never, and 10 while reading"
+abbrev pub searchCauses : Library → List ℤ → ℕ → Room → List Row
+searchCauses l query k room =
+    (not (isDimensionCount (l .d)) ⇒ Dimension)
+    ∷ (not (isBits (l .d) (l .b)) ⇒ Bits)
+    ∷ (not (isVectorCount (l .n)) ⇒ Count)
+    ∷ (not (leb 1 k && leb k (l .n)) ⇒ Neighbours)
+    ∷ (not (exactLengths l query k room) ⇒ Length)
+    ∷ (not (areComponents query) ⇒ Component)
+    ∷ (not (goodMarks (l .d) (l .b) (l .marks)) ⇒ Mark)
+    ∷ (not (goodCodes (l .d) (l .b) (l .n) (l .marks) (l .codes)) ⇒ Code)
+    ∷ (not (inOwnCells l ((searched l query k) .reads)) ⇒ Cell)
+    ∷ []

@@ -1,0 +1,1 @@
+// The full scan and the near-optimal search.
