@@ -1,4 +1,5 @@
 pub mod Distance
+pub mod Measured
 pub mod Bounds
 pub mod Order
 pub mod Places
