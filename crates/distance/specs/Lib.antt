@@ -7,3 +7,5 @@ pub mod Steps
 pub mod CellBounds
 pub mod CellComponents
 pub mod Small
+pub mod Table
+pub mod TableLaws
