@@ -1,5 +1,6 @@
 // Distances of vectors, and the bounds of a cell's distances.
 mod step;
+pub mod table;
 
 use refusal::Refusal;
 ghost use mathlib.Core.Path.{_≡_};
