@@ -62,26 +62,34 @@ module _ (query : List ℤ) (known : areComponents query ≡ true) where
 
   pub distance-small : (vector : List ℤ) → areComponents vector ≡ true → (d : ℕ) → d ≤ maxDimensions → distanceOf d query vector < 2 ^ 64
   distance-small vector vectors d few =
-      omega
-      (arith, squares-small (firstDistance query vector) (λ t. gap (getD query t (pos 0)) (getD vector t (pos 0)))
-        (unfold firstDistance in refl) (λ t. unfold firstDistance in refl) d step)
+      omega (
+        arith,
+        squares-small (firstDistance query vector) (λ t. gap (getD query t (pos 0)) (getD vector t (pos 0)))
+            (unfold firstDistance in refl) (λ t. unfold firstDistance in refl) d step,
+      )
     where
       step : (t : ℕ) → t < d → gap (getD query t (pos 0)) (getD vector t (pos 0)) ≤ 2 ^ 17
       step t h =
-          omega
-          (arith, gap-size (getD query t (pos 0)) (getD vector t (pos 0)), query-size t,
-            component-size (getD vector t (pos 0)) (component-at vector vectors t))
+          omega (
+            arith,
+            gap-size (getD query t (pos 0)) (getD vector t (pos 0)),
+            query-size t,
+            component-size (getD vector t (pos 0)) (component-at vector vectors t),
+          )
 
   module _ (d b : ℕ) (marks : List ℤ) (good : goodMarks d b marks ≡ true) (few : d ≤ maxDimensions) (codes : List ℕ) (i : ℕ) where
     bound-small : (step : ℤ → ℤ → ℤ → ℕ) → ((q low high : ℤ) → mag q ≤ 32768 → mag low ≤ 32768 → mag high ≤ 32768 → step q low high ≤ 2 ^ 17)
         → firstBound step d b marks codes query i d < 2 ^ 64
     bound-small step small =
-        omega
-        (arith, squares-small (firstBound step d b marks codes query i) (λ t. here t (codeRegion d b codes i t))
-          (unfold firstBound in refl) (λ t. unfold firstBound in refl) d (λ t h. small _ _ _ (query-size t) (mark t _ h) (mark t _ h)))
+        omega (
+          arith,
+          squares-small (firstBound step d b marks codes query i) (λ t. here t (codeRegion d b codes i t))
+              (unfold firstBound in refl) (λ t. unfold firstBound in refl) d (λ t h. small _ _ _ (query-size t) (mark t _ h) (mark t _ h)),
+        )
       where
         here : ℕ → ℕ → ℕ
         here t r = step (getD query t (pos 0)) (getD (dimensionMarks d b marks (suc t)) r (pos 0)) (getD (dimensionMarks d b marks (suc t)) (suc r) (pos 0))
+
         mark : (t r : ℕ) → t < d → mag (getD (dimensionMarks d b marks (suc t)) r (pos 0)) ≤ 32768
         mark t r h = mark-size (getD (dimensionMarks d b marks (suc t)) r (pos 0)) (good-mark d b marks good t r h)
 

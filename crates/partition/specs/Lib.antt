@@ -1,3 +1,12 @@
 pub mod Marks
+pub mod MarksCauses
 pub mod Region
+pub mod Within
+pub mod Regions
+pub mod Located
+pub mod RegionCount
+pub mod Lookup
 pub mod Made
+pub mod InOrder
+pub mod MadeDimension
+pub mod MadeLaws

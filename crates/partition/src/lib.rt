@@ -1,1 +1,3 @@
 // The partition of each dimension into regions by marks.
+pub mod marks;
+pub mod region;

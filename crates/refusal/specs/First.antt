@@ -95,3 +95,10 @@ pub passed : (test : Bool) (cause : Refusal) (rows : List Row) → first ((test 
 unfolding first
 passed true cause rows accepted = record { fails = cc; rest = cc }
 passed false cause rows accepted = record { fails = refl; rest = accepted }
+
+-- two lists of rows, one behind the other
+pub first-append : (rows more : List Row) → first (rows ++ more) ≡ outcome (first rows) (first more) Refused
+unfolding first
+first-append [] more = refl
+first-append ((true ⇒ cause) ∷ rows) more = refl
+first-append ((false ⇒ cause) ∷ rows) more = first-append rows more

@@ -1,1 +1,6 @@
 pub mod Search
+pub mod Accepted
+pub mod Settled
+pub mod Rows
+pub mod Instance
+pub mod Theorems
