@@ -9,17 +9,13 @@ use lib.IntN.{ℤ, pos}
 use lib.ListN.{length, take, drop, getD, length-append, List·getD-append}
 use lib.Seq.{getD-append-add, getD-drop, getD-take}
 use Rattle.layout.specs.Layout.{regionCount, markCount, firstMarks}
-use Rattle.layout.specs.Laws.{marks-within}
+use Rattle.layout.specs.Laws.{marks-within, first-next-marks}
 use Rattle.partition.specs.Marks.{dimensionMarks}
 use Rattle.approximation.specs.Codes.{codeRegion}
 use Rattle.distance.specs.Bounds.{shortest, stepTo, firstBound, lowerOf}
 use Rattle.distance.specs.Table.{stepsFrom, tableFirst, tableOf, tableSum}
 
-marks-suc : (d b t : ℕ) → firstMarks d b (suc t) ≡ firstMarks d b t + markCount d b (suc t)
-unfolding firstMarks
-marks-suc d b t = refl
-
-length-steps : (q : ℤ) (marks : List ℤ) (r n : ℕ) → length (stepsFrom q marks r n) ≡ n
+pub length-steps : (q : ℤ) (marks : List ℤ) (r n : ℕ) → length (stepsFrom q marks r n) ≡ n
 unfolding stepsFrom
 length-steps q marks r zero = refl
 length-steps q marks r (suc n) = ap suc (length-steps q marks (suc r) n)
@@ -62,7 +58,7 @@ module _ (d b : ℕ) (marks query : List ℤ) where
       ]
     where
       before : t < n → firstMarks d b t + k < length (tableFirst d b marks query n)
-      before l = omega (arith, length-table n, marks-within d b n t l, marks-suc d b t)
+      before l = omega (arith, length-table n, marks-within d b n t l, first-next-marks d b t)
 
   -- a region's marks are those of its dimension's part
   region-step : (q : ℤ) (t r : ℕ) → r < regionCount d b (suc t) → stepTo shortest q (drop (firstMarks d b t) marks) r ≡ stepTo shortest q (dimensionMarks d b marks (suc t)) r

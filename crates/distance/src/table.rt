@@ -6,7 +6,8 @@ ghost use mathlib.Core.Path.{_≡_};
 ghost use lib.ListN.{length};
 ghost use Rattle.refusal.specs.First.{first, outcome};
 ghost use Rattle.layout.specs.Layout.{firstMarks};
-ghost use Rattle.layout.specs.Stretch.{Shape};
+ghost use Rattle.refusal.specs.declared.Verdict.the-variants.{Accepted};
+ghost use Rattle.layout.specs.Stretch.{shapeCauses};
 ghost use Rattle.distance.specs.Table.{stepsFrom, tableOf, tableCauses};
 
 // The table of a query, in the layout of the marks.
@@ -45,7 +46,7 @@ fn check_table(d: usize, b: usize, marks: usize, query: usize, room: usize) -> V
 
 // The table, where nothing refuses: each dimension's entries are written into their own stretch.
 fn fill_dimensions(d: usize, b: usize, marks: &[i32], query: &[i32], table: &mut [u64])
-    requires { ⌜ Shape d b × (length (now marks) ≡ firstMarks d b d) × (length (now table) ≡ firstMarks d b d) ⌝ }
+    requires { ⌜ (first (shapeCauses d b) ≡ Accepted) × (length (now marks) ≡ firstMarks d b d) × (length (now table) ≡ firstMarks d b d) ⌝ }
     ensures { λ _. ⌜ now (table .exit) ≡ tableOf d b (now (marks .entry)) (now (query .entry)) ⌝ }
 {
     let mut t = 0;
