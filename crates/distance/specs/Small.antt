@@ -16,7 +16,7 @@ use Rattle.approximation.specs.Codes.{codeRegion}
 use Rattle.distance.specs.Distance.{gap, squared, firstDistance, distanceOf}
 use Rattle.distance.specs.Bounds.{shortest, longest, firstBound, lowerOf, upperOf}
 use Rattle.whole.specs.Components.{areComponents, component-at}
-use Rattle.distance.specs.Places.{gap-size}
+use Rattle.distance.specs.Places.{gap-size, pred-size}
 use Rattle.distance.specs.Steps.{shortest-le-longest}
 use Rattle.distance.specs.CellBounds.{squared-le}
 use Rattle.distance.specs.CellComponents.{good-mark}
@@ -37,11 +37,6 @@ component-size z h =
     let both = and-eq-true-iff (leZ leastMark z) (leZ z (pos 32767)) .0 h in
     let within = within-size 32767 z (both .0) (both .1) (omega arith) in
     omega arith
-
-pred-size : (z : ℤ) → mag (predℤ z) ≤ mag z + 1
-pred-size (pos zero) = zero-le
-pred-size (pos (suc n)) = omega arith
-pred-size (negsuc n) = omega arith
 
 longest-size : (q low high : ℤ) → mag q ≤ 32768 → mag low ≤ 32768 → mag high ≤ 32768 → longest q low high ≤ 2 ^ 17
 unfolding longest

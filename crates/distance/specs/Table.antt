@@ -1,0 +1,42 @@
+-- A query's squared shortest steps to every region, worked out once a query (source document 003, section 3.3), so that a code's lower
+-- bound is a sum of entries. The table has the layout of the marks buffer: a region's entry stands where its lower mark stands. The entry
+-- at a dimension's last mark, where no region begins, is read by no code. Entries are modulo 2^64. Assumes nothing.
+use mathlib.Core.Bool.{not, _&&_}
+use mathlib.Core.List.{List, [], _∷_, _++_}
+use Prim.Native.Nat.{ℕ, zero, suc, _+_, _%_, _^_}
+use lib.Dec.{eqb}
+use lib.IntN.{ℤ, pos}
+use lib.ListN.{length, drop, getD}
+use Rattle.refusal.specs.declared.Refusal.the-variants.{Dimension, Bits, Length}
+use Rattle.refusal.specs.First.{Row, _⇒_}
+use Rattle.limits.specs.Limits.{isDimensionCount, isBits}
+use Rattle.layout.specs.Layout.{markCount, firstMarks}
+use Rattle.approximation.specs.Codes.{codeRegion}
+use Rattle.distance.specs.Bounds.{shortest, stepTo}
+
+-- n entries from region r on, for one component of the query
+unfoldable pub stepsFrom : ℤ → List ℤ → ℕ → ℕ → List ℕ
+stepsFrom q marks r zero = []
+stepsFrom q marks r (suc n) = stepTo shortest q marks r % 2 ^ 64 ∷ stepsFrom q marks (suc r) n
+
+-- the entries of the first t dimensions
+unfoldable pub tableFirst : ℕ → ℕ → List ℤ → List ℤ → ℕ → List ℕ
+tableFirst d b marks query zero = []
+tableFirst d b marks query (suc t) =
+    tableFirst d b marks query t ++ stepsFrom (getD query t (pos 0)) (drop (firstMarks d b t) marks) 0 (markCount d b (suc t))
+
+abbrev pub tableOf : ℕ → ℕ → List ℤ → List ℤ → List ℕ
+tableOf d b marks query = tableFirst d b marks query d
+
+-- the sum of the entries that code i names for the first t dimensions
+unfoldable pub tableSum : ℕ → ℕ → List ℕ → List ℕ → ℕ → ℕ → ℕ
+tableSum d b table codes i zero = 0
+tableSum d b table codes i (suc t) = tableSum d b table codes i t + getD table (firstMarks d b t + codeRegion d b codes i t) 0
+
+-- the causes for which a table is not filled: 1, 2, 5
+abbrev pub tableCauses : ℕ → ℕ → ℕ → ℕ → ℕ → List Row
+tableCauses d b marks query room =
+    (not (isDimensionCount d) ⇒ Dimension)
+    ∷ (not (isBits d b) ⇒ Bits)
+    ∷ (not (eqb query d && (eqb marks (firstMarks d b d) && eqb room (firstMarks d b d))) ⇒ Length)
+    ∷ []

@@ -1,0 +1,87 @@
+-- What stands in a query's table, and that a code's entries sum up to its lower bound. Assumes nothing.
+use mathlib.Core.Path.{_≡_, refl, sym, ap, _∙_}
+use mathlib.Core.List.{List, [], _∷_, _++_}
+use Prim.Native.Nat.{ℕ, zero, suc, _+_, _-_, _%_, _^_, _≤_, _<_}
+use mathlib.Core.Logic.{inl, inr}
+use native.Mathlib.Nat.{zero-add, add-zero, add-mod, mod-mod, le-refl, le-of-suc-le-suc, eq-or-lt-of-le}
+use native.Mathlib.Omega.{arith}
+use lib.IntN.{ℤ, pos}
+use lib.ListN.{length, take, drop, getD, length-append, List·getD-append}
+use lib.Seq.{getD-append-add, getD-drop, getD-take}
+use Rattle.layout.specs.Layout.{regionCount, markCount, firstMarks}
+use Rattle.layout.specs.Laws.{marks-within}
+use Rattle.partition.specs.Marks.{dimensionMarks}
+use Rattle.approximation.specs.Codes.{codeRegion}
+use Rattle.distance.specs.Bounds.{shortest, stepTo, firstBound, lowerOf}
+use Rattle.distance.specs.Table.{stepsFrom, tableFirst, tableOf, tableSum}
+
+marks-suc : (d b t : ℕ) → firstMarks d b (suc t) ≡ firstMarks d b t + markCount d b (suc t)
+unfolding firstMarks
+marks-suc d b t = refl
+
+length-steps : (q : ℤ) (marks : List ℤ) (r n : ℕ) → length (stepsFrom q marks r n) ≡ n
+unfolding stepsFrom
+length-steps q marks r zero = refl
+length-steps q marks r (suc n) = ap suc (length-steps q marks (suc r) n)
+
+step-at : (q : ℤ) (marks : List ℤ) (r n k : ℕ) → k < n → getD (stepsFrom q marks r n) k 0 ≡ stepTo shortest q marks (r + k) % 2 ^ 64
+unfolding stepsFrom
+step-at q marks r zero k h = absurd (omega arith)
+step-at q marks r (suc n) zero h = rw (add-zero r)
+step-at q marks r (suc n) (suc k) h =
+    let shift : r + suc k ≡ suc r + k = omega arith in
+    rw shift (step-at q marks (suc r) n k (omega arith))
+
+module _ (d b : ℕ) (marks query : List ℤ) where
+  pub length-table : (t : ℕ) → length (tableFirst d b marks query t) ≡ firstMarks d b t
+  unfolding tableFirst firstMarks
+  length-table zero = refl
+  length-table (suc t) = simp (length-append, length-table t, length-steps)
+
+  -- the last dimension's entries
+  entry-last : (t k : ℕ) → k < markCount d b (suc t)
+      → getD (tableFirst d b marks query (suc t)) (firstMarks d b t + k) 0 ≡ stepTo shortest (getD query t (pos 0)) (drop (firstMarks d b t) marks) k % 2 ^ 64
+  unfolding tableFirst
+  entry-last t k within =
+      let q = getD query t (pos 0) in
+      let part = drop (firstMarks d b t) marks in
+      ap (λ (n : ℕ). getD (tableFirst d b marks query (suc t)) (n + k) 0) (sym (length-table t))
+      ∙ getD-append-add (tableFirst d b marks query t) (stepsFrom q part 0 (markCount d b (suc t))) k 0
+      ∙ step-at q part 0 (markCount d b (suc t)) k within
+      ∙ rw (zero-add k)
+
+  -- dimension t + 1's entries stand from its stretch on, in the table of the first n dimensions
+  entry-at : (n t k : ℕ) → t < n → k < markCount d b (suc t)
+      → getD (tableFirst d b marks query n) (firstMarks d b t + k) 0 ≡ stepTo shortest (getD query t (pos 0)) (drop (firstMarks d b t) marks) k % 2 ^ 64
+  unfolding tableFirst
+  entry-at zero t k h within = absurd (omega arith)
+  entry-at (suc n) t k h within =
+      elim (eq-or-lt-of-le (le-of-suc-le-suc h)) [
+        | inl e ↦ rw (← e) (entry-last t k within)
+        | inr l ↦ List·getD-append (tableFirst d b marks query n) _ 0 (firstMarks d b t + k) (before l) ∙ entry-at n t k l within
+      ]
+    where
+      before : t < n → firstMarks d b t + k < length (tableFirst d b marks query n)
+      before l = omega (arith, length-table n, marks-within d b n t l, marks-suc d b t)
+
+  -- a region's marks are those of its dimension's part
+  region-step : (q : ℤ) (t r : ℕ) → r < regionCount d b (suc t) → stepTo shortest q (drop (firstMarks d b t) marks) r ≡ stepTo shortest q (dimensionMarks d b marks (suc t)) r
+  unfolding dimensionMarks
+  region-step q t r h =
+      let one : suc t - 1 ≡ t = omega arith in
+      let part = drop (firstMarks d b t) marks in
+      rw (one, getD-take (markCount d b (suc t)) part r (pos 0) (omega arith), getD-take (markCount d b (suc t)) part (suc r) (pos 0) (omega arith))
+
+  module _ (codes : List ℕ) (i : ℕ) (fits : (t : ℕ) → codeRegion d b codes i t < regionCount d b (suc t)) where
+    sum-first : (n t : ℕ) → t ≤ n → tableSum d b (tableFirst d b marks query n) codes i t % 2 ^ 64 ≡ firstBound shortest d b marks codes query i t % 2 ^ 64
+    unfolding tableSum firstBound
+    sum-first n zero h = refl
+    sum-first n (suc t) h =
+        let r = codeRegion d b codes i t in
+        let q = getD query t (pos 0) in
+        let entry = entry-at n t r h (omega (arith, fits t)) ∙ ap (λ (s : ℕ). s % 2 ^ 64) (region-step q t r (fits t)) in
+        rw (add-mod (tableSum d b (tableFirst d b marks query n) codes i t) _ (2 ^ 64), entry, sum-first n t (omega arith), mod-mod (stepTo shortest q (dimensionMarks d b marks (suc t)) r) (2 ^ 64))
+        (sym (add-mod (firstBound shortest d b marks codes query i t) (stepTo shortest q (dimensionMarks d b marks (suc t)) r) (2 ^ 64)))
+
+    pub table-sum : tableSum d b (tableOf d b marks query) codes i d % 2 ^ 64 ≡ lowerOf d b marks codes query i % 2 ^ 64
+    table-sum = sum-first d d (le-refl d)

@@ -1,0 +1,66 @@
+// One dimension's steps. Differences are those of keys.
+ghost use mathlib.Core.Path.{_≡_};
+ghost use Prim.Native.Nat.{_%_, _^_, _≤_, _<_};
+ghost use lib.IntN.{predℤ};
+ghost use Rattle.distance.specs.Distance as Distance;
+ghost use Rattle.distance.specs.Bounds.{shortest, longest};
+
+// How far two numbers are apart.
+pub fn gap(a: i32, b: i32) -> u64
+    ensures { λ r. ⌜ (r ≡ Distance.gap a b) × (r < 2 ^ 32) ⌝ }
+{
+    let k = whole::key(a);
+    let l = whole::key(b);
+    if k < l {
+        return l - k;
+    }
+    k - l
+}
+
+// How far a number is from the last value before a mark.
+fn gap_to_last(q: i32, high: i32) -> u64
+    ensures { λ r. ⌜ (r ≡ Distance.gap q (predℤ high)) × (r ≤ 2 ^ 32) ⌝ }
+{
+    let k = whole::key(q) + 1;
+    let l = whole::key(high);
+    if k < l {
+        return l - k;
+    }
+    k - l
+}
+
+// The shortest step to the region from low up to, and without, high.
+pub fn shortest_step(q: i32, low: i32, high: i32) -> u64
+    ensures { λ r. ⌜ (r ≡ shortest q low high) × (r ≤ 2 ^ 32) ⌝ }
+{
+    if q < low {
+        return gap(low, q);
+    }
+    if high <= q {
+        return gap_to_last(q, high);
+    }
+    0
+}
+
+// The longest step to that region.
+pub fn longest_step(q: i32, low: i32, high: i32) -> u64
+    ensures { λ r. ⌜ (r ≡ longest q low high) × (r ≤ 2 ^ 32) ⌝ }
+{
+    let first = gap(q, low);
+    let last = gap_to_last(q, high);
+    if first < last {
+        return last;
+    }
+    first
+}
+
+// What a step adds to a distance, modulo 2^64.
+pub fn squared(step: u64) -> u64
+    requires { ⌜ step ≤ 2 ^ 32 ⌝ }
+    ensures { λ r. ⌜ r ≡ Distance.squared step % 2 ^ 64 ⌝ }
+{
+    if step == 0x1_0000_0000 {
+        return 0;
+    }
+    step * step
+}

@@ -1,0 +1,71 @@
+// A query's table of squared shortest steps, and the lower bounds that are sums of its entries.
+use crate::step;
+use refusal::Refusal;
+use refusal::Verdict;
+ghost use mathlib.Core.Path.{_≡_};
+ghost use lib.ListN.{length};
+ghost use Rattle.refusal.specs.First.{first, outcome};
+ghost use Rattle.layout.specs.Layout.{firstMarks};
+ghost use Rattle.layout.specs.Stretch.{Shape};
+ghost use Rattle.distance.specs.Table.{stepsFrom, tableOf, tableCauses};
+
+// The table of a query, in the layout of the marks.
+pub fn fill_table(d: usize, b: usize, marks: &[i32], query: &[i32], table: &mut [u64]) -> Verdict
+    ensures { λ r. ⌜ r ≡ first (tableCauses d b (length (now (marks .entry))) (length (now (query .entry))) (length (now (table .entry)))) ⌝ }
+    ensures { λ _. ⌜ now (table .exit)
+        ≡ outcome (first (tableCauses d b (length (now (marks .entry))) (length (now (query .entry))) (length (now (table .entry)))))
+        (tableOf d b (now (marks .entry)) (now (query .entry))) (λ _. now (table .entry)) ⌝ }
+{
+    let verdict = check_table(d, b, marks.len(), query.len(), table.len());
+    match verdict {
+        Verdict::Accepted => {
+            fill_dimensions(d, b, marks, query, table);
+            Verdict::Accepted
+        }
+        Verdict::Refused(cause) => Verdict::Refused(cause),
+    }
+}
+
+// Whether there is such a table, by the lengths of the marks, the query and the table.
+fn check_table(d: usize, b: usize, marks: usize, query: usize, room: usize) -> Verdict
+    ensures { λ r. ⌜ r ≡ first (tableCauses d b marks query room) ⌝ }
+{
+    if !limits::is_dimension_count(d) {
+        return Verdict::Refused(Refusal::Dimension);
+    }
+    if !limits::is_bits(d, b) {
+        return Verdict::Refused(Refusal::Bits);
+    }
+    let length = layout::marks_length(d, b);
+    if query == d && marks == length && room == length {
+        return Verdict::Accepted;
+    }
+    Verdict::Refused(Refusal::Length)
+}
+
+// The table, where nothing refuses: each dimension's entries are written into their own stretch.
+fn fill_dimensions(d: usize, b: usize, marks: &[i32], query: &[i32], table: &mut [u64])
+    requires { ⌜ Shape d b × (length (now marks) ≡ firstMarks d b d) × (length (now table) ≡ firstMarks d b d) ⌝ }
+    ensures { λ _. ⌜ now (table .exit) ≡ tableOf d b (now (marks .entry)) (now (query .entry)) ⌝ }
+{
+    let mut t = 0;
+    while t < d {
+        let stretch = layout::stretch_of(d, b, t + 1);
+        let start = stretch.offset;
+        let end = start + (1usize << stretch.bits) + 1;
+        fill_steps(whole::at(query, t), &marks[start..], &mut table[start..end]);
+        t += 1;
+    }
+}
+
+// The squared shortest steps from a component to the regions between neighbouring marks.
+fn fill_steps(q: i32, marks: &[i32], table: &mut [u64])
+    ensures { λ _. ⌜ now (table .exit) ≡ stepsFrom q (now (marks .entry)) 0 (length (now (table .entry))) ⌝ }
+{
+    let mut r = 0;
+    while r < table.len() {
+        let step = step::shortest_step(q, whole::at(marks, r), whole::at(marks, r + 1));
+        table[r] = step::squared(step);
+        r += 1;
+    }
+}
