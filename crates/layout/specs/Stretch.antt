@@ -101,3 +101,7 @@ stretches {d} {b} {j} {s} accepted is =
       within = inside;
       small = le-trans (marks-le maxDimensionBits d b d (shape .some) (shape .bits)) (mul-le-mul-left (2 ^ maxDimensionBits + 1) (shape .few));
     }
+
+pub marks-length-is : (d b : ℕ) → first (shapeCauses d b) ≡ Accepted → marksLength d b ≡ firstMarks d b d
+unfolding marksLength
+marks-length-is d b accepted = outcome-accepted _ _ accepted

@@ -11,10 +11,13 @@ use Rattle.layout.specs.Layout.{firstMarks}
 use Rattle.layout.specs.Stretch.{shapeCauses}
 use Rattle.partition.specs.Marks.{goodMarks}
 
+-- 5, 7
+abbrev pub shapedCauses : ℕ → ℕ → List ℤ → List Row
+shapedCauses d b marks = (not (eqb (length marks) (firstMarks d b d)) ⇒ Length) ∷ (not (goodMarks d b marks) ⇒ Mark) ∷ []
+
 -- 1, 2, 5, 7
 abbrev pub marksCauses : ℕ → ℕ → List ℤ → List Row
-marksCauses d b marks =
-    shapeCauses d b ++ ((not (eqb (length marks) (firstMarks d b d)) ⇒ Length) ∷ (not (goodMarks d b marks) ⇒ Mark) ∷ [])
+marksCauses d b marks = shapeCauses d b ++ shapedCauses d b marks
 
 -- 1 for the dimension's number too
 abbrev pub partCauses : ℕ → ℕ → List ℤ → ℕ → List Row

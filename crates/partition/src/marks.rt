@@ -11,15 +11,22 @@ ghost use Rattle.refusal.specs.First.{first, outcome};
 ghost use Rattle.layout.specs.Layout.{firstMarks};
 ghost use Rattle.layout.specs.Stretch.{shapeCauses, dimensionCauses};
 ghost use Rattle.partition.specs.Marks.{dimensionMarks, goodMarks};
-ghost use Rattle.partition.specs.MarksCauses.{marksCauses, partCauses};
+ghost use Rattle.partition.specs.MarksCauses.{shapedCauses, marksCauses, partCauses};
 
 // Whether the marks are as many as d dimensions with b bits have, in range, and never fall.
 pub fn check_marks(d: usize, b: usize, marks: &[i32]) -> Verdict
     ensures { λ r. ⌜ r ≡ first (marksCauses d b (now (marks .entry))) ⌝ }
 {
-    let Verdict::Accepted = layout::check_shape(d, b) else {
-        return layout::check_shape(d, b);
-    };
+    match layout::check_shape(d, b) {
+        Verdict::Accepted => check_shaped(d, b, marks),
+        Verdict::Refused(cause) => Verdict::Refused(cause),
+    }
+}
+
+fn check_shaped(d: usize, b: usize, marks: &[i32]) -> Verdict
+    requires { ⌜ first (shapeCauses d b) ≡ Accepted ⌝ }
+    ensures { λ r. ⌜ r ≡ first (shapedCauses d b (now (marks .entry))) ⌝ }
+{
     if marks.len() != layout::marks_length(d, b) {
         return Verdict::Refused(Refusal::Length);
     }

@@ -102,3 +102,15 @@ unfolding first
 first-append [] more = refl
 first-append ((true ⇒ cause) ∷ rows) more = refl
 first-append ((false ⇒ cause) ∷ rows) more = first-append rows more
+
+pub accepted-front : (rows more : List Row) → first (rows ++ more) ≡ Accepted → first rows ≡ Accepted
+unfolding first
+accepted-front [] more accepted = refl
+accepted-front ((true ⇒ cause) ∷ rows) more accepted = accepted
+accepted-front ((false ⇒ cause) ∷ rows) more accepted = accepted-front rows more accepted
+
+pub accepted-behind : (rows more : List Row) → first (rows ++ more) ≡ Accepted → first more ≡ Accepted
+unfolding first
+accepted-behind [] more accepted = accepted
+accepted-behind ((true ⇒ cause) ∷ rows) more accepted = cc
+accepted-behind ((false ⇒ cause) ∷ rows) more accepted = accepted-behind rows more accepted

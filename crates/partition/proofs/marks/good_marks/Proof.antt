@@ -1,51 +1,91 @@
+-- `good_marks` meets its contract: the dimensions passed are good. Assumes nothing.
+use mathlib.Core.Path.{_≡_, refl, sym, ap, _∙_}
+use mathlib.Core.Bool.{Bool, true, false, not, _&&_}
+use mathlib.Core.List.{List}
+use Prim.Native.Nat.{ℕ, zero, suc, _+_, _-_, _≤_, _<_, zero-le}
+use native.Mathlib.Nat.{eq-or-lt-of-le, le-of-suc-le-suc}
+use mathlib.Core.Logic.{inl, inr}
+use native.Mathlib.Numerals.{add-one}
+use native.Mathlib.Omega.{arith}
+use borrow.Author.Needs.{needs}
+use borrow.Author.Tests.{le-leb, not-true, not-false}
+use lib.Dec.{leb}
+use lib.IntN.{ℤ}
+use Rattle.refusal.specs.declared.Refusal.the-variants.{Dimension}
+use Rattle.refusal.specs.declared.Verdict.the-variants.{Accepted}
+use Rattle.refusal.specs.First.{first, first-next}
+use Rattle.layout.specs.Stretch.{shapeCauses, dimensionCauses, shape}
+use Rattle.partition.specs.Marks.{dimensionMarks, goodDimension, goodFirst}
 use Rattle.partition.proofs.marks.good_marks.Statement.{statement}
 use Rattle.partition.proofs.marks.good_marks.Tie as tie
-use Rattle.partition.proofs.marks.good_marks.Reads as reads
-use Rattle.partition.proofs.marks.good_marks.Lts as lts
-use Rattle.partition.proofs.marks.part.Reads as part-reads
-use Rattle.partition.proofs.region.good_dimension.Reads as good-dimension-reads
 
 abbrev Inv-loop : tie.InvT-loop
-Inv-loop d b marks j₀ j = ?
+Inv-loop d b marks j₀ j = (j ≤ d) × (goodFirst d b marks j ≡ true)
 
 abbrev μ-loop : tie.MeasureT-loop
-μ-loop d b marks j₀ j = ?
+μ-loop d b marks j₀ j = d - j
 
--- src/marks.rt:57:5
-loop-holds : tie.Need-loop-holds Inv-loop μ-loop
-loop-holds c = ?
+-- dimension j + 1 is one of the d
+counted : (d b j : ℕ) → first (shapeCauses d b) ≡ Accepted → j < d → first (dimensionCauses d b (j + 1)) ≡ Accepted
+counted d b j accepted below =
+    let in-range : not (leb 1 (j + 1) && leb (j + 1) d) ≡ false =
+    rw (le-leb 1 (j + 1) (omega arith), le-leb (j + 1) d (omega arith)) in
+    first-next Dimension (shapeCauses d b) in-range ∙ accepted
 
--- src/marks.rt:58:46
-add-part : tie.Need-add-part Inv-loop μ-loop
-add-part c = ?
+-- one dimension more
+next-good : (d b : ℕ) (marks : List ℤ) (j : ℕ) → goodFirst d b marks j ≡ true → goodFirst d b marks (suc j) ≡ goodDimension (dimensionMarks d b marks (suc j))
+unfolding goodFirst
+next-good d b marks j before = rw before
 
--- src/marks.rt:58:28
+-- where one is not good, all together are not
+all-bad : (d b : ℕ) (marks : List ℤ) (n j : ℕ) → j < n → goodDimension (dimensionMarks d b marks (suc j)) ≡ false → goodFirst d b marks n ≡ false
+unfolding goodFirst
+all-bad d b marks zero j below bad = absurd (omega arith)
+all-bad d b marks (suc n) j below bad =
+    elim (eq-or-lt-of-le (le-of-suc-le-suc below)) [
+      | inl e ↦ rw (← e, bad) (and-no (goodFirst d b marks j))
+      | inr l ↦ rw (all-bad d b marks n j l bad)
+    ]
+  where
+    and-no : (t : Bool) → t && false ≡ false
+    and-no true = refl
+    and-no false = refl
+
 part-requires : tie.Need-part-requires Inv-loop μ-loop
-part-requires c κs = ?
+part-requires c κs =
+    let start = c .before .before in
+    (counted (start .args .d) (start .args .b) (c .before .loop .j) (start .pre .0) (c .loop-test .taken), start .pre .1)
 
--- src/marks.rt:58:13
-good-dimension-requires : tie.Need-good-dimension-requires Inv-loop μ-loop
-good-dimension-requires c κs = ?
+-- what the dimension's test gave
+tested : (c : tie.After-good-dimension Inv-loop μ-loop)
+    → c .good-dimension .result
+    ≡ goodDimension (dimensionMarks (c .before .before .before .before .args .d) (c .before .before .before .before .args .b) (c .before .before .before .before .args .marks .now) (suc (c .before .before .before .loop .j)))
+tested c =
+    let args = c .before .before .before .before .args in
+    c .good-dimension .ensures
+    ∙ ap goodDimension (c .before .part .ensures ∙ ap (dimensionMarks (args .d) (args .b) (args .marks .now)) (add-one (c .before .before .before .loop .j)))
 
--- src/marks.rt:59:13
 returns : tie.Need-returns Inv-loop μ-loop
-returns c = ?
+returns c =
+    let args = c .before .before .before .before .before .args in
+    sym (all-bad (args .d) (args .b) (args .marks .now) (args .d) (c .before .before .before .before .loop .j) (c .before .before .before .loop-test .taken)
+    (sym (tested (c .before)) ∙ not-true (c .before .good-dimension .result) (c .if1 .taken)))
 
--- src/marks.rt:61:9
-add-j : tie.Need-add-j Inv-loop μ-loop
-add-j c = ?
-
--- src/marks.rt:57:5
-loop-less : tie.Need-loop-less Inv-loop μ-loop
-loop-less c = ?
-
--- src/marks.rt:57:5
 loop-again : tie.Need-loop-again Inv-loop μ-loop
-loop-again c = ?
+loop-again c =
+    let args = c .before .before .before .before .before .args in
+    let j = c .before .before .before .before .loop .j in
+    (omega arith, rw (add-one j) (next-good (args .d) (args .b) (args .marks .now) j (c .before .before .before .before .loop .inv .1) ∙ sym (tested (c .before)) ∙ not-false (c .before .good-dimension .result) (c .if1 .left)))
 
--- src/marks.rt:52:1
 returns-2 : tie.Need-returns-2 Inv-loop μ-loop
-returns-2 c = ?
+returns-2 c =
+    let args = c .before .before .args in
+    let all : c .before .loop .j ≡ args .d = omega arith in
+    sym (ap (goodFirst (args .d) (args .b) (args .marks .now)) (sym all) ∙ c .before .loop .inv .1)
+
+loop-holds : tie.Need-loop-holds Inv-loop μ-loop
+unfolding goodFirst
+loop-holds c = (zero-le, refl)
 
 pub good-marks-spec : {M : Type 1} → statement M
 good-marks-spec =
@@ -54,11 +94,11 @@ good-marks-spec =
     Inv-loop
     μ-loop
     loop-holds
-    add-part
+    (λ c. omega arith)
     part-requires
-    good-dimension-requires
+    (λ c κs. search needs)
     returns
-    add-j
-    loop-less
+    (λ c. omega arith)
+    (λ c. omega arith)
     loop-again
     returns-2)
