@@ -7,10 +7,10 @@ use Prim.Native.Nat.{ℕ, zero, suc, _+_, _%_, _^_}
 use lib.Dec.{eqb}
 use lib.IntN.{ℤ, pos}
 use lib.ListN.{length, drop, getD}
-use Rattle.refusal.specs.declared.Refusal.the-variants.{Dimension, Bits, Length}
+use Rattle.refusal.specs.declared.Refusal.the-variants.{Length}
 use Rattle.refusal.specs.First.{Row, _⇒_}
-use Rattle.limits.specs.Limits.{isDimensionCount, isBits}
 use Rattle.layout.specs.Layout.{markCount, firstMarks}
+use Rattle.layout.specs.Stretch.{shapeCauses}
 use Rattle.approximation.specs.Codes.{codeRegion}
 use Rattle.distance.specs.Bounds.{shortest, stepTo}
 
@@ -33,10 +33,10 @@ unfoldable pub tableSum : ℕ → ℕ → List ℕ → List ℕ → ℕ → ℕ 
 tableSum d b table codes i zero = 0
 tableSum d b table codes i (suc t) = tableSum d b table codes i t + getD table (firstMarks d b t + codeRegion d b codes i t) 0
 
--- the causes for which a table is not filled: 1, 2, 5
+-- the causes for which a table is not filled, by the lengths of marks, query and table: 5 behind 1 and 2
+abbrev pub lengthCauses : ℕ → ℕ → ℕ → ℕ → ℕ → List Row
+lengthCauses d b marks query room =
+    (not (eqb query d && (eqb marks (firstMarks d b d) && eqb room (firstMarks d b d))) ⇒ Length) ∷ []
+
 abbrev pub tableCauses : ℕ → ℕ → ℕ → ℕ → ℕ → List Row
-tableCauses d b marks query room =
-    (not (isDimensionCount d) ⇒ Dimension)
-    ∷ (not (isBits d b) ⇒ Bits)
-    ∷ (not (eqb query d && (eqb marks (firstMarks d b d) && eqb room (firstMarks d b d))) ⇒ Length)
-    ∷ []
+tableCauses d b marks query room = shapeCauses d b ++ lengthCauses d b marks query room

@@ -31,17 +31,16 @@ pub fn fill_table(d: usize, b: usize, marks: &[i32], query: &[i32], table: &mut 
 fn check_table(d: usize, b: usize, marks: usize, query: usize, room: usize) -> Verdict
     ensures { λ r. ⌜ r ≡ first (tableCauses d b marks query room) ⌝ }
 {
-    if !limits::is_dimension_count(d) {
-        return Verdict::Refused(Refusal::Dimension);
+    match layout::check_shape(d, b) {
+        Verdict::Accepted => {
+            let length = layout::marks_length(d, b);
+            if query == d && marks == length && room == length {
+                return Verdict::Accepted;
+            }
+            Verdict::Refused(Refusal::Length)
+        }
+        Verdict::Refused(cause) => Verdict::Refused(cause),
     }
-    if !limits::is_bits(d, b) {
-        return Verdict::Refused(Refusal::Bits);
-    }
-    let length = layout::marks_length(d, b);
-    if query == d && marks == length && room == length {
-        return Verdict::Accepted;
-    }
-    Verdict::Refused(Refusal::Length)
 }
 
 // The table, where nothing refuses: each dimension's entries are written into their own stretch.

@@ -1,33 +1,30 @@
 -- `fill_table` meets its contract: a refusal leaves the table as it was. Assumes nothing.
 use mathlib.Core.Path.{_≡_, sym, _∙_}
 use mathlib.Core.Bool.{not, _&&_, and-eq-true-iff}
-use mathlib.Core.List.{List, [], _∷_}
+use mathlib.Core.List.{[]}
 use Prim.Native.Nat.{ℕ}
 use borrow.Author.Needs.{needs}
 use borrow.Author.Tests.{eqb-true, not-false}
 use lib.Dec.{eqb}
-use lib.ListN.{length}
-use Rattle.refusal.specs.declared.Refusal.the-variants.{Dimension, Bits, Length}
+use Rattle.refusal.specs.declared.Refusal.the-variants.{Length}
 use Rattle.refusal.specs.declared.Verdict.the-variants.{Accepted}
-use Rattle.refusal.specs.First.{Row, _⇒_, first, first-next, passed, outcome-accepted, outcome-refused}
-use Rattle.limits.specs.Limits.{isDimensionCount, isBits}
+use Rattle.refusal.specs.First.{first, passed, outcome-accepted, outcome-refused, accepted-front, accepted-behind}
 use Rattle.layout.specs.Layout.{firstMarks}
 use Rattle.layout.specs.Stretch.{shapeCauses}
-use Rattle.distance.specs.Table.{tableCauses}
+use Rattle.distance.specs.Table.{lengthCauses, tableCauses}
 use Rattle.distance.proofs.table.fill_table.Statement.{statement}
 use Rattle.distance.proofs.table.fill_table.Tie as tie
 
 -- what holds where nothing refuses
 tabled : (d b marks query room : ℕ) → first (tableCauses d b marks query room) ≡ Accepted
     → (first (shapeCauses d b) ≡ Accepted) × (marks ≡ firstMarks d b d) × (room ≡ firstMarks d b d)
-unfolding first
 tabled d b marks query room accepted =
-    let lengths : List Row = (not (eqb query d && (eqb marks (firstMarks d b d) && eqb room (firstMarks d b d))) ⇒ Length) ∷ [] in
-    let count = passed (not (isDimensionCount d)) Dimension ((not (isBits d b) ⇒ Bits) ∷ lengths) accepted in
-    let bits = passed (not (isBits d b)) Bits lengths (count .rest) in
-    let same = passed (not (eqb query d && (eqb marks (firstMarks d b d) && eqb room (firstMarks d b d)))) Length [] (bits .rest) in
-    let both = and-eq-true-iff (eqb marks (firstMarks d b d)) (eqb room (firstMarks d b d)) .0 (and-eq-true-iff (eqb query d) _ .0 (not-false _ (same .fails)) .1) in
-    (rw (count .fails, bits .fails), eqb-true marks (firstMarks d b d) (both .0), eqb-true room (firstMarks d b d) (both .1))
+    let n = firstMarks d b d in
+    let rows = lengthCauses d b marks query room in
+    let same = passed (not (eqb query d && (eqb marks n && eqb room n))) Length [] (accepted-behind (shapeCauses d b) rows accepted) in
+    let both = and-eq-true-iff (eqb query d) (eqb marks n && eqb room n) .0 (not-false _ (same .fails)) .1 in
+    let two = and-eq-true-iff (eqb marks n) (eqb room n) .0 both in
+    (accepted-front (shapeCauses d b) rows accepted, eqb-true marks n (two .0), eqb-true room n (two .1))
 
 fill-dimensions-requires : tie.Need-fill-dimensions-requires
 fill-dimensions-requires c κs = tabled _ _ _ _ _ (sym (c .before .before .before .check-table .ensures) ∙ c .before .enum-told .given .1)
