@@ -1,1 +1,2 @@
 // Approximations of vectors: region numbers, packed into codes.
+pub mod bits;
