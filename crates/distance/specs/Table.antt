@@ -8,7 +8,7 @@ use lib.Dec.{eqb}
 use lib.IntN.{ℤ, pos}
 use lib.ListN.{length, drop, getD}
 use Rattle.refusal.specs.declared.Refusal.the-variants.{Length}
-use Rattle.refusal.specs.First.{Row, _⇒_}
+use Rattle.refusal.specs.First.{Row, _⇒_, first, outcome}
 use Rattle.layout.specs.Layout.{markCount, firstMarks}
 use Rattle.layout.specs.Stretch.{shapeCauses}
 use Rattle.approximation.specs.Codes.{codeRegion}
@@ -32,6 +32,10 @@ tableOf d b marks query = tableFirst d b marks query d
 unfoldable pub tableSum : ℕ → ℕ → List ℕ → List ℕ → ℕ → ℕ → ℕ
 tableSum d b table codes i zero = 0
 tableSum d b table codes i (suc t) = tableSum d b table codes i t + getD table (firstMarks d b t + codeRegion d b codes i t) 0
+
+-- the same of all dimensions, modulo 2^64; 0 where the numbers of dimensions and bits are refused
+unfoldable pub lowerSum : ℕ → ℕ → List ℕ → List ℕ → ℕ → ℕ
+lowerSum d b table codes i = outcome (first (shapeCauses d b)) (tableSum d b table codes i d % 2 ^ 64) (λ _. 0)
 
 -- the causes for which a table is not filled, by the lengths of marks, query and table: 5 behind 1 and 2
 abbrev pub lengthCauses : ℕ → ℕ → ℕ → ℕ → ℕ → List Row

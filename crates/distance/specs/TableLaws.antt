@@ -3,17 +3,24 @@ use mathlib.Core.Path.{_≡_, refl, sym, ap, _∙_}
 use mathlib.Core.List.{List, [], _∷_, _++_}
 use Prim.Native.Nat.{ℕ, zero, suc, _+_, _-_, _%_, _^_, _≤_, _<_}
 use mathlib.Core.Logic.{inl, inr}
-use native.Mathlib.Nat.{zero-add, add-zero, add-mod, mod-mod, le-refl, le-of-suc-le-suc, eq-or-lt-of-le}
+use native.Mathlib.Nat.{zero-add, add-zero, add-mod, mod-mod, mod-eq-of-lt, le-refl, le-of-suc-le-suc, eq-or-lt-of-le}
 use native.Mathlib.Omega.{arith}
 use lib.IntN.{ℤ, pos}
 use lib.ListN.{length, take, drop, getD, length-append, List·getD-append}
 use lib.Seq.{getD-append-add, getD-drop, getD-take}
+use mathlib.Core.Bool.{true}
+use Rattle.refusal.specs.declared.Verdict.the-variants.{Accepted}
+use Rattle.refusal.specs.First.{first, outcome-accepted}
+use Rattle.whole.specs.Components.{areComponents}
 use Rattle.layout.specs.Layout.{regionCount, markCount, firstMarks}
 use Rattle.layout.specs.Laws.{marks-within, first-next-marks}
-use Rattle.partition.specs.Marks.{dimensionMarks}
+use Rattle.layout.specs.Stretch.{shapeCauses, shape}
+use Rattle.partition.specs.Marks.{dimensionMarks, goodMarks}
 use Rattle.approximation.specs.Codes.{codeRegion}
+use Rattle.approximation.specs.PackLaws.{code-region-fits}
 use Rattle.distance.specs.Bounds.{shortest, stepTo, firstBound, lowerOf}
-use Rattle.distance.specs.Table.{stepsFrom, tableFirst, tableOf, tableSum}
+use Rattle.distance.specs.Small.{lower-small}
+use Rattle.distance.specs.Table.{stepsFrom, tableFirst, tableOf, tableSum, lowerSum}
 
 pub length-steps : (q : ℤ) (marks : List ℤ) (r n : ℕ) → length (stepsFrom q marks r n) ≡ n
 unfolding stepsFrom
@@ -68,16 +75,24 @@ module _ (d b : ℕ) (marks query : List ℤ) where
       let part = drop (firstMarks d b t) marks in
       rw (one, getD-take (markCount d b (suc t)) part r (pos 0) (omega arith), getD-take (markCount d b (suc t)) part (suc r) (pos 0) (omega arith))
 
-  module _ (codes : List ℕ) (i : ℕ) (fits : (t : ℕ) → codeRegion d b codes i t < regionCount d b (suc t)) where
+  module _ (codes : List ℕ) (i : ℕ) where
     sum-first : (n t : ℕ) → t ≤ n → tableSum d b (tableFirst d b marks query n) codes i t % 2 ^ 64 ≡ firstBound shortest d b marks codes query i t % 2 ^ 64
     unfolding tableSum firstBound
     sum-first n zero h = refl
     sum-first n (suc t) h =
         let r = codeRegion d b codes i t in
         let q = getD query t (pos 0) in
-        let entry = entry-at n t r h (omega (arith, fits t)) ∙ ap (λ (s : ℕ). s % 2 ^ 64) (region-step q t r (fits t)) in
+        let fits = code-region-fits d b codes i t in
+        let entry = entry-at n t r h (omega arith) ∙ ap (λ (s : ℕ). s % 2 ^ 64) (region-step q t r fits) in
         rw (add-mod (tableSum d b (tableFirst d b marks query n) codes i t) _ (2 ^ 64), entry, sum-first n t (omega arith), mod-mod (stepTo shortest q (dimensionMarks d b marks (suc t)) r) (2 ^ 64))
         (sym (add-mod (firstBound shortest d b marks codes query i t) (stepTo shortest q (dimensionMarks d b marks (suc t)) r) (2 ^ 64)))
 
+    -- a code's entries sum up to its lower bound, modulo 2^64 for any numbers and exactly for components and marks in range
     pub table-sum : tableSum d b (tableOf d b marks query) codes i d % 2 ^ 64 ≡ lowerOf d b marks codes query i % 2 ^ 64
     table-sum = sum-first d d (le-refl d)
+
+    pub lower-sum : first (shapeCauses d b) ≡ Accepted → areComponents query ≡ true → goodMarks d b marks ≡ true
+        → lowerSum d b (tableOf d b marks query) codes i ≡ lowerOf d b marks codes query i
+    unfolding lowerSum
+    lower-sum shaped components good =
+        outcome-accepted _ _ shaped ∙ table-sum ∙ mod-eq-of-lt (lower-small query components d b marks good (shape d b shaped .few) codes i)

@@ -1,14 +1,18 @@
 // A query's table of squared shortest steps, and the lower bounds that are sums of its entries.
+use approximation::bits::bits_at;
 use crate::step;
 use refusal::Refusal;
 use refusal::Verdict;
 ghost use mathlib.Core.Path.{_≡_};
-ghost use lib.ListN.{length};
+ghost use mathlib.Core.Bool.{cond};
+ghost use Prim.Native.Nat.{suc, _+_, _%_, _^_, _≤_};
+ghost use lib.Dec.{leb};
+ghost use lib.ListN.{length, getD};
 ghost use Rattle.refusal.specs.First.{first, outcome};
 ghost use Rattle.layout.specs.Layout.{firstMarks};
 ghost use Rattle.refusal.specs.declared.Verdict.the-variants.{Accepted};
 ghost use Rattle.layout.specs.Stretch.{shapeCauses};
-ghost use Rattle.distance.specs.Table.{stepsFrom, tableOf, tableCauses};
+ghost use Rattle.distance.specs.Table.{stepsFrom, tableOf, tableCauses, tableSum, lowerSum};
 
 // The table of a query, in the layout of the marks.
 pub fn fill_table(d: usize, b: usize, marks: &[i32], query: &[i32], table: &mut [u64]) -> Verdict
@@ -68,4 +72,55 @@ fn fill_steps(q: i32, marks: &[i32], table: &mut [u64])
         table[r] = step::squared(step);
         r += 1;
     }
+}
+
+// The lower bound of code i's cell, as a sum of the table's entries.
+pub fn lower_bound(d: usize, b: usize, table: &[u64], codes: &[u8], i: u32) -> u64
+    ensures { λ r. ⌜ r ≡ lowerSum d b (now (table .entry)) (now (codes .entry)) i ⌝ }
+{
+    match layout::check_shape(d, b) {
+        Verdict::Accepted => sum_entries(d, b, table, codes, i),
+        Verdict::Refused(_) => 0,
+    }
+}
+
+// The sum of the entries of the regions that code i names: `bit` is where the region's number begins in the codes, and `start` where
+// its dimension's entries begin in the table.
+fn sum_entries(d: usize, b: usize, table: &[u64], codes: &[u8], i: u32) -> u64
+    requires { ⌜ first (shapeCauses d b) ≡ Accepted ⌝ }
+    ensures { λ r. ⌜ r ≡ tableSum d b (now (table .entry)) (now (codes .entry)) i d % 2 ^ 64 ⌝ }
+{
+    let fewest = b / d;
+    let more = b % d;
+    let mut bit = i as usize * b;
+    let mut start = 0;
+    let mut sum = 0;
+    let mut t = 0;
+    while t < d {
+        let w = dimension_bits(fewest, more, t);
+        let region = bits_at(codes, bit, w);
+        sum = std::num::wrapping_add_u64(sum, entry_at(table, start + region));
+        bit += w;
+        start += (1usize << w) + 1;
+        t += 1;
+    }
+    sum
+}
+
+// The bits of the dimension behind t others, where each has the fewest and the first ones have one more.
+fn dimension_bits(fewest: usize, more: usize, t: usize) -> usize
+    requires { ⌜ fewest ≤ 6 ⌝ }
+    ensures { λ r. ⌜ r ≡ fewest + cond (leb (suc t) more) 1 0 ⌝ }
+{
+    if t < more { fewest + 1 } else { fewest }
+}
+
+// The entry at an index, 0 past the end.
+fn entry_at(table: &[u64], i: usize) -> u64
+    ensures { λ r. ⌜ r ≡ getD (now (table .entry)) i 0 ⌝ }
+{
+    if i < table.len() {
+        return table[i];
+    }
+    0
 }

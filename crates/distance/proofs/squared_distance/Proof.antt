@@ -8,7 +8,7 @@ use lib.IntN.{pos}
 use lib.ListN.{getD}
 use Rattle.distance.specs.Distance.{gap, squared, firstDistance}
 use Rattle.distance.proofs.Read.{read-back}
-use Rattle.distance.proofs.Sum.{sum-mod}
+use Rattle.distance.proofs.Sum.{sum-more-mod}
 use Rattle.distance.proofs.squared_distance.Statement.{statement}
 use Rattle.distance.proofs.squared_distance.Tie as tie
 
@@ -30,7 +30,7 @@ loop-again : tie.Need-loop-again Inv-loop μ-loop
 unfolding firstDistance
 loop-again c =
     let at = c .before .before .before .before .before .before in
-    (omega arith, rw add-one (sum-mod (firstDistance (at .before .args .query .now) (at .before .args .vector .now) (at .loop .t)) _ (c .wrapping-add-u64 .ensures) (at .loop .inv .1) (here (c .before))))
+    (omega arith, rw add-one (sum-more-mod (firstDistance (at .before .args .query .now) (at .before .args .vector .now) (at .loop .t)) _ (c .wrapping-add-u64 .ensures) (at .loop .inv .1) (here (c .before))))
 
 returns : tie.Need-returns Inv-loop μ-loop
 returns c =

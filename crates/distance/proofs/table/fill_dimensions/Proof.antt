@@ -2,14 +2,12 @@
 -- dimensions. Assumes nothing.
 use mathlib.Core.Path.{_≡_, refl, sym, _∙_}
 use Prim.Native.Nat.{ℕ, suc, _+_, _-_, _*_, _%_, _^_, _≤_, _<_}
-use native.Mathlib.Nat.{one-mul, mod-eq-of-lt}
 use native.Mathlib.Numerals.{add-one}
 use native.Mathlib.Omega.{arith}
 use borrow.Author.Needs.{needs}
 use borrow.Author.Tests.{le-leb}
 use borrow.Rule.Slice.PartMut.{same-len-mid}
 use lib.ListN.{length, take}
-use lib.Pow.{pow-mono}
 use lib.Seq.{take-all}
 use Rattle.refusal.specs.declared.Verdict.the-variants.{Accepted}
 use Rattle.refusal.specs.First.{first}
@@ -18,6 +16,7 @@ use Rattle.layout.specs.Stretch.{shapeCauses, dimensionCauses, Stretches, stret
 use Rattle.distance.specs.Table.{tableFirst}
 use Rattle.distance.proofs.Entries.{next-entries}
 use Rattle.distance.proofs.Read.{read-back}
+use Rattle.distance.proofs.Shift.{shifted}
 use Rattle.distance.proofs.table.fill_dimensions.Statement.{statement}
 use Rattle.distance.proofs.table.fill_dimensions.Tie as tie
 
@@ -39,11 +38,6 @@ pub record Place (d b t offset bits : ℕ) : Type 0 where
   pub end : offset + 1 * 2 ^ bits % 2 ^ 64 + 1 ≡ firstMarks d b (suc t)
   pub within : firstMarks d b (suc t) ≤ firstMarks d b d
   pub small : firstMarks d b d ≤ 2080
-
-shifted : (w : ℕ) → w ≤ 6 → 1 * 2 ^ w % 2 ^ 64 ≡ 2 ^ w
-shifted w h =
-    let small : 2 ^ w ≤ 64 = pow-mono h in
-    rw (one-mul (2 ^ w)) (mod-eq-of-lt (omega arith))
 
 place : (c : tie.After-stretch-of Inv-loop μ-loop) → let at = c .before .before in let args = at .before .before .args in
     Place (args .d) (args .b) (at .loop .t) (c .stretch-of .result .offset) (c .stretch-of .result .bits)
