@@ -2,4 +2,5 @@ pub mod Bits
 pub mod BitLaws
 pub mod Codes
 pub mod PackLaws
+pub mod Vectors
 pub mod Cells

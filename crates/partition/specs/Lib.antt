@@ -1,4 +1,5 @@
 pub mod Marks
+pub mod Parts
 pub mod MarksCauses
 pub mod Region
 pub mod Within

@@ -3,18 +3,17 @@
 use mathlib.Core.Path.{_≡_, refl, sym, ap, _∙_}
 use mathlib.Core.Bool.{true, _&&_, and-eq-true-iff}
 use mathlib.Core.Logic.{_≢_, inl, inr}
-use mathlib.Core.List.{List, [], _∷_, List·Memᴰ·head, List·Memᴰ·tail}
+use mathlib.Core.List.{List}
 use Prim.Native.Nat.{ℕ, zero, suc, _*_, _<_}
 use native.Mathlib.Nat.{eq-or-lt-of-le, le-of-suc-le-suc}
 use native.Mathlib.Decide.{ℕ-discrete}
 use native.Mathlib.Omega.{arith}
 use lib.IntN.{ℤ}
 use lib.ListN.{length}
-use Rattle.order.specs.Pair.{countFrom, keyed, ranked}
 use Rattle.order.specs.Members.{_∈_}
 use Rattle.order.specs.Counted.{counted, counts}
 use Rattle.selection.specs.Reading.{scan}
-use Rattle.selection.specs.Settles.{LowerBound, Bounds, Within, Agree, Settles, Needed, changed}
+use Rattle.selection.specs.Settles.{LowerBound, Bounds, Within, Settles, Needed, changed}
 use Rattle.selection.specs.Changed.{changed-there, changed-elsewhere}
 use Rattle.selection.specs.Least.{member?}
 use Rattle.selection.specs.Theorems.{exact}
@@ -25,6 +24,7 @@ use Rattle.distance.specs.Bounds.{firstBound}
 use Rattle.distance.specs.CellBounds.{lower-le, CellReached, lower-reached, upper-reached}
 use Rattle.search.specs.Search.{Library, numbersIn, distanceIn, lowIn, highIn, scanned, searched}
 use Rattle.search.specs.Settled.{withVectors, CellOf, OwnCodes, SameCells, SettlesAnswer, NeededVector}
+use Rattle.search.specs.Values.{scan-agree}
 use Rattle.search.specs.Rows.{Row, Rows, in-a-row}
 
 -- v is the distance of a vector of code i's cell
@@ -74,17 +74,6 @@ cell-bounds l query good = record {
     reached r = record { vector = r .vector; cell = r .cell; is = r .is }
 
 -- ---- from distances to vectors
-
--- distances that agree at the library's numbers give the same answer
-keyed-agree : (key other : ℕ → ℕ) (is : List ℕ) → Agree is other key → keyed other is ≡ keyed key is
-unfolding keyed
-keyed-agree key other [] agree = refl
-keyed-agree key other (i ∷ is) agree =
-    rw (agree i (List·Memᴰ·head refl), keyed-agree key other is (λ j m. agree j (List·Memᴰ·tail m)))
-
-scan-agree : (k : ℕ) (distance other : ℕ → ℕ) (is : List ℕ) → Agree is other distance → scan k other is ≡ scan k distance is
-unfolding scan ranked
-scan-agree k distance other is agree = rw (keyed-agree distance other is agree)
 
 -- where for each number there is a vector of its cell that has the wanted distance, there are vectors whose scan is that of the distances
 pub answered : (l : Library) (query : List ℤ) (k : ℕ) (wanted : ℕ → ℕ) (vectors : List ℤ)

@@ -18,8 +18,7 @@ use Rattle.partition.proofs.marks.dimension_marks.Tie as tie
 -- where a part is handed back, there is such a dimension, and the buffer has its length
 numbered : (d b j : ℕ) (marks : List ℤ) → first (partCauses d b marks j) ≡ Accepted → (first (dimensionCauses d b j) ≡ Accepted) × (length marks ≡ firstMarks d b d)
 numbered d b j marks accepted =
-    let size = passed _ _ _ (accepted-behind (dimensionCauses d b j) (shapedCauses d b marks) accepted) in
-    (
+    let size = passed _ _ _ (accepted-behind (dimensionCauses d b j) (shapedCauses d b marks) accepted) in (
       accepted-front (dimensionCauses d b j) (shapedCauses d b marks) accepted,
       eqb-true (length marks) (firstMarks d b d) (not-false (eqb (length marks) (firstMarks d b d)) (size .fails)),
     )
