@@ -3,16 +3,16 @@ use mathlib.Core.Path.{_≡_, refl, sym, ap, _∙_}
 use mathlib.Core.Bool.{Bool, true, false, _&&_, and-eq-true-iff}
 use mathlib.Core.List.{List, [], _∷_, _++_, append-assoc}
 use Prim.Native.Nat.{ℕ, zero, suc, _+_, _-_, _*_, _/_, _%_, _^_, _≤_, _<_, zero-le}
-use native.Mathlib.Nat.{suc-add, add-comm, zero-add, sub-zero, suc-sub-suc, suc-mul, zero-mul, mul-assoc, mul-comm, mul-le-mul-right, mul-add-div-right, mul-add-mod-self-right, mod-lt, mod-eq-of-lt, pow-suc, pow-succ', le-of-suc-le-suc}
+use native.Mathlib.Nat.{suc-add, add-comm, zero-add, sub-zero, suc-sub-suc, suc-mul, zero-mul, zero-div, mul-assoc, mul-comm, mul-le-mul-right, mul-add-div-right, mul-add-mod-self-right, mod-lt, mod-eq-of-lt, pow-suc, pow-succ', le-of-suc-le-suc}
 use native.Mathlib.Numerals.{one-add}
 use native.Mathlib.Omega.{arith}
-use borrow.Author.Tests.{eqb-true, eqb-false, ne-eqb}
+use borrow.Author.Tests.{eqb-true, eqb-false, le-leb, ne-eqb}
 use lib.Arith.{digits-lt}
 use lib.Dec.{eqb}
 use lib.ListN.{length, getD, drop, replicate, length-append}
 use lib.Seq.{drop-at, drop-nil, getD-drop, drop-drop}
-use lib.Pow.{pow-pos, shr-shr, high, mod-pow-add, split}
-use Rattle.approximation.specs.Bits.{lowBits, fromBits, bytesOf, byteBits, allZero}
+use lib.Pow.{pow-pos, pow-mono, shr-shr, high, mod-pow-add, split}
+use Rattle.approximation.specs.Bits.{lowBits, fromBits, bytesOf, byteBits, bitsAt, allZero}
 
 -- each is 0 or 1
 pub data Binary : List ℕ → Type 0 where
@@ -121,6 +121,15 @@ bytes-same zero one other same = refl
 bytes-same (suc count) one other same =
     rw (from-same 8 one other same, bytes-same count (drop 8 one) (drop 8 other) (same-drop 8 one other same))
 
+-- zeros at the end are not seen
+pub same-zeros : (w : ℕ) (bits : List ℕ) → Same bits (bits ++ lowBits w 0)
+unfolding lowBits
+same-zeros zero [] i = refl
+same-zeros (suc w) [] zero = rw zero-div
+same-zeros (suc w) [] (suc i) = same-zeros w [] i
+same-zeros w (x ∷ bits) zero = refl
+same-zeros w (x ∷ bits) (suc i) = same-zeros w bits i
+
 -- the first w bits of a list, with zeros past its end
 unfoldable pub padded : ℕ → List ℕ → List ℕ
 padded zero bits = []
@@ -202,3 +211,13 @@ pub binary-bytes : (bytes : List ℕ) → Binary (byteBits bytes)
 unfolding byteBits
 binary-bytes [] = none
 binary-bytes (x ∷ bytes) = binary-append (binary-low 8 x) (binary-bytes bytes)
+
+-- up to 8 bits are read as they stand, and make a byte
+pub bits-at : (bytes : List ℕ) (from w : ℕ) → w ≤ 8 → bitsAt bytes from w ≡ fromBits w (drop from (byteBits bytes))
+unfolding bitsAt
+bits-at bytes from w few = rw (le-leb w 8 few)
+
+pub bits-at-lt : (bytes : List ℕ) (from w : ℕ) → w ≤ 8 → bitsAt bytes from w < 256
+bits-at-lt bytes from w few =
+    let power : 2 ^ w ≤ 2 ^ 8 = pow-mono few in
+    rw (bits-at bytes from w few) (omega (arith, from-lt w (binary-drop from (binary-bytes bytes))))

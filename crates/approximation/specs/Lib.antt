@@ -2,5 +2,6 @@ pub mod Bits
 pub mod BitLaws
 pub mod Codes
 pub mod PackLaws
+pub mod Pack
 pub mod Vectors
 pub mod Cells

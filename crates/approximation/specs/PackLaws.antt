@@ -7,13 +7,13 @@ use native.Mathlib.Nat.{le-of-suc-le-suc, suc-add, add-suc, add-comm, add-assoc,
 use native.Mathlib.Omega.{arith}
 use borrow.Author.Tests.{ltb-true, lt-ltb, eqb-true, eqb-false, eq-eqb, ne-eqb}
 use lib.Arith.{digits-lt, digits-div, digits-mod}
-use lib.Dec.{eqb}
-use lib.ListN.{length, getD, drop, replicate, length-append}
+use lib.Dec.{eqb, lit≤}
+use lib.ListN.{length, getD, drop, replicate, length-append, length-drop}
 use lib.Seq.{drop-at, drop-drop}
 use Rattle.layout.specs.Layout.{bitsOf, regionCount, firstBits}
 use Rattle.layout.specs.Laws.{all-bits}
-use Rattle.approximation.specs.Bits.{lowBits, fromBits, bytesOf, byteBits, allZero}
-use Rattle.approximation.specs.BitLaws.{Binary, none, binary-drop, binary-append, binary-low, binary-bytes, Bytes, padded, length-low, length-bytes, length-byte-bits, low-from, from-low, from-lt, padded-add, padded-long, padded-same, zeros, bytes-same, bytes-of, bits-bytes, bytes-bits}
+use Rattle.approximation.specs.Bits.{lowBits, fromBits, byteBits, bitsAt}
+use Rattle.approximation.specs.BitLaws.{Binary, none, binary-drop, binary-append, binary-low, binary-bytes, Bytes, padded, length-low, length-bytes, length-byte-bits, low-from, from-low, from-lt, from-zero, padded-add, padded-long, padded-same, zeros, bytes-same, bytes-of, bits-bytes, bytes-bits, bits-at}
 use Rattle.approximation.specs.Codes.{nextColumn, joined, regionsFit, codeLength, packed, split, unpacked, codeRegion, spareZero}
 
 -- ---- region numbers joined, and split again
@@ -132,6 +132,12 @@ unpacked-fit d b n codes = split-fit d b 0 (n * d) (binary-bytes codes)
 pub code-region-fits : (d b : ℕ) (codes : List ℕ) (i t : ℕ) → codeRegion d b codes i t < regionCount d b (suc t)
 unfolding codeRegion
 code-region-fits d b codes i t = from-lt (bitsOf d b (suc t)) (binary-drop (i * b + firstBits d b t) (binary-bytes codes))
+
+-- the spare bits, fewer than 8, are read as one number
+pub spare-read : (b n : ℕ) (codes : List ℕ) → length codes ≡ codeLength b n → eqb (bitsAt codes (n * b) 8) 0 ≡ spareZero b n codes
+spare-read b n codes long =
+    let bits = length-byte-bits codes in
+    rw (bits-at codes (n * b) 8 (lit≤ tt)) (from-zero 8 (drop (n * b) (byteBits codes)) (simp length-drop (omega arith)))
 
 module _ (d b n : ℕ) (some : 0 < d) where
   -- the bits of the bytes are those of the numbers, and then zeros

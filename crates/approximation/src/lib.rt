@@ -1,2 +1,3 @@
 // Approximations of vectors: region numbers, packed into codes.
 pub mod bits;
+pub mod codes;

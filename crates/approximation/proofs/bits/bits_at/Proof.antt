@@ -9,7 +9,7 @@ use borrow.Author.Tests.{le-leb, lt-leb}
 use lib.ListN.{length, getD, drop, replicate}
 use lib.Seq.{drop-at, drop-nil, drop-drop, getD-drop}
 use Rattle.approximation.specs.Bits.{lowBits, fromBits, byteBits, bitsAt}
-use Rattle.approximation.specs.BitLaws.{Bytes, length-low, low-join, from-field, Same, same-drop, from-same}
+use Rattle.approximation.specs.BitLaws.{Bytes, length-low, low-join, from-field, Same, same-drop, same-zeros, from-same}
 use Rattle.approximation.proofs.bits.bits_at.Statement.{statement}
 use Rattle.approximation.proofs.bits.bits_at.Tie as tie
 
@@ -21,20 +21,11 @@ drop-bytes (suc q) (x ∷ bytes) =
     rw (suc-mul q 8, add-comm (q * 8) 8, ← drop-drop (q * 8) 8 (lowBits 8 x ++ byteBits bytes), drop-at (lowBits 8 x) (byteBits bytes) 8 (length-low 8 x))
     (drop-bytes q bytes)
 
--- zeros at the end are not seen
-same-zeros : (w : ℕ) (bits : List ℕ) → Same bits (bits ++ lowBits w 0)
-unfolding lowBits
-same-zeros zero [] i = refl
-same-zeros (suc w) [] zero = rw zero-div
-same-zeros (suc w) [] (suc i) = same-zeros w [] i
-same-zeros w (x ∷ bits) zero = refl
-same-zeros w (x ∷ bits) (suc i) = same-zeros w bits i
-
 -- the bits of the first two bytes, as those of one number, in front of the rest
 two-bytes : (bytes : List ℕ) → Bytes bytes → Same (byteBits bytes) (lowBits 16 (getD bytes 0 0 * 256 + getD bytes 1 0) ++ byteBits (drop 2 bytes))
 unfolding byteBits
 two-bytes [] small = rw append-nil (same-zeros 16 [])
-two-bytes (x ∷ []) small = rw (append-nil, append-nil, ← low-join 8 8 x 0 (small 1)) (same-zeros 8 (lowBits 8 x))
+two-bytes (x ∷ []) small = rw (append-nil (lowBits 8 x), append-nil, ← low-join 8 8 x 0 (small 1)) (same-zeros 8 (lowBits 8 x))
 two-bytes (x ∷ y ∷ bytes) small = rw (← append-assoc, low-join 8 8 x y (small 1)) (λ i. refl)
 
 in-two : (bytes : List ℕ) → Bytes bytes → (r w : ℕ) → r < 8 → w ≤ 8
