@@ -5,12 +5,14 @@ use Prim.Native.Nat.{ℕ, zero, suc, _+_, _-_, _%_, _^_, _≤_, _<_}
 use mathlib.Core.Logic.{inl, inr}
 use native.Mathlib.Nat.{zero-add, add-zero, add-mod, mod-mod, mod-eq-of-lt, le-refl, le-of-suc-le-suc, eq-or-lt-of-le}
 use native.Mathlib.Omega.{arith}
+use borrow.Author.Tests.{lt-ltb}
 use lib.IntN.{ℤ, pos}
 use lib.ListN.{length, take, drop, getD, length-append, List·getD-append}
 use lib.Seq.{getD-append-add, getD-drop, getD-take}
 use mathlib.Core.Bool.{true}
 use Rattle.refusal.specs.declared.Verdict.the-variants.{Accepted}
-use Rattle.refusal.specs.First.{first, outcome-accepted}
+use Rattle.refusal.specs.First.{first}
+use Rattle.limits.specs.Limits.{maxVectors}
 use Rattle.whole.specs.Components.{areComponents}
 use Rattle.layout.specs.Layout.{regionCount, markCount, firstMarks}
 use Rattle.layout.specs.Laws.{marks-within, first-next-marks}
@@ -91,8 +93,9 @@ module _ (d b : ℕ) (marks query : List ℤ) where
     pub table-sum : tableSum d b (tableOf d b marks query) codes i d % 2 ^ 64 ≡ lowerOf d b marks codes query i % 2 ^ 64
     table-sum = sum-first d d (le-refl d)
 
-    pub lower-sum : first (shapeCauses d b) ≡ Accepted → areComponents query ≡ true → goodMarks d b marks ≡ true
+    pub lower-sum : i < maxVectors → first (shapeCauses d b) ≡ Accepted → areComponents query ≡ true → goodMarks d b marks ≡ true
         → lowerSum d b (tableOf d b marks query) codes i ≡ lowerOf d b marks codes query i
     unfolding lowerSum
-    lower-sum shaped components good =
-        outcome-accepted _ _ shaped ∙ table-sum ∙ mod-eq-of-lt (lower-small query components d b marks good (shape d b shaped .few) codes i)
+    lower-sum within shaped components good =
+        rw (lt-ltb i maxVectors within, shaped)
+        (table-sum ∙ mod-eq-of-lt (lower-small query components d b marks good (shape d b shaped .few) codes i))

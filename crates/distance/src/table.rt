@@ -1,14 +1,16 @@
 // A query's table of squared shortest steps, and the lower bounds that are sums of its entries.
-use approximation::bits::bits_at;
 use crate::step;
+use approximation::bits::bits_at;
+use limits::MAX_VECTORS;
 use refusal::Refusal;
 use refusal::Verdict;
 ghost use mathlib.Core.Path.{_≡_};
 ghost use mathlib.Core.Bool.{cond};
-ghost use Prim.Native.Nat.{suc, _+_, _%_, _^_, _≤_};
+ghost use Prim.Native.Nat.{suc, _+_, _%_, _^_, _≤_, _<_};
 ghost use lib.Dec.{leb};
 ghost use lib.ListN.{length, getD};
 ghost use Rattle.refusal.specs.First.{first, outcome};
+ghost use Rattle.limits.specs.Limits.{maxVectors};
 ghost use Rattle.layout.specs.Layout.{firstMarks};
 ghost use Rattle.refusal.specs.declared.Verdict.the-variants.{Accepted};
 ghost use Rattle.layout.specs.Stretch.{shapeCauses};
@@ -74,25 +76,28 @@ fn fill_steps(q: i32, marks: &[i32], table: &mut [u64])
     }
 }
 
-// The lower bound of code i's cell, as a sum of the table's entries.
-pub fn lower_bound(d: usize, b: usize, table: &[u64], codes: &[u8], i: u32) -> u64
+// The lower bound of code i's cell, as a sum of the table's entries; 0 for an i past MAX_VECTORS.
+pub fn lower_bound(d: usize, b: usize, table: &[u64], codes: &[u8], i: usize) -> u64
     ensures { λ r. ⌜ r ≡ lowerSum d b (now (table .entry)) (now (codes .entry)) i ⌝ }
 {
+    if MAX_VECTORS <= i {
+        return 0;
+    }
     match layout::check_shape(d, b) {
         Verdict::Accepted => sum_entries(d, b, table, codes, i),
         Verdict::Refused(_) => 0,
     }
 }
 
-// The sum of the entries of the regions that code i names: `bit` is where the region's number begins in the codes, and `start` where
-// its dimension's entries begin in the table.
-fn sum_entries(d: usize, b: usize, table: &[u64], codes: &[u8], i: u32) -> u64
-    requires { ⌜ first (shapeCauses d b) ≡ Accepted ⌝ }
+// The sum of the entries of the regions that code i names: `bit` is where a region's number begins in the codes, and `start` where its
+// dimension's entries begin in the table.
+fn sum_entries(d: usize, b: usize, table: &[u64], codes: &[u8], i: usize) -> u64
+    requires { ⌜ (i < maxVectors) × (first (shapeCauses d b) ≡ Accepted) ⌝ }
     ensures { λ r. ⌜ r ≡ tableSum d b (now (table .entry)) (now (codes .entry)) i d % 2 ^ 64 ⌝ }
 {
     let fewest = b / d;
     let more = b % d;
-    let mut bit = i as usize * b;
+    let mut bit = i * b;
     let mut start = 0;
     let mut sum = 0;
     let mut t = 0;

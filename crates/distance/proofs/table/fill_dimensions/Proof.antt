@@ -68,10 +68,11 @@ loop-again c =
     let here = place known in
     let end = stretch .offset + 1 * 2 ^ stretch .bits % 2 ^ 64 + 1 in
     let ys = filled .fill-steps .last .1 .1 .0 in
-    let component = read-back (record { sfits = read .at .ok }) (read .at .ensures) in
-    (omega arith,
+    let component = read-back (record { sfits = read .at .ok }) (read .at .ensures) in (
+      omega arith,
       same-len-mid (stretch .offset) (end - stretch .offset) (at .loop .table) ys (filled .fill-steps .kept .1 .1 .0) ∙ at .loop .inv .1,
-      rw (add-one (at .loop .t)) (next-entries (args .d) (args .b) (args .marks .now) (args .query .now) (at .loop .t) (stretch .offset) end (at .loop .table) ys (here .start) (here .end) (omega (arith, here .within, start .pre .1, start .pre .2, at .loop .inv .1)) (rw component at (filled .fill-steps .ensures)) (at .loop .inv .2)))
+      rw (add-one (at .loop .t)) (next-entries (args .d) (args .b) (args .marks .now) (args .query .now) (at .loop .t) (stretch .offset) end (at .loop .table) ys (here .start) (here .end) (omega (arith, here .within, start .pre .1, start .pre .2, at .loop .inv .1)) (rw component at (filled .fill-steps .ensures)) (at .loop .inv .2)),
+    )
 
 returns : tie.Need-returns Inv-loop μ-loop
 returns c =
