@@ -23,16 +23,16 @@ front a e xs ys first within count =
 rest : (a : ℕ) (xs : List ℤ) → midOf a (length xs - a) xs ≡ drop a xs
 rest a xs = take-all (length xs - a) (drop a xs) (simp length-drop (omega arith))
 
-module _ (d b : ℕ) (marks query : List ℤ) where
+module _ (step : ℤ → ℤ → ℤ → ℕ) (d b : ℕ) (marks query : List ℤ) where
   pub next-entries : (t start end : ℕ) (table ys : List ℕ) → start ≡ firstMarks d b t → end ≡ firstMarks d b (suc t) → firstMarks d b (suc t) ≤ length table
-      → ys ≡ stepsFrom (getD query t (pos 0)) (midOf start (length marks - start) marks) 0 (length (midOf start (end - start) table))
-      → take (firstMarks d b t) table ≡ tableFirst d b marks query t
-      → take (firstMarks d b (suc t)) (putMid start (end - start) table ys) ≡ tableFirst d b marks query (suc t)
+      → ys ≡ stepsFrom step (getD query t (pos 0)) (midOf start (length marks - start) marks) 0 (length (midOf start (end - start) table))
+      → take (firstMarks d b t) table ≡ tableFirst step d b marks query t
+      → take (firstMarks d b (suc t)) (putMid start (end - start) table ys) ≡ tableFirst step d b marks query (suc t)
   unfolding tableFirst
   next-entries t start end table ys starts ends within is before =
       let q = getD query t (pos 0) in
       let count : end - start ≡ markCount d b (suc t) = omega (arith, first-next-marks d b t) in
       let part = mid-len start end table (omega arith) in
-      let entries : ys ≡ stepsFrom q (drop start marks) 0 (markCount d b (suc t)) = rw (rest start marks, part, count) at is in
-      let long : length ys ≡ end - start = ap length entries ∙ length-steps q (drop start marks) 0 (markCount d b (suc t)) ∙ sym count in
+      let entries : ys ≡ stepsFrom step q (drop start marks) 0 (markCount d b (suc t)) = rw (rest start marks, part, count) at is in
+      let long : length ys ≡ end - start = ap length entries ∙ length-steps step q (drop start marks) 0 (markCount d b (suc t)) ∙ sym count in
       rw (← ends, front start end table ys (omega (arith, first-next-marks d b t)) (omega arith) long, entries, starts, before)

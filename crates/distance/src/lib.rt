@@ -10,6 +10,12 @@ ghost use Rattle.refusal.specs.First.{first, outcome};
 ghost use Rattle.distance.specs.Distance.{distanceOf};
 ghost use Rattle.distance.specs.Measured.{distanceCauses};
 
+// A cell's two bounds: its least distance and its greatest.
+pub enum Bound {
+    Lower,
+    Upper,
+}
+
 // The answer where a distance is asked for.
 pub enum Distance {
     Squared(u64),

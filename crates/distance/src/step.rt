@@ -1,9 +1,11 @@
 // One dimension's steps. Differences are those of keys.
+use crate::Bound;
 ghost use mathlib.Core.Path.{_≡_};
 ghost use Prim.Native.Nat.{_%_, _^_, _≤_, _<_};
 ghost use lib.IntN.{predℤ};
 ghost use Rattle.distance.specs.Distance as Distance;
 ghost use Rattle.distance.specs.Bounds.{shortest, longest};
+ghost use Rattle.distance.specs.Table.{stepOf};
 
 // How far two numbers are apart.
 pub fn gap(a: i32, b: i32) -> u64
@@ -29,8 +31,18 @@ fn gap_to_last(q: i32, high: i32) -> u64
     k - l
 }
 
-// The shortest step to the region from low up to, and without, high.
-pub fn shortest_step(q: i32, low: i32, high: i32) -> u64
+// What the step to the region from low up to, and without, high adds to a bound, modulo 2^64.
+pub fn squared_step(bound: Bound, q: i32, low: i32, high: i32) -> u64
+    ensures { λ r. ⌜ r ≡ Distance.squared (stepOf bound q low high) % 2 ^ 64 ⌝ }
+{
+    match bound {
+        Bound::Lower => squared(shortest_step(q, low, high)),
+        Bound::Upper => squared(longest_step(q, low, high)),
+    }
+}
+
+// The shortest step to that region.
+fn shortest_step(q: i32, low: i32, high: i32) -> u64
     ensures { λ r. ⌜ (r ≡ shortest q low high) × (r ≤ 2 ^ 32) ⌝ }
 {
     if q < low {
@@ -43,7 +55,7 @@ pub fn shortest_step(q: i32, low: i32, high: i32) -> u64
 }
 
 // The longest step to that region.
-pub fn longest_step(q: i32, low: i32, high: i32) -> u64
+fn longest_step(q: i32, low: i32, high: i32) -> u64
     ensures { λ r. ⌜ (r ≡ longest q low high) × (r ≤ 2 ^ 32) ⌝ }
 {
     let first = gap(q, low);

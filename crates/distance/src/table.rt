@@ -1,4 +1,5 @@
-// A query's table of squared shortest steps, and the lower bounds that are sums of its entries.
+// A query's table of squared steps, and the bounds that are sums of its entries.
+use crate::Bound;
 use crate::step;
 use approximation::bits::bits_at;
 use limits::MAX_VECTORS;
@@ -14,19 +15,26 @@ ghost use Rattle.limits.specs.Limits.{maxVectors};
 ghost use Rattle.layout.specs.Layout.{firstMarks};
 ghost use Rattle.refusal.specs.declared.Verdict.the-variants.{Accepted};
 ghost use Rattle.layout.specs.Stretch.{shapeCauses};
-ghost use Rattle.distance.specs.Table.{stepsFrom, tableOf, tableCauses, tableSum, lowerSum};
+ghost use Rattle.distance.specs.Table.{stepOf, stepsFrom, tableOf, tableCauses, tableSum, boundSum};
 
-// The table of a query, in the layout of the marks.
-pub fn fill_table(d: usize, b: usize, marks: &[i32], query: &[i32], table: &mut [u64]) -> Verdict
+// The table of a query for one of the bounds, in the layout of the marks.
+pub fn fill_table(
+    bound: Bound,
+    d: usize,
+    b: usize,
+    marks: &[i32],
+    query: &[i32],
+    table: &mut [u64],
+) -> Verdict
     ensures { λ r. ⌜ r ≡ first (tableCauses d b (length (now (marks .entry))) (length (now (query .entry))) (length (now (table .entry)))) ⌝ }
     ensures { λ _. ⌜ now (table .exit)
         ≡ outcome (first (tableCauses d b (length (now (marks .entry))) (length (now (query .entry))) (length (now (table .entry)))))
-        (tableOf d b (now (marks .entry)) (now (query .entry))) (λ _. now (table .entry)) ⌝ }
+        (tableOf (stepOf bound) d b (now (marks .entry)) (now (query .entry))) (λ _. now (table .entry)) ⌝ }
 {
     let verdict = check_table(d, b, marks.len(), query.len(), table.len());
     match verdict {
         Verdict::Accepted => {
-            fill_dimensions(d, b, marks, query, table);
+            fill_dimensions(bound, d, b, marks, query, table);
             Verdict::Accepted
         }
         Verdict::Refused(cause) => Verdict::Refused(cause),
@@ -50,35 +58,46 @@ fn check_table(d: usize, b: usize, marks: usize, query: usize, room: usize) -> V
 }
 
 // The table, where nothing refuses: each dimension's entries are written into their own stretch.
-fn fill_dimensions(d: usize, b: usize, marks: &[i32], query: &[i32], table: &mut [u64])
+fn fill_dimensions(
+    bound: Bound,
+    d: usize,
+    b: usize,
+    marks: &[i32],
+    query: &[i32],
+    table: &mut [u64],
+)
     requires { ⌜ (first (shapeCauses d b) ≡ Accepted) × (length (now marks) ≡ firstMarks d b d) × (length (now table) ≡ firstMarks d b d) ⌝ }
-    ensures { λ _. ⌜ now (table .exit) ≡ tableOf d b (now (marks .entry)) (now (query .entry)) ⌝ }
+    ensures { λ _. ⌜ now (table .exit) ≡ tableOf (stepOf bound) d b (now (marks .entry)) (now (query .entry)) ⌝ }
 {
     let mut t = 0;
     while t < d {
         let stretch = layout::stretch_of(d, b, t + 1);
         let start = stretch.offset;
         let end = start + (1usize << stretch.bits) + 1;
-        fill_steps(whole::at(query, t), &marks[start..], &mut table[start..end]);
+        fill_steps(
+            bound,
+            whole::at(query, t),
+            &marks[start..],
+            &mut table[start..end],
+        );
         t += 1;
     }
 }
 
-// The squared shortest steps from a component to the regions between neighbouring marks.
-fn fill_steps(q: i32, marks: &[i32], table: &mut [u64])
-    ensures { λ _. ⌜ now (table .exit) ≡ stepsFrom q (now (marks .entry)) 0 (length (now (table .entry))) ⌝ }
+// The squared steps from a component to the regions between neighbouring marks.
+fn fill_steps(bound: Bound, q: i32, marks: &[i32], table: &mut [u64])
+    ensures { λ _. ⌜ now (table .exit) ≡ stepsFrom (stepOf bound) q (now (marks .entry)) 0 (length (now (table .entry))) ⌝ }
 {
     let mut r = 0;
     while r < table.len() {
-        let step = step::shortest_step(q, whole::at(marks, r), whole::at(marks, r + 1));
-        table[r] = step::squared(step);
+        table[r] = step::squared_step(bound, q, whole::at(marks, r), whole::at(marks, r + 1));
         r += 1;
     }
 }
 
-// The lower bound of code i's cell, as a sum of the table's entries; 0 for an i past MAX_VECTORS.
-pub fn lower_bound(d: usize, b: usize, table: &[u64], codes: &[u8], i: usize) -> u64
-    ensures { λ r. ⌜ r ≡ lowerSum d b (now (table .entry)) (now (codes .entry)) i ⌝ }
+// The bound of code i's cell, as a sum of the table's entries; 0 for an i past MAX_VECTORS.
+pub fn code_bound(d: usize, b: usize, table: &[u64], codes: &[u8], i: usize) -> u64
+    ensures { λ r. ⌜ r ≡ boundSum d b (now (table .entry)) (now (codes .entry)) i ⌝ }
 {
     if MAX_VECTORS <= i {
         return 0;

@@ -13,7 +13,7 @@ use Rattle.refusal.specs.declared.Verdict.the-variants.{Accepted}
 use Rattle.refusal.specs.First.{first}
 use Rattle.layout.specs.Layout.{firstMarks}
 use Rattle.layout.specs.Stretch.{shapeCauses, dimensionCauses, Stretches, stretches}
-use Rattle.distance.specs.Table.{tableFirst}
+use Rattle.distance.specs.Table.{stepOf, tableFirst}
 use Rattle.distance.proofs.Entries.{next-entries}
 use Rattle.distance.proofs.Read.{read-back}
 use Rattle.distance.proofs.Shift.{shifted}
@@ -21,11 +21,11 @@ use Rattle.distance.proofs.table.fill_dimensions.Statement.{statement}
 use Rattle.distance.proofs.table.fill_dimensions.Tie as tie
 
 abbrev Inv-loop : tie.InvT-loop
-Inv-loop d b marks query table₀ t₀ table t =
-    (t ≤ d) × (length table ≡ length table₀) × (take (firstMarks d b t) table ≡ tableFirst d b marks query t)
+Inv-loop bound d b marks query table₀ t₀ table t =
+    (t ≤ d) × (length table ≡ length table₀) × (take (firstMarks d b t) table ≡ tableFirst (stepOf bound) d b marks query t)
 
 abbrev μ-loop : tie.MeasureT-loop
-μ-loop d b marks query table₀ t₀ table t = d - t
+μ-loop bound d b marks query table₀ t₀ table t = d - t
 
 numbered : (d b t : ℕ) → first (shapeCauses d b) ≡ Accepted → t < d → first (dimensionCauses d b (t + 1)) ≡ Accepted
 unfolding first
@@ -67,11 +67,11 @@ loop-again c =
     let stretch = known .stretch-of .result in
     let here = place known in
     let end = stretch .offset + 1 * 2 ^ stretch .bits % 2 ^ 64 + 1 in
-    let ys = filled .fill-steps .last .1 .1 .0 in
+    let ys = filled .fill-steps .last .1 .1 .1 .0 in
     let component = read-back (record { sfits = read .at .ok }) (read .at .ensures) in (
       omega arith,
-      same-len-mid (stretch .offset) (end - stretch .offset) (at .loop .table) ys (filled .fill-steps .kept .1 .1 .0) ∙ at .loop .inv .1,
-      rw (add-one (at .loop .t)) (next-entries (args .d) (args .b) (args .marks .now) (args .query .now) (at .loop .t) (stretch .offset) end (at .loop .table) ys (here .start) (here .end) (omega (arith, here .within, start .pre .1, start .pre .2, at .loop .inv .1)) (rw component at (filled .fill-steps .ensures)) (at .loop .inv .2)),
+      same-len-mid (stretch .offset) (end - stretch .offset) (at .loop .table) ys (filled .fill-steps .kept .1 .1 .1 .0) ∙ at .loop .inv .1,
+      rw (add-one (at .loop .t)) (next-entries (stepOf (args .bound)) (args .d) (args .b) (args .marks .now) (args .query .now) (at .loop .t) (stretch .offset) end (at .loop .table) ys (here .start) (here .end) (omega (arith, here .within, start .pre .1, start .pre .2, at .loop .inv .1)) (rw component at (filled .fill-steps .ensures)) (at .loop .inv .2)),
     )
 
 returns : tie.Need-returns Inv-loop μ-loop

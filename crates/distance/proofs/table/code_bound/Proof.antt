@@ -1,4 +1,4 @@
--- `lower_bound` meets its contract: the sum where there is such a code. Assumes nothing.
+-- `code_bound` meets its contract: the sum where there is such a code. Assumes nothing.
 use mathlib.Core.Path.{_≡_, sym, _∙_}
 use borrow.Author.Needs.{needs}
 use borrow.Author.Tests.{lt-ltb, le-ltb}
@@ -6,32 +6,32 @@ use Rattle.refusal.specs.declared.Verdict.the-variants.{Accepted}
 use Rattle.refusal.specs.First.{first, outcome-accepted, outcome-refused}
 use Rattle.limits.specs.Limits.{maxVectors}
 use Rattle.layout.specs.Stretch.{shapeCauses}
-use Rattle.distance.specs.Table.{lowerSum}
-use Rattle.distance.proofs.table.lower_bound.Statement.{statement}
-use Rattle.distance.proofs.table.lower_bound.Tie as tie
+use Rattle.distance.specs.Table.{boundSum}
+use Rattle.distance.proofs.table.code_bound.Statement.{statement}
+use Rattle.distance.proofs.table.code_bound.Tie as tie
 
 shaped : (c : tie.After-enum-told) → let args = c .before .before .before .before .before .before .args in first (shapeCauses (args .d) (args .b)) ≡ Accepted
 shaped c = sym (c .before .before .check-shape .ensures) ∙ c .enum-told .given .1
 
 returns : tie.Need-returns
-unfolding lowerSum
+unfolding boundSum
 returns c = rw (le-ltb (c .before .before .before .args .i) maxVectors (c .if1 .taken))
 
 returns-2 : tie.Need-returns-2
-unfolding lowerSum
+unfolding boundSum
 returns-2 c =
     let one = c .before .before .before .before in
     rw (lt-ltb (one .before .before .before .args .i) maxVectors (one .if1 .left)) (c .sum-entries .ensures ∙ sym (outcome-accepted _ _ (shaped (c .before))))
 
 returns-3 : tie.Need-returns-3
-unfolding lowerSum
+unfolding boundSum
 returns-3 c =
     let one = c .before .before .before in
     rw (lt-ltb (one .before .before .before .args .i) maxVectors (one .if1 .left))
     (sym (outcome-refused _ _ (sym (c .before .before .check-shape .ensures) ∙ c .enum-told2 .given .1)))
 
-pub lower-bound-spec : {M : Type 1} → statement M
-lower-bound-spec =
+pub code-bound-spec : {M : Type 1} → statement M
+code-bound-spec =
     tie.close
     (tie.spec
     returns
