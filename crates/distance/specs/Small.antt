@@ -1,14 +1,12 @@
 -- Distances and bounds are far below 2^64, for components and marks in range: sums of theirs are exact in 64 bits. Assumes nothing.
 use mathlib.Core.Path.{_≡_, refl}
-use mathlib.Core.Bool.{Bool, true, false, cond, and-eq-true-iff}
+use mathlib.Core.Bool.{true, and-eq-true-iff}
 use mathlib.Core.List.{List}
-use Prim.Native.Nat.{ℕ, zero, suc, _+_, _*_, _^_, _≤_, _<_, zero-le, max}
-use native.Mathlib.Nat.{le-refl}
+use Prim.Native.Nat.{ℕ, zero, suc, _+_, _*_, _^_, _≤_, _<_}
 use native.Mathlib.Omega.{arith}
 use borrow.Author.Tests.{leb-true}
-use lib.Dec.{leb, lit≤}
 use lib.IntN.{ℤ, pos, negsuc, predℤ}
-use lib.Signed.{mag, leZ, ltZ}
+use lib.Signed.{mag, leZ}
 use lib.ListN.{getD}
 use Rattle.limits.specs.Limits.{isComponent, isMark, leastMark, maxDimensions}
 use Rattle.partition.specs.Marks.{dimensionMarks, goodMarks}

@@ -3,13 +3,13 @@
 -- at a dimension's last mark, where no region begins, is read by no code. Entries are modulo 2^64. Assumes nothing.
 use mathlib.Core.Bool.{not, _&&_, cond}
 use mathlib.Core.List.{List, [], _∷_, _++_}
-use Prim.Native.Nat.{ℕ, zero, suc, _+_, _%_, _^_}
+use Prim.Native.Nat.{ℕ, zero, suc, _+_, _*_, _%_, _^_}
 use lib.Dec.{ltb, eqb}
 use lib.IntN.{ℤ, pos}
-use lib.ListN.{length, drop, getD}
+use lib.ListN.{drop, getD}
 use Rattle.refusal.specs.declared.Refusal.the-variants.{Length}
 use Rattle.refusal.specs.First.{Row, _⇒_, first, outcome}
-use Rattle.limits.specs.Limits.{maxVectors}
+use Rattle.limits.specs.Limits.{maxDimensions, maxDimensionBits, maxVectors}
 use Rattle.layout.specs.Layout.{markCount, firstMarks}
 use Rattle.layout.specs.Stretch.{shapeCauses}
 use Rattle.approximation.specs.Codes.{codeRegion}
@@ -35,6 +35,10 @@ tableFirst step d b marks query (suc t) =
 
 abbrev pub tableOf : (ℤ → ℤ → ℤ → ℕ) → ℕ → ℕ → List ℤ → List ℤ → List ℕ
 tableOf step d b marks query = tableFirst step d b marks query d
+
+-- the length of the longest table
+abbrev pub maxTable : ℕ
+maxTable = maxDimensions * (2 ^ maxDimensionBits + 1)
 
 -- the sum of the entries that code i names for the first t dimensions
 unfoldable pub tableSum : ℕ → ℕ → List ℕ → List ℕ → ℕ → ℕ → ℕ

@@ -1,21 +1,21 @@
--- What stands in a query's table, and that a code's entries sum up to its lower bound. Assumes nothing.
+-- What stands in a query's table, and that a code's entries sum up to its bound. Assumes nothing.
 use mathlib.Core.Path.{_≡_, refl, sym, ap, _∙_}
-use mathlib.Core.List.{List, [], _∷_, _++_}
-use Prim.Native.Nat.{ℕ, zero, suc, _+_, _-_, _%_, _^_, _≤_, _<_}
+use mathlib.Core.Bool.{true}
+use mathlib.Core.List.{List}
 use mathlib.Core.Logic.{inl, inr}
+use Prim.Native.Nat.{ℕ, zero, suc, _+_, _-_, _%_, _^_, _≤_, _<_}
 use native.Mathlib.Nat.{zero-add, add-zero, add-mod, mod-mod, mod-eq-of-lt, le-refl, le-of-suc-le-suc, eq-or-lt-of-le}
 use native.Mathlib.Omega.{arith}
 use borrow.Author.Tests.{lt-ltb}
 use lib.IntN.{ℤ, pos}
-use lib.ListN.{length, take, drop, getD, length-append, List·getD-append}
-use lib.Seq.{getD-append-add, getD-drop, getD-take}
-use mathlib.Core.Bool.{true}
+use lib.ListN.{length, drop, getD, length-append, List·getD-append}
+use lib.Seq.{getD-append-add, getD-take}
 use Rattle.refusal.specs.declared.Verdict.the-variants.{Accepted}
 use Rattle.refusal.specs.First.{first}
-use Rattle.limits.specs.Limits.{maxDimensions, maxVectors}
+use Rattle.limits.specs.Limits.{maxDimensions, maxDimensionBits, maxVectors}
 use Rattle.whole.specs.Components.{areComponents}
 use Rattle.layout.specs.Layout.{regionCount, markCount, firstMarks}
-use Rattle.layout.specs.Laws.{marks-within, first-next-marks}
+use Rattle.layout.specs.Laws.{marks-le, marks-within, first-next-marks}
 use Rattle.layout.specs.Stretch.{shapeCauses, shape}
 use Rattle.partition.specs.Marks.{dimensionMarks, goodMarks}
 use Rattle.approximation.specs.Codes.{codeRegion}
@@ -24,7 +24,7 @@ use Rattle.distance.specs.declared.Bound.{Bound}
 use Rattle.distance.specs.declared.Bound.the-variants.{Lower, Upper}
 use Rattle.distance.specs.Bounds.{stepTo, firstBound}
 use Rattle.distance.specs.Small.{lower-small, upper-small}
-use Rattle.distance.specs.Table.{stepOf, stepsFrom, tableFirst, tableOf, tableSum, boundSum}
+use Rattle.distance.specs.Table.{maxTable, stepOf, stepsFrom, tableFirst, tableOf, tableSum, boundSum}
 
 pub length-steps : (step : ℤ → ℤ → ℤ → ℕ) (q : ℤ) (marks : List ℤ) (r n : ℕ) → length (stepsFrom step q marks r n) ≡ n
 unfolding stepsFrom
@@ -79,6 +79,7 @@ module _ (step : ℤ → ℤ → ℤ → ℕ) (d b : ℕ) (marks query : List �
       let part = drop (firstMarks d b t) marks in
       rw (one, getD-take (markCount d b (suc t)) part r (pos 0) (omega arith), getD-take (markCount d b (suc t)) part (suc r) (pos 0) (omega arith))
 
+  -- a code's entries sum up to its bound, modulo 2^64 for any numbers
   module _ (codes : List ℕ) (i : ℕ) where
     sum-first : (n t : ℕ) → t ≤ n → tableSum d b (tableFirst step d b marks query n) codes i t % 2 ^ 64 ≡ firstBound step d b marks codes query i t % 2 ^ 64
     unfolding tableSum firstBound
@@ -91,10 +92,6 @@ module _ (step : ℤ → ℤ → ℤ → ℕ) (d b : ℕ) (marks query : List �
         rw (add-mod (tableSum d b (tableFirst step d b marks query n) codes i t) _ (2 ^ 64), entry, sum-first n t (omega arith), mod-mod (stepTo step q (dimensionMarks d b marks (suc t)) r) (2 ^ 64))
         (sym (add-mod (firstBound step d b marks codes query i t) (stepTo step q (dimensionMarks d b marks (suc t)) r) (2 ^ 64)))
 
-    -- a code's entries sum up to its bound, modulo 2^64 for any numbers
-    table-sum : tableSum d b (tableOf step d b marks query) codes i d % 2 ^ 64 ≡ firstBound step d b marks codes query i d % 2 ^ 64
-    table-sum = sum-first d d (le-refl d)
-
 -- and exactly for components and marks in range
 module _ (d b : ℕ) (marks query : List ℤ) (codes : List ℕ) (i : ℕ) where
   pub bound-sum : (bound : Bound) → i < maxVectors → first (shapeCauses d b) ≡ Accepted → areComponents query ≡ true → goodMarks d b marks ≡ true
@@ -102,9 +99,15 @@ module _ (d b : ℕ) (marks query : List ℤ) (codes : List ℕ) (i : ℕ) where
   unfolding boundSum
   bound-sum bound within shaped components good =
       rw (lt-ltb i maxVectors within, shaped)
-      (table-sum (stepOf bound) d b marks query codes i
+      (sum-first (stepOf bound) d b marks query codes i d d (le-refl d)
       ∙ mod-eq-of-lt (small bound (shape d b shaped .few)))
     where
       small : (bound : Bound) → d ≤ maxDimensions → firstBound (stepOf bound) d b marks codes query i d < 2 ^ 64
       small Lower few = lower-small query components d b marks good few codes i
       small Upper few = upper-small query components d b marks good few codes i
+
+-- a table is no longer than the longest
+pub table-le : (d b : ℕ) → first (shapeCauses d b) ≡ Accepted → firstMarks d b d ≤ maxTable
+table-le d b shaped =
+    let told = shape d b shaped in
+    omega (arith, marks-le maxDimensionBits d b d (told .some) (told .bits), told .few)

@@ -2,6 +2,8 @@
 use crate::Bound;
 use crate::step;
 use approximation::bits::bits_at;
+use limits::MAX_DIMENSION_BITS;
+use limits::MAX_DIMENSIONS;
 use limits::MAX_VECTORS;
 use refusal::Refusal;
 use refusal::Verdict;
@@ -16,6 +18,9 @@ ghost use Rattle.layout.specs.Layout.{firstMarks};
 ghost use Rattle.refusal.specs.declared.Verdict.the-variants.{Accepted};
 ghost use Rattle.layout.specs.Stretch.{shapeCauses};
 ghost use Rattle.distance.specs.Table.{stepOf, stepsFrom, tableOf, tableCauses, tableSum, boundSum};
+
+// The length of the longest table: that of the longest marks buffer.
+pub const MAX_TABLE: usize = MAX_DIMENSIONS * ((1 << MAX_DIMENSION_BITS) + 1);
 
 // The table of a query for one of the bounds, in the layout of the marks.
 pub fn fill_table(

@@ -1,6 +1,6 @@
 -- `longest_step` meets its contract: the farther of the region's ends. Assumes nothing.
-use mathlib.Core.Path.{_≡_, ap, ap₂, _∙_}
-use Prim.Native.Nat.{_^_, _≤_, max}
+use mathlib.Core.Path.{_≡_}
+use Prim.Native.Nat.{max}
 use native.Mathlib.Omega.{arith}
 use borrow.Author.Needs.{needs}
 use mir.Syntax.{w32}

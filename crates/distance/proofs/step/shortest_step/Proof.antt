@@ -1,11 +1,8 @@
 -- `shortest_step` meets its contract: it tests as the definition does, since the value before a mark is below q exactly if the mark is at
 -- most q. Assumes nothing.
 use mathlib.Core.Path.{_≡_}
-use mathlib.Core.Bool.{Bool, true, false, cond}
 use native.Mathlib.Omega.{arith}
 use borrow.Author.Needs.{needs}
-use lib.IntN.{predℤ}
-use lib.Signed.{leZ, ltZ}
 use mir.Syntax.{w32}
 use mir.Val.{toZ, ofZ}
 use mir.ValLaws.{toZ-ofZ}

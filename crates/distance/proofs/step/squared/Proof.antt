@@ -1,5 +1,5 @@
 -- `squared` meets its contract: 2^32 has a square that is 0 modulo 2^64, and smaller steps have one that fits. Assumes nothing.
-use mathlib.Core.Path.{_≡_, sym}
+use mathlib.Core.Path.{sym}
 use Prim.Native.Nat.{_*_, _^_, _<_}
 use native.Mathlib.Nat.{mod-eq-of-lt}
 use native.Mathlib.Omega.{arith}

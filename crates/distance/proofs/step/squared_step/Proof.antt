@@ -1,5 +1,5 @@
 -- `squared_step` meets its contract, by the bound. Assumes nothing.
-use mathlib.Core.Path.{_≡_, ap, _∙_}
+use mathlib.Core.Path.{ap, _∙_}
 use Prim.Native.Nat.{ℕ, _%_, _^_}
 use borrow.Author.Needs.{needs}
 use Rattle.distance.specs.Distance.{squared}

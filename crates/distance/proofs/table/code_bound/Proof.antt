@@ -3,7 +3,7 @@ use mathlib.Core.Path.{_≡_, sym, _∙_}
 use borrow.Author.Needs.{needs}
 use borrow.Author.Tests.{lt-ltb, le-ltb}
 use Rattle.refusal.specs.declared.Verdict.the-variants.{Accepted}
-use Rattle.refusal.specs.First.{first, outcome-accepted, outcome-refused}
+use Rattle.refusal.specs.First.{first, outcome-refused}
 use Rattle.limits.specs.Limits.{maxVectors}
 use Rattle.layout.specs.Stretch.{shapeCauses}
 use Rattle.distance.specs.Table.{boundSum}
@@ -21,7 +21,7 @@ returns-2 : tie.Need-returns-2
 unfolding boundSum
 returns-2 c =
     let one = c .before .before .before .before in
-    rw (lt-ltb (one .before .before .before .args .i) maxVectors (one .if1 .left)) (c .sum-entries .ensures ∙ sym (outcome-accepted _ _ (shaped (c .before))))
+    rw (lt-ltb (one .before .before .before .args .i) maxVectors (one .if1 .left), shaped (c .before)) (c .sum-entries .ensures)
 
 returns-3 : tie.Need-returns-3
 unfolding boundSum

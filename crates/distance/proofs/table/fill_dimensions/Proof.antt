@@ -12,7 +12,7 @@ use lib.Seq.{take-all}
 use Rattle.refusal.specs.declared.Verdict.the-variants.{Accepted}
 use Rattle.refusal.specs.First.{first}
 use Rattle.layout.specs.Layout.{firstMarks}
-use Rattle.layout.specs.Stretch.{shapeCauses, dimensionCauses, Stretches, stretches}
+use Rattle.layout.specs.Stretch.{shapeCauses, dimensionCauses, stretches}
 use Rattle.distance.specs.Table.{stepOf, tableFirst}
 use Rattle.distance.proofs.Entries.{next-entries}
 use Rattle.distance.proofs.Read.{read-back}

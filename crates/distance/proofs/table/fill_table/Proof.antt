@@ -6,9 +6,11 @@ use Prim.Native.Nat.{ℕ}
 use borrow.Author.Needs.{needs}
 use borrow.Author.Tests.{eqb-true, not-false}
 use lib.Dec.{eqb}
+use lib.ListN.{length}
 use Rattle.refusal.specs.declared.Refusal.the-variants.{Length}
-use Rattle.refusal.specs.declared.Verdict.the-variants.{Accepted}
-use Rattle.refusal.specs.First.{first, passed, outcome-accepted, outcome-refused, accepted-front, accepted-behind}
+use Rattle.refusal.specs.declared.Verdict.{Verdict}
+use Rattle.refusal.specs.declared.Verdict.the-variants.{Accepted, Refused}
+use Rattle.refusal.specs.First.{first, passed, accepted-front, accepted-behind}
 use Rattle.layout.specs.Layout.{firstMarks}
 use Rattle.layout.specs.Stretch.{shapeCauses}
 use Rattle.distance.specs.Table.{lengthCauses, tableCauses}
@@ -26,19 +28,15 @@ tabled d b marks query room accepted =
     let two = and-eq-true-iff (eqb marks n) (eqb room n) .0 both in
     (accepted-front (shapeCauses d b) rows accepted, eqb-true marks n (two .0), eqb-true room n (two .1))
 
-fill-dimensions-requires : tie.Need-fill-dimensions-requires
-fill-dimensions-requires c κs = tabled _ _ _ _ _ (sym (c .before .before .before .check-table .ensures) ∙ c .before .enum-told .given .1)
+-- the verdict, of these lengths
+abbrev verdict : (c : tie.After-check-table) → Verdict
+verdict c = let args = c .before .before .args in first (tableCauses (args .d) (args .b) (length (args .marks .now)) (length (args .query .now)) (length (args .table .now)))
 
-returns : tie.Need-returns
-returns c =
-    let told = c .before .before .before .before in
-    let accepted = sym (told .before .before .check-table .ensures) ∙ told .enum-told .given .1 in
-    (sym accepted, c .before .before .fill-dimensions .ensures ∙ sym (outcome-accepted _ _ accepted))
+accepted : (c : tie.After-enum-told) → verdict (c .before .before) ≡ Accepted
+accepted c = sym (c .before .before .check-table .ensures) ∙ c .enum-told .given .1
 
-returns-2 : tie.Need-returns-2
-returns-2 c =
-    let refused = sym (c .before .before .before .check-table .ensures) ∙ c .before .verdict .given .1 in
-    (sym refused, sym (outcome-refused _ _ refused))
+refused : (c : tie.After-verdict) → verdict (c .before .before) ≡ Refused (c .verdict .given .0 .0)
+refused c = sym (c .before .before .check-table .ensures) ∙ c .verdict .given .1
 
 pub fill-table-spec : {M : Type 1} → statement M
 fill-table-spec =
@@ -46,8 +44,8 @@ fill-table-spec =
     (tie.spec
     (λ c κs. search needs)
     (λ c. search needs)
-    fill-dimensions-requires
+    (λ c κs. tabled _ _ _ _ _ (accepted (c .before)))
     (λ c. search needs)
     (λ c. search needs)
-    returns
-    returns-2)
+    (λ c. let none = accepted (c .before .before .before .before) in (sym none, rw none (c .before .before .fill-dimensions .ensures)))
+    (λ c. let some = refused (c .before) in (sym some, rw some)))

@@ -1,18 +1,16 @@
 -- `sum_entries` meets its contract: the sum is that of the first t dimensions, modulo 2^64. Assumes nothing.
-use mathlib.Core.Path.{_≡_, refl, sym, ap, _∙_}
+use mathlib.Core.Path.{_≡_, refl, ap, _∙_}
 use mathlib.Core.List.{List}
-use Prim.Native.Nat.{ℕ, suc, _+_, _-_, _*_, _/_, _%_, _^_, _≤_, _<_}
+use Prim.Native.Nat.{ℕ, suc, _+_, _-_, _*_, _%_, _^_, _≤_, _<_}
 use native.Mathlib.Numerals.{add-one}
 use native.Mathlib.Omega.{arith}
 use borrow.Author.Needs.{needs}
 use lib.ListN.{getD}
 use lib.Pow.{pow-mono}
-use Rattle.refusal.specs.declared.Verdict.the-variants.{Accepted}
-use Rattle.refusal.specs.First.{first}
 use Rattle.limits.specs.Limits.{maxVectors}
 use Rattle.layout.specs.Layout.{bitsOf, firstBits, firstMarks}
 use Rattle.layout.specs.Laws.{fewest-le, bits-le, marks-le, first-next-marks}
-use Rattle.layout.specs.Stretch.{shapeCauses, Shape, shape}
+use Rattle.layout.specs.Stretch.{Shape, shape}
 use Rattle.approximation.specs.Bits.{bitsAt}
 use Rattle.approximation.specs.BitLaws.{bits-at}
 use Rattle.approximation.specs.Codes.{codeRegion}
