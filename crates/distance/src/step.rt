@@ -1,7 +1,7 @@
 // One dimension's steps. Differences are those of keys.
 use crate::Bound;
 ghost use mathlib.Core.Path.{_≡_};
-ghost use Prim.Native.Nat.{_%_, _^_, _≤_, _<_};
+ghost use Prim.Native.Nat.{_+_, _-_, _%_, _^_, _≤_, _<_};
 ghost use lib.IntN.{predℤ};
 ghost use Rattle.distance.specs.Distance as Distance;
 ghost use Rattle.distance.specs.Bounds.{shortest, longest};
@@ -11,20 +11,19 @@ ghost use Rattle.distance.specs.Table.{stepOf};
 pub fn gap(a: i32, b: i32) -> u64
     ensures { λ r. ⌜ (r ≡ Distance.gap a b) × (r < 2 ^ 32) ⌝ }
 {
-    let k = whole::key(a);
-    let l = whole::key(b);
-    if k < l {
-        return l - k;
-    }
-    k - l
+    difference(whole::key(a), whole::key(b))
 }
 
 // How far a number is from the last value before a mark.
 fn gap_to_last(q: i32, high: i32) -> u64
     ensures { λ r. ⌜ (r ≡ Distance.gap q (predℤ high)) × (r ≤ 2 ^ 32) ⌝ }
 {
-    let k = whole::key(q) + 1;
-    let l = whole::key(high);
+    difference(whole::key(q) + 1, whole::key(high))
+}
+
+fn difference(k: u64, l: u64) -> u64
+    ensures { λ r. ⌜ r ≡ (k - l) + (l - k) ⌝ }
+{
     if k < l {
         return l - k;
     }

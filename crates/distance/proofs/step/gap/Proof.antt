@@ -1,30 +1,17 @@
 -- `gap` meets its contract: it is the difference of the keys. Assumes nothing.
-use mathlib.Core.Path.{_≡_}
-use Prim.Native.Nat.{_+_, _-_, _^_, _<_}
 use native.Mathlib.Omega.{arith}
 use borrow.Author.Needs.{needs}
-use Rattle.whole.specs.Keys.{key-fits}
-use Rattle.distance.specs.Distance.{gap}
 use Rattle.distance.specs.Places.{gap-key}
 use Rattle.distance.proofs.Read.{key-back}
 use Rattle.distance.proofs.step.gap.Statement.{statement}
 use Rattle.distance.proofs.step.gap.Tie as tie
 
-keys : (c : tie.After-key2) → let args = c .before .before .args in let k = c .before .key .result in let l = c .key2 .result in
-    (gap (args .a) (args .b) ≡ (k - l) + (l - k)) × (k < 2 ^ 32) × (l < 2 ^ 32)
-keys c =
-    let args = c .before .before .args in
-    let fits = c .before .before .fits in
-    let a = key-back (fits .a) (c .before .key .ensures) in
-    let b = key-back (fits .b) (c .key2 .ensures) in
-    rw (a, b) (gap-key (args .a) (args .b) (fits .a .sfits) (fits .b .sfits), key-fits (args .a) (fits .a .sfits), key-fits (args .b) (fits .b .sfits))
+returns : tie.Need-returns
+returns c =
+    let start = c .before .before .before in
+    let a = key-back (start .fits .a) (c .before .before .key .ensures) in
+    let b = key-back (start .fits .b) (c .before .key2 .ensures) in
+    omega (arith, c .difference .ensures, gap-key (start .args .a) (start .args .b) (start .fits .a .sfits) (start .fits .b .sfits))
 
 pub gap-spec : {M : Type 1} → statement M
-gap-spec =
-    tie.close
-    (tie.spec
-    (λ c κs. search needs)
-    (λ c κs. search needs)
-    (λ c. search needs)
-    (λ c. omega (arith, keys (c .before)))
-    (λ c. omega (arith, keys (c .before))))
+gap-spec = tie.close (tie.spec (λ c κs. search needs) (λ c κs. search needs) (λ c κs. search needs) returns)
