@@ -1,6 +1,6 @@
 pub mod Bits
-pub mod Codes
 pub mod BitLaws
+pub mod Codes
 pub mod PackLaws
 pub mod Pack
 pub mod Vectors
