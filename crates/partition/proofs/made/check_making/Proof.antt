@@ -60,7 +60,7 @@ mul-if4 c =
 returns-4 : tie.Need-returns-4
 returns-4 c =
     let a = c .before .before .before .before .before .before .before .args in
-    sym (passed-3 (c .before) ∙ first-here Length _ (rw (ne-eqb (length (a .vectors .now)) (a .n * a .d) (c .if4 .taken))))
+    sym (passed-3 (c .before) ∙ first-here Length _ (rw (ne-eqb (length (a .vectors .now)) (a .n * a .d) (omega arith))))
 
 shaped : (c : tie.Else2) → let a = c .before .before .before .before .args in first (shapeCauses (a .d) (a .b)) ≡ Accepted
 unfolding first
@@ -77,17 +77,17 @@ room-told : {value : Bool} (c : tie.After-marks-length) → let a = c .before .b
     eqb (a .room) (c .marks-length .result) ≡ value → not (eqb (length (a .vectors .now)) (a .n * a .d) && eqb (a .room) (firstMarks (a .d) (a .b) (a .d))) ≡ not value
 room-told c is =
     let a = c .before .before .before .before .before .before .before .before .args in
-    rw (eq-eqb (length (a .vectors .now)) (a .n * a .d) (c .before .if4 .left), ← marks-are c, is)
+    rw (eq-eqb (length (a .vectors .now)) (a .n * a .d) (omega (arith, c .before)), ← marks-are c, is)
 
 returns-5 : tie.Need-returns-5
 returns-5 c =
     let a = c .before .before .before .before .before .before .before .before .before .args in
-    sym (passed-3 (c .before .before .before) ∙ first-here Length _ (room-told (c .before) (ne-eqb (a .room) (c .before .marks-length .result) (c .if5 .taken))))
+    sym (passed-3 (c .before .before .before) ∙ first-here Length _ (room-told (c .before) (ne-eqb (a .room) (c .before .marks-length .result) (omega arith))))
 
 passed-4 : (c : tie.Else5) → let start = c .before .before .before .before .before .before .before .before .before in first (rows 0 start) ≡ first (rows 4 start)
 passed-4 c =
     let a = c .before .before .before .before .before .before .before .before .before .args in
-    passed-3 (c .before .before .before) ∙ first-next Length _ (room-told (c .before) (eq-eqb (a .room) (c .before .marks-length .result) (c .if5 .left)))
+    passed-3 (c .before .before .before) ∙ first-next Length _ (room-told (c .before) (eq-eqb (a .room) (c .before .marks-length .result) (omega arith)))
 
 returns-6 : tie.Need-returns-6
 returns-6 c = sym (passed-4 (c .before .before) ∙ first-here Component _ (told (c .before .are-components .ensures) (c .if6 .taken)))

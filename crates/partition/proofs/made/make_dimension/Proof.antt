@@ -1,6 +1,5 @@
 -- `make_dimension` meets its contract: what is written comes from the numbers that came back ranked. Assumes nothing.
 use mathlib.Core.Path.{_≡_, sym}
-use Prim.Native.Nat.{ℕ}
 use lib.ListN.{length}
 use lib.Seq.{length-take-le}
 use borrow.Author.Needs.{needs}

@@ -2,7 +2,6 @@
 use mathlib.Core.Path.{_≡_, refl, sym, ap, _∙_}
 use mathlib.Core.List.{List, map}
 use Prim.Native.Nat.{ℕ, _≤_}
-use native.Mathlib.Omega.{arith}
 use lib.IntN.{ℤ}
 use lib.ListN.{length, length-map}
 use lib.Seq.{length-take-le}
@@ -16,7 +15,7 @@ use Rattle.order.specs.Rank.{rankCauses, ranking}
 use Rattle.partition.specs.Made.{column}
 use Rattle.partition.specs.Making.{Ranks}
 use Rattle.partition.specs.InOrder.{column-length}
-use Rattle.partition.proofs.Prefix.{back-length, back-within, shared-is}
+use Rattle.partition.proofs.Prefix.{back-within, shared-is}
 use Rattle.partition.proofs.made.rank_column.Statement.{statement}
 use Rattle.partition.proofs.made.rank_column.Tie as tie
 

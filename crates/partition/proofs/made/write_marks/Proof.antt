@@ -32,10 +32,10 @@ record Filled (d t w : ℕ) (vectors : List ℤ) (numbers : List ℕ) (room regi
   so-far : take i part ≡ take i (whole d t w vectors numbers)
 
 abbrev Inv-loop : tie.InvT-loop
-Inv-loop d t w vectors numbers part₀ n regions i₀ part i = Filled d t w vectors numbers (length part₀) regions part i
+Inv-loop d t w vectors numbers part₀ n last regions i₀ part i = Filled d t w vectors numbers (length part₀) regions part i
 
 abbrev μ-loop : tie.MeasureT-loop
-μ-loop d t w vectors numbers part₀ n regions i₀ part i = regions - i
+μ-loop d t w vectors numbers part₀ n last regions i₀ part i = regions - i
 
 shift : (w : ℕ) → w ≤ maxDimensionBits → 1 * 2 ^ w % 2 ^ 64 ≡ 2 ^ w
 shift w few = shl-exact {a = 1} 1 w 64 (omega arith) (omega arith) ∙ one-mul (2 ^ w)
@@ -80,21 +80,21 @@ module _ {d t w : ℕ} {vectors : List ℤ} {numbers : List ℕ} {room regions :
 loop-holds : tie.Need-loop-holds Inv-loop μ-loop
 loop-holds c = record { count = shift (c .before .args .w) (c .before .pre .0 .bits); among = omega arith; same = refl; so-far = refl }
 
-mul-component-at : tie.Need-mul-component-at Inv-loop μ-loop
-mul-component-at c =
-    let start = c .before .before .before in
-    let given = start .pre .0 in
-    record { fits = product (start .args .w) (c .before .loop .i) (length (start .args .numbers .now)) (given .bits) (omega (arith, c .before .loop .inv .count)) (given .of-column .count) }
+loop-again : tie.Need-loop-again Inv-loop μ-loop
+loop-again c =
+    turn (c .before .before .before .before .pre .0) (c .before .before .loop .inv) (c .before .loop-test .taken) _
+    (toZ-ofZ w32 _ (record { sfits = c .component-at .ok }) ∙ c .component-at .ensures)
 
 component-at-requires : tie.Need-component-at-requires Inv-loop μ-loop
 component-at-requires c κs =
     let pre = c .before .before .before .pre in
     (pre .0 .of-column, pre .1, place (pre .0) (c .before .loop .inv) (c .loop-test .taken))
 
-loop-again : tie.Need-loop-again Inv-loop μ-loop
-loop-again c =
-    turn (c .before .before .before .before .pre .0) (c .before .before .loop .inv) (c .before .loop-test .taken) _
-    (toZ-ofZ w32 _ (record { sfits = c .component-at .ok }) ∙ c .component-at .ensures)
+mul-component-at : tie.Need-mul-component-at Inv-loop μ-loop
+mul-component-at c =
+    let start = c .before .before .before in
+    let given = start .pre .0 in
+    record { fits = product (start .args .w) (c .before .loop .i) (length (start .args .numbers .now)) (given .bits) (omega (arith, c .before .loop .inv .count)) (given .of-column .count) }
 
 component-at-requires-2 : tie.Need-component-at-requires-2 Inv-loop μ-loop
 component-at-requires-2 c κs =
@@ -122,6 +122,7 @@ write-marks-spec =
     (tie.spec
     Inv-loop
     μ-loop
+    (λ c. omega (arith, c .before .pre .0 .some))
     (λ c. omega (arith, c .before .pre .0 .bits))
     loop-holds
     mul-component-at
@@ -132,7 +133,6 @@ write-marks-spec =
     (λ c. omega arith)
     (λ c. omega arith)
     loop-again
-    (λ c. omega (arith, c .before .before .before .pre .0 .some))
     component-at-requires-2
     next-requires
     (λ c. omega (arith, c .before .before .before .before .before .pre .0 .fits))
