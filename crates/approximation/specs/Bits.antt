@@ -1,6 +1,8 @@
 -- Numbers as lists of bits, high bit first. A bit is 0 or 1. Assumes nothing.
+use mathlib.Core.Bool.{Bool, true, _&&_, cond}
 use mathlib.Core.List.{List, [], _∷_, _++_}
 use Prim.Native.Nat.{ℕ, zero, suc, _+_, _*_, _/_, _%_, _^_}
+use lib.Dec.{leb, eqb}
 use lib.ListN.{drop, getD}
 
 -- the low w bits of a number
@@ -22,3 +24,12 @@ bytesOf (suc count) bits = fromBits 8 bits ∷ bytesOf count (drop 8 bits)
 unfoldable pub byteBits : List ℕ → List ℕ
 byteBits [] = []
 byteBits (x ∷ xs) = lowBits 8 x ++ byteBits xs
+
+-- the number of w bits from a position of bytes on; 0 where w is more than a byte has
+unfoldable pub bitsAt : List ℕ → ℕ → ℕ → ℕ
+bitsAt bytes from w = cond (leb w 8) (fromBits w (drop from (byteBits bytes))) 0
+
+-- whether all bits are zero
+unfoldable pub allZero : List ℕ → Bool
+allZero [] = true
+allZero (x ∷ bits) = eqb x 0 && allZero bits

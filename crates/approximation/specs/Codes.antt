@@ -3,10 +3,10 @@
 use mathlib.Core.Bool.{Bool, true, _&&_, cond}
 use mathlib.Core.List.{List, [], _∷_, _++_}
 use Prim.Native.Nat.{ℕ, zero, suc, _+_, _*_, _/_}
-use lib.Dec.{eqb}
+use lib.Dec.{ltb, eqb}
 use lib.ListN.{drop}
-use Rattle.layout.specs.Layout.{bitsOf, firstBits}
-use Rattle.approximation.specs.Bits.{lowBits, fromBits, bytesOf, byteBits}
+use Rattle.layout.specs.Layout.{bitsOf, regionCount, firstBits}
+use Rattle.approximation.specs.Bits.{lowBits, fromBits, bytesOf, byteBits, allZero}
 
 -- the column behind column t, the first behind the last
 abbrev pub nextColumn : ℕ → ℕ → ℕ
@@ -17,6 +17,11 @@ nextColumn d t = cond (eqb (suc t) d) 0 (suc t)
 unfoldable pub joined : ℕ → ℕ → ℕ → List ℕ → List ℕ
 joined d b t [] = []
 joined d b t (r ∷ rs) = lowBits (bitsOf d b (suc t)) r ++ joined d b (nextColumn d t) rs
+
+-- whether each region number, from column t on, is one of its dimension's: none is "past the last"
+unfoldable pub regionsFit : ℕ → ℕ → ℕ → List ℕ → Bool
+regionsFit d b t [] = true
+regionsFit d b t (r ∷ rs) = ltb r (regionCount d b (suc t)) && regionsFit d b (nextColumn d t) rs
 
 -- the exact length of n codes
 abbrev pub codeLength : ℕ → ℕ → ℕ
@@ -38,11 +43,6 @@ unpacked d b n codes = split d b 0 (n * d) (byteBits codes)
 -- the region that code i names for dimension t + 1: it stands behind the bits of i codes and of the first t dimensions
 unfoldable pub codeRegion : ℕ → ℕ → List ℕ → ℕ → ℕ → ℕ
 codeRegion d b codes i t = fromBits (bitsOf d b (suc t)) (drop (i * b + firstBits d b t) (byteBits codes))
-
--- whether all bits are zero
-unfoldable pub allZero : List ℕ → Bool
-allZero [] = true
-allZero (x ∷ bits) = eqb x 0 && allZero bits
 
 -- whether no bit behind the n codes is set
 abbrev pub spareZero : ℕ → ℕ → List ℕ → Bool

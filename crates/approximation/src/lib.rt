@@ -1,1 +1,4 @@
 // Approximations of vectors: region numbers, packed into codes.
+pub mod bits;
+pub mod cells;
+pub mod codes;

@@ -1,16 +1,29 @@
--- Document 01's cases P1 to P8, as one table under one statement. Assumes nothing.
+-- Document 01's cases P1 to P12, as one table under one statement. Assumes nothing.
 use mathlib.Core.Path.{_≡_, refl}
 use mathlib.Core.List.{List, [], _∷_}
 use Prim.Native.Nat.{ℕ}
 use lib.IntN.{ℤ, pos, negsuc}
 use lib.Ieee.{Float, binary32, ofBits, odd, ofFields, isNan}
-use lib.Count.{trailingZeros}
 use Rattle.refusal.specs.First.{first}
 use Rattle.reading.specs.declared.Reading.{Reading}
 use Rattle.reading.specs.declared.Reading.the-variants.{Fresh, Held}
 use Rattle.reading.specs.declared.Intake.the-variants.{Component}
 use Rattle.reading.specs.Component.{rounded}
 use Rattle.reading.specs.Intake.{valueIntake, intakeOf, intakeNumber}
+use Rattle.whole.specs.Keys.{keyOf}
+use Rattle.order.specs.Pair.{Pair, below, insert, sort, keyed, ranked, numbersOf, countFrom}
+use Rattle.order.specs.Rank.{ranking}
+use Rattle.selection.specs.Reading.{scan, unread, leastPair, goesOn, readNext, reading, read}
+use Rattle.layout.specs.Layout.{bitsOf, firstBits, firstMarks}
+use Rattle.partition.specs.Marks.{dimensionMarks}
+use Rattle.partition.specs.Region.{regionOf}
+use Rattle.partition.specs.Made.{column, inOrder, madeDimension, madeFirst, madeMarks}
+use Rattle.approximation.specs.Bits.{lowBits, fromBits, bytesOf, byteBits}
+use Rattle.approximation.specs.Codes.{joined, packed, codeRegion}
+use Rattle.approximation.specs.Vectors.{regionsFrom, vectorCodes}
+use Rattle.distance.specs.Distance.{firstDistance}
+use Rattle.distance.specs.Bounds.{shortest, firstBound}
+use Rattle.search.specs.Search.{Library, searched}
 
 -- one case: what is asked, and what document 01 says
 pub data Case : Type 0 where
@@ -18,10 +31,19 @@ pub data Case : Type 0 where
   gives : Reading → ℤ → Case
   -- the intake of a reading refuses with this number
   refuses : Reading → ℕ → Case
+  -- the codes of a library's vectors under its marks are its codes
+  codes : Library → Case
+  -- the marks made from a library's vectors
+  makes : Library → List ℤ → Case
+  -- the search of a library for the k nearest gives these pairs (distance, number) and this read list
+  finds : Library → List ℤ → ℕ → List Pair → List ℕ → Case
 
 abbrev pub Holds : Case → Type 0
 Holds (gives reading component) = intakeOf reading ≡ Component component
 Holds (refuses reading number) = intakeNumber (intakeOf reading) ≡ number
+Holds (codes l) = vectorCodes (l .d) (l .b) (l .n) (l .marks) (l .vectors) ≡ l .codes
+Holds (makes l marks) = madeMarks (l .d) (l .b) (l .n) (l .vectors) ≡ marks
+Holds (finds l query k entries reads) = searched l query k ≡ record { best = entries; reads = reads }
 
 abbrev pub All : List Case → Type 0
 All [] = Unit {0}
@@ -30,6 +52,25 @@ All (c ∷ cs) = Holds c × All cs
 -- the value of a pattern
 abbrev pub value : ℕ → Float
 value bits = ofBits binary32 bits
+
+-- a pair (distance, number)
+abbrev pub at : ℕ → ℕ → Pair
+at distance number = record { key = distance; number = number }
+
+-- document 01's library A
+abbrev pub libraryA : Library
+libraryA = record {
+  d = 2;
+  b = 3;
+  n = 5;
+  marks = pos 0 ∷ pos 3 ∷ pos 9 ∷ pos 16 ∷ pos 21 ∷ pos 0 ∷ pos 5 ∷ pos 11 ∷ [];
+  codes = 0x01 ∷ 0xDC ∷ [];
+  vectors = pos 1 ∷ pos 3 ∷ pos 2 ∷ pos 3 ∷ pos 4 ∷ pos 10 ∷ pos 13 ∷ pos 6 ∷ pos 18 ∷ pos 1 ∷ [];
+}
+
+-- the library of P12, whose codes are those of its vectors: regions 0 and 1
+abbrev pub libraryP12 : Library
+libraryP12 = record { d = 1; b = 1; n = 2; marks = pos 0 ∷ pos 4 ∷ pos 10 ∷ []; codes = 0x40 ∷ []; vectors = pos 3 ∷ pos 7 ∷ [] }
 
 abbrev pub table : List Case
 table =
@@ -50,8 +91,18 @@ table =
     -- P8
     ∷ refuses (Held (value 0x3F800000) 21) 13
     ∷ gives (Held (value 0x3F800000) 20) (pos 256)
+    -- P9, and the same for the library of P12
+    ∷ codes libraryA
+    ∷ codes libraryP12
+    -- P10
+    ∷ makes libraryA (pos 1 ∷ pos 2 ∷ pos 4 ∷ pos 13 ∷ pos 19 ∷ pos 1 ∷ pos 3 ∷ pos 11 ∷ [])
+    -- P11
+    ∷ finds libraryA (pos 12 ∷ pos 6 ∷ []) 1 (at 1 3 ∷ []) (3 ∷ [])
+    ∷ finds libraryA (pos 12 ∷ pos 6 ∷ []) 2 (at 1 3 ∷ at 61 4 ∷ []) (3 ∷ 2 ∷ 4 ∷ [])
+    -- P12
+    ∷ finds libraryP12 (pos 5 ∷ []) 1 (at 4 0 ∷ []) (1 ∷ 0 ∷ [])
     ∷ []
 
 pub cases-hold : All table
-unfolding first intakeOf valueIntake rounded ofBits ofFields odd isNan
-cases-hold = (refl, (refl, (refl, (refl, (refl, (refl, (refl, (refl, (refl, tt)))))))))
+unfolding first intakeOf valueIntake rounded ofBits ofFields odd isNan keyOf below insert sort keyed ranked numbersOf countFrom ranking scan unread leastPair goesOn readNext reading read bitsOf firstBits firstMarks dimensionMarks regionOf column inOrder madeDimension madeFirst lowBits fromBits bytesOf byteBits joined packed codeRegion regionsFrom firstDistance shortest firstBound
+cases-hold = (refl, (refl, (refl, (refl, (refl, (refl, (refl, (refl, (refl, (refl, (refl, (refl, (refl, (refl, (refl, tt)))))))))))))))

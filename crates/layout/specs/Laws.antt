@@ -89,3 +89,8 @@ marks-within d b (suc n) j h =
       | inl e ↦ le-of-eq (ap (λ (k : ℕ). firstMarks d b (suc k)) e)
       | inr l ↦ le-trans (marks-within d b n j l) (le-add-right (firstMarks d b n) (markCount d b (suc n)))
     ]
+
+-- the next dimension's marks stand behind them
+pub first-next-marks : (d b j : ℕ) → firstMarks d b j + markCount d b (suc j) ≡ firstMarks d b (suc j)
+unfolding firstMarks
+first-next-marks d b j = refl

@@ -1,18 +1,20 @@
 -- Where a dimension's marks stand in the marks buffer, and how many bits it has; 0 where the numbers are refused. Assumes nothing.
-use mathlib.Core.Path.{_≡_}
-use mathlib.Core.Bool.{not, _&&_}
+use mathlib.Core.Path.{_≡_, ap, _∙_, subst⁻¹}
+use mathlib.Core.Bool.{false, not, _&&_}
 use mathlib.Core.List.{List, [], _∷_}
-use Prim.Native.Nat.{ℕ, suc, _-_, _*_, _≤_, _<_}
+use Prim.Native.Nat.{ℕ, suc, _+_, _-_, _*_, _^_, _≤_, _<_}
+use native.Mathlib.Nat.{le-trans, mul-le-mul-left}
 use native.Mathlib.Omega.{arith}
-use borrow.Author.Tests.{leb-true, not-false}
+use borrow.Author.Tests.{leb-true, le-leb, not-false}
 use lib.Dec.{leb}
 use Rattle.refusal.specs.declared.Refusal.the-variants.{Dimension, Bits}
 use Rattle.refusal.specs.declared.Verdict.the-variants.{Accepted}
-use Rattle.refusal.specs.First.{Row, _⇒_, first, outcome, passed}
+use Rattle.refusal.specs.First.{Row, _⇒_, first, outcome, outcome-accepted, first-next, passed}
 use Rattle.limits.specs.Limits.{maxDimensions, maxDimensionBits, isDimensionCount, isBits}
 use Rattle.limits.specs.Tests.{between}
 use Rattle.layout.specs.declared.Stretch.{Stretch}
 use Rattle.layout.specs.Layout.{bitsOf, firstBits, firstMarks}
+use Rattle.layout.specs.Laws.{bits-le, marks-le, marks-within, first-next-marks}
 
 -- 1 for the number of dimensions, 2 for the number of bits
 abbrev pub shapeCauses : ℕ → ℕ → List Row
@@ -66,3 +68,47 @@ numbered d b j accepted =
     let number = passed (not (leb 1 j && leb j d)) Dimension (shapeCauses d b) accepted in
     let range = between 1 j d (not-false (leb 1 j && leb j d) (number .fails)) in
     record { before = j - 1; is = omega (arith, range .above); within = omega (arith, range .above, range .below); shaped = shape d b (number .rest) }
+
+-- a stretch that is handed back: where it stands in the buffer
+pub record Stretches (d b j : ℕ) (s : Stretch) : Type 0 where
+  pub offset-is : s .offset ≡ firstMarks d b (j - 1)
+  pub bits-are : s .bits ≡ bitsOf d b j
+  pub few-bits : s .bits ≤ maxDimensionBits
+  pub end : s .offset + (2 ^ s .bits + 1) ≡ firstMarks d b j
+  pub within : firstMarks d b j ≤ firstMarks d b d
+  pub small : firstMarks d b d ≤ (2 ^ maxDimensionBits + 1) * maxDimensions
+
+pub stretches : {d b j : ℕ} {s : Stretch} → first (dimensionCauses d b j) ≡ Accepted → s ≡ stretchOf d b j → Stretches d b j s
+unfolding stretchOf
+stretches {d} {b} {j} {s} accepted is =
+    let told = numbered d b j accepted in
+    let shape = told .shaped in
+    let before = told .before in
+    let made = is ∙ outcome-accepted _ _ accepted in
+    let offset : s .offset ≡ firstMarks d b (j - 1) = ap (λ (x : Stretch). x .offset) made in
+    let bits : s .bits ≡ bitsOf d b j = ap (λ (x : Stretch). x .bits) made in
+    let number : j - 1 ≡ before = omega (arith, told .is) in
+    let next : firstMarks d b before + (2 ^ bitsOf d b j + 1) ≡ firstMarks d b j =
+    subst⁻¹ (λ (x : ℕ). firstMarks d b before + (2 ^ bitsOf d b x + 1) ≡ firstMarks d b x) (told .is) (first-next-marks d b before) in
+    let few : bitsOf d b j ≤ maxDimensionBits =
+    subst⁻¹ (λ (x : ℕ). bitsOf d b x ≤ maxDimensionBits) (told .is) (bits-le maxDimensionBits d b before (shape .some) (shape .bits)) in
+    let inside : firstMarks d b j ≤ firstMarks d b d = subst⁻¹ (λ (x : ℕ). firstMarks d b x ≤ firstMarks d b d) (told .is) (marks-within d b d before (told .within)) in
+    record {
+      offset-is = offset;
+      bits-are = bits;
+      few-bits = rw bits few;
+      end = rw (offset, bits, number) next;
+      within = inside;
+      small = le-trans (marks-le maxDimensionBits d b d (shape .some) (shape .bits)) (mul-le-mul-left (2 ^ maxDimensionBits + 1) (shape .few));
+    }
+
+pub marks-length-is : (d b : ℕ) → first (shapeCauses d b) ≡ Accepted → marksLength d b ≡ firstMarks d b d
+unfolding marksLength
+marks-length-is d b accepted = outcome-accepted _ _ accepted
+
+-- dimension t + 1 of those that are taken
+pub dimension-accepted : (d b t : ℕ) → first (shapeCauses d b) ≡ Accepted → t < d → first (dimensionCauses d b (t + 1)) ≡ Accepted
+dimension-accepted d b t accepted below =
+    let in-range : not (leb 1 (t + 1) && leb (t + 1) d) ≡ false =
+    rw (le-leb 1 (t + 1) (omega arith), le-leb (t + 1) d (omega arith)) in
+    first-next Dimension (shapeCauses d b) in-range ∙ accepted

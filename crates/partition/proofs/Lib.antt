@@ -1,4 +1,6 @@
 -- What the proofs of several functions use.
+pub mod ReadBack
+pub mod Halving
 mod Filled
 mod Columns
 mod Prefix

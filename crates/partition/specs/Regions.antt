@@ -23,7 +23,8 @@ pub holds-within : {marks : List ℤ} {r : ℕ} {v : ℤ} → Holds marks r v �
 unfolding inRegion
 holds-within {marks} {r} {v} h = within (getD marks r (pos 0)) v (getD marks (suc r) (pos 0)) (h .inside)
 
-pub within-holds : {marks : List ℤ} {r : ℕ} {v : ℤ} → suc r < length marks → Within (getD marks r (pos 0)) v (getD marks (suc r) (pos 0)) → Holds marks r v
+pub within-holds : {marks : List ℤ} {r : ℕ} {v : ℤ} → suc r < length marks → Within (getD marks r (pos 0)) v (getD marks (suc r) (pos 0))
+    → Holds marks r v
 unfolding inRegion
 within-holds exists is = record { exists = exists; inside = within-test is }
 
@@ -38,6 +39,33 @@ within-marks marks v is = within-test is
 -- a region that holds a value is not empty
 pub holds-not-empty : {marks : List ℤ} {r : ℕ} {v : ℤ} → Holds marks r v → ltZ (getD marks r (pos 0)) (getD marks (suc r) (pos 0)) ≡ true
 holds-not-empty h = within-apart (holds-within h)
+
+-- the last mark, by its place
+pub last-mark : (marks : List ℤ) (last : ℕ) → suc last ≡ length marks → lastMark marks ≡ getD marks last (pos 0)
+last-mark [] last e = absurd (omega arith)
+last-mark (m ∷ ms) last e =
+    let same : last ≡ length ms = omega arith in
+    rw same
+
+-- a value that lies inside the marks is in regionOf's region, whether the marks fall or not
+pub region-of-holds : (marks : List ℤ) (v : ℤ) → inMarks marks v ≡ true → Holds marks (regionOf marks v) v
+unfolding inRegion regionOf
+region-of-holds [] v h =
+    let is = marks-within [] v h in
+    absurd (ltZ-clash v (pos 0) (is .upper) (is .lower))
+region-of-holds (m ∷ []) v h =
+    let is = marks-within (m ∷ []) v h in
+    absurd (ltZ-clash v m (is .upper) (is .lower))
+region-of-holds (m ∷ next ∷ ms) v h = go (leZ m v && ltZ v next) refl (region-of-holds (next ∷ ms) v)
+  where
+    go : (t : Bool) → leZ m v && ltZ v next ≡ t → (inMarks (next ∷ ms) v ≡ true → Holds (next ∷ ms) (regionOf (next ∷ ms) v) v)
+        → Holds (m ∷ next ∷ ms) (cond t 0 (suc (regionOf (next ∷ ms) v))) v
+    go true e later = record { exists = omega arith; inside = e }
+    go false e later =
+        let is = marks-within (m ∷ next ∷ ms) v h in
+        let not-below : ltZ v next ≡ false = rw (is .lower) at e in
+        let rest = later (within-marks (next ∷ ms) v (record { lower = leZ-not v next ∙ ap not not-below; upper = is .upper })) in
+        record { exists = omega (arith, rest .exists); inside = rest .inside }
 
 -- ---- marks that never fall
 
@@ -69,13 +97,6 @@ marks-rise (m ∷ next ∷ ms) good zero (suc j) le lt =
 marks-rise (m ∷ ms) good (suc i) zero le lt = absurd (omega arith)
 marks-rise (m ∷ ms) good (suc i) (suc j) le lt = marks-rise ms (good-first m ms good .rest) i j (omega arith) (omega arith)
 
--- the last mark, by its place
-pub last-mark : (marks : List ℤ) (last : ℕ) → suc last ≡ length marks → lastMark marks ≡ getD marks last (pos 0)
-last-mark [] last e = absurd (omega arith)
-last-mark (m ∷ ms) last e =
-    let same : last ≡ length ms = omega arith in
-    rw same
-
 module _ {marks : List ℤ} (good : goodDimension marks ≡ true) {v : ℤ} where
   later-clash : {r s : ℕ} → Holds marks r v → Holds marks s v → r < s → ⊥
   later-clash {r} {s} hr hs lt =
@@ -94,33 +115,13 @@ module _ {marks : List ℤ} (good : goodDimension marks ≡ true) {v : ℤ} wher
   pub holds-in-marks : {r : ℕ} → Holds marks r v → inMarks marks v ≡ true
   holds-in-marks {r} h =
       let is = holds-within h in
-      let last : suc (length marks - 1) ≡ length marks = omega (arith, h .exists) in
+      let last = length marks - 1 in
       let first-rise = marks-rise marks good 0 r (omega arith) (omega (arith, h .exists)) in
-      let last-rise = marks-rise marks good (suc r) (length marks - 1) (omega (arith, h .exists)) (omega arith) in
-      within-marks marks v (record { lower = leZ-trans (firstMark marks) (getD marks r (pos 0)) v first-rise (is .lower); upper = rw (last-mark marks (length marks - 1) last) (ltZ-leZ v (getD marks (suc r) (pos 0)) (getD marks (length marks - 1) (pos 0)) (is .upper) last-rise) })
+      let last-rise = marks-rise marks good (suc r) last (omega (arith, h .exists)) (omega (arith, h .exists)) in
+      let lower = leZ-trans (firstMark marks) (getD marks r (pos 0)) v first-rise (is .lower) in
+      let upper = ltZ-leZ v (getD marks (suc r) (pos 0)) (getD marks last (pos 0)) (is .upper) last-rise in
+      within-marks marks v (record { lower = lower; upper = rw (last-mark marks last (omega (arith, h .exists))) upper })
 
--- ---- any marks
-
--- a value that lies inside the marks is in regionOf's region
-pub region-of-holds : (marks : List ℤ) (v : ℤ) → inMarks marks v ≡ true → Holds marks (regionOf marks v) v
-unfolding inRegion regionOf
-region-of-holds [] v h =
-    let is = marks-within [] v h in
-    absurd (ltZ-clash v (pos 0) (is .upper) (is .lower))
-region-of-holds (m ∷ []) v h =
-    let is = marks-within (m ∷ []) v h in
-    absurd (ltZ-clash v m (is .upper) (is .lower))
-region-of-holds (m ∷ next ∷ ms) v h = go (leZ m v && ltZ v next) refl (region-of-holds (next ∷ ms) v)
-  where
-    go : (t : Bool) → leZ m v && ltZ v next ≡ t → (inMarks (next ∷ ms) v ≡ true → Holds (next ∷ ms) (regionOf (next ∷ ms) v) v)
-        → Holds (m ∷ next ∷ ms) (cond t 0 (suc (regionOf (next ∷ ms) v))) v
-    go true e later = record { exists = omega arith; inside = e }
-    go false e later =
-        let is = marks-within (m ∷ next ∷ ms) v h in
-        let not-below : ltZ v next ≡ false = rw (is .lower) at e in
-        let rest = later (within-marks (next ∷ ms) v (record { lower = leZ-not v next ∙ ap not not-below; upper = is .upper })) in
-        record { exists = omega (arith, rest .exists); inside = rest .inside }
-
--- so for marks that never fall it is the one that holds the value
-pub region-of-is : {marks : List ℤ} {r : ℕ} {v : ℤ} → goodDimension marks ≡ true → Holds marks r v → r ≡ regionOf marks v
-region-of-is {marks} {r} {v} good h = holds-one good h (region-of-holds marks v (holds-in-marks good h))
+  -- so the one region that holds it is regionOf's
+  pub region-of-is : {r : ℕ} → Holds marks r v → r ≡ regionOf marks v
+  region-of-is h = holds-one h (region-of-holds marks v (holds-in-marks h))

@@ -34,7 +34,7 @@ leZ-refl (negsuc a) = le-leb a a (omega arith)
 pub ltZ-clash : (a b : ℤ) → ltZ a b ≡ true → leZ b a ≡ true → ⊥
 ltZ-clash a b below above = true≢false (sym below ∙ ltZ-not a b ∙ ap not above)
 
-pub not-leZ : (a b : ℤ) → (leZ b a ≡ true → ⊥) → ltZ a b ≡ true
+not-leZ : (a b : ℤ) → (leZ b a ≡ true → ⊥) → ltZ a b ≡ true
 not-leZ a b never = ltZ-not a b ∙ ap not (go (leZ b a) refl)
   where
     go : (t : Bool) → leZ b a ≡ t → t ≡ false

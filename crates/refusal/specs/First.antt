@@ -95,3 +95,22 @@ pub passed : (test : Bool) (cause : Refusal) (rows : List Row) → first ((test 
 unfolding first
 passed true cause rows accepted = record { fails = cc; rest = cc }
 passed false cause rows accepted = record { fails = refl; rest = accepted }
+
+-- two lists of rows, one behind the other
+pub first-append : (rows more : List Row) → first (rows ++ more) ≡ outcome (first rows) (first more) Refused
+unfolding first
+first-append [] more = refl
+first-append ((true ⇒ cause) ∷ rows) more = refl
+first-append ((false ⇒ cause) ∷ rows) more = first-append rows more
+
+pub accepted-front : (rows more : List Row) → first (rows ++ more) ≡ Accepted → first rows ≡ Accepted
+unfolding first
+accepted-front [] more accepted = refl
+accepted-front ((true ⇒ cause) ∷ rows) more accepted = accepted
+accepted-front ((false ⇒ cause) ∷ rows) more accepted = accepted-front rows more accepted
+
+pub accepted-behind : (rows more : List Row) → first (rows ++ more) ≡ Accepted → first more ≡ Accepted
+unfolding first
+accepted-behind [] more accepted = accepted
+accepted-behind ((true ⇒ cause) ∷ rows) more accepted = cc
+accepted-behind ((false ⇒ cause) ∷ rows) more accepted = accepted-behind rows more accepted

@@ -1,7 +1,7 @@
 -- The full scan and the search (document 01, "Distance, bounds, reading order"; source document 003, section 3.3.2, the near-optimal search).
 -- Assumes nothing.
 use mathlib.Core.Bool.{Bool, true, not, _&&_}
-use mathlib.Core.List.{List, [], _∷_}
+use mathlib.Core.List.{List, [], _∷_, _++_}
 use Prim.Native.Nat.{ℕ, _*_}
 use lib.Dec.{leb, eqb}
 use lib.IntN.{ℤ}
@@ -76,9 +76,9 @@ exactLengths l query k room =
     && (eqb (length (l .vectors)) (l .n * l .d)
     && (eqb (room .numbers) k && (eqb (room .distances) k && eqb (room .reads) (l .n))))))
 
--- "the search tests 6 on the query only, 8 never, and 10 while reading"
-abbrev pub searchCauses : Library → List ℤ → ℕ → Room → List Row
-searchCauses l query k room =
+-- the causes that are tested before anything is read: "the search tests 6 on the query only, 8 never"
+abbrev pub entryCauses : Library → List ℤ → ℕ → Room → List Row
+entryCauses l query k room =
     (not (isDimensionCount (l .d)) ⇒ Dimension)
     ∷ (not (isBits (l .d) (l .b)) ⇒ Bits)
     ∷ (not (isVectorCount (l .n)) ⇒ Count)
@@ -87,5 +87,8 @@ searchCauses l query k room =
     ∷ (not (areComponents query) ⇒ Component)
     ∷ (not (goodMarks (l .d) (l .b) (l .marks)) ⇒ Mark)
     ∷ (not (goodCodes (l .d) (l .b) (l .n) (l .marks) (l .codes)) ⇒ Code)
-    ∷ (not (inOwnCells l ((searched l query k) .reads)) ⇒ Cell)
     ∷ []
+
+-- ".. and 10 while reading": a vector that is read is not in its code's cell
+abbrev pub searchCauses : Library → List ℤ → ℕ → Room → List Row
+searchCauses l query k room = entryCauses l query k room ++ ((not (inOwnCells l ((searched l query k) .reads)) ⇒ Cell) ∷ [])

@@ -15,7 +15,7 @@ use Rattle.selection.specs.Changed.{changed-elsewhere, changed-holds}
 
 -- ---- a set that settles the answer
 
-member? : (i : ℕ) (is : List ℕ) → Dec (i ∈ is)
+pub member? : (i : ℕ) (is : List ℕ) → Dec (i ∈ is)
 member? i [] = no List·Memᴰ·not-nil
 member? i (j ∷ is) = go (ℕ-discrete i j) (member? i is)
   where

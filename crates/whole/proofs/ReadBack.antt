@@ -1,7 +1,9 @@
 -- A signed number is read back from its bits: at 32 bits, and then at 64. Assumes nothing.
 use mathlib.Core.Path.{_≡_, _∙_, subst⁻¹}
+use Prim.Native.Nat.{_^_, _<_}
 use native.Mathlib.Omega.{arith}
 use lib.IntN.{ℤ}
+use lib.Signed.{mag}
 use mir.Syntax.{w32, w64}
 use mir.Val.{SFits, toZ, ofZ}
 use mir.ValLaws.{toZ-ofZ}
@@ -14,3 +16,7 @@ back-fits z f = subst⁻¹ (SFits w64) (toZ-ofZ w32 z f) (widened f)
 
 pub back : (z : ℤ) → SFits w32 z → toZ w64 (ofZ w64 (toZ w32 (ofZ w32 z))) ≡ z
 back z f = toZ-ofZ w64 (toZ w32 (ofZ w32 z)) (back-fits z f) ∙ toZ-ofZ w32 z f
+
+-- a number that a call gave, which is another by the call's contract
+pub given : {z other : ℤ} → mag z < 2 ^ 31 → z ≡ other → toZ w32 (ofZ w32 z) ≡ other
+given {z} small is = toZ-ofZ w32 z (record { sfits = small }) ∙ is

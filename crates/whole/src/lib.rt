@@ -1,4 +1,5 @@
 // Whole numbers of 32 bits, read from a slice, and as keys: numbers from 0 on in the same order.
+pub mod compare;
 pub mod components;
 
 ghost use mathlib.Core.Path.{_≡_};

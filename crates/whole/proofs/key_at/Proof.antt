@@ -1,14 +1,13 @@
 -- `key_at` meets its contract. Assumes nothing.
 use mathlib.Core.Path.{ap, _∙_}
 use borrow.Author.Needs.{needs}
-use mir.Syntax.{w32}
-use mir.ValLaws.{toZ-ofZ}
 use Rattle.whole.specs.Keys.{keyOf}
+use Rattle.whole.proofs.ReadBack.{given}
 use Rattle.whole.proofs.key_at.Statement.{statement}
 use Rattle.whole.proofs.key_at.Tie as tie
 
 returns : tie.Need-returns
-returns c = c .key .ensures ∙ ap keyOf (toZ-ofZ w32 _ (record { sfits = c .before .at .ok }) ∙ c .before .at .ensures)
+returns c = c .key .ensures ∙ ap keyOf (given (c .before .at .ok) (c .before .at .ensures))
 
 pub key-at-spec : {M : Type 1} → statement M
 key-at-spec = tie.close (tie.spec (λ c κs. search needs) (λ c κs. search needs) returns)

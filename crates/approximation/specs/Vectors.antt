@@ -1,0 +1,29 @@
+-- The region numbers of vectors under given marks, and the codes that are made of them (document 01, "Marks, regions, codes").
+-- Assumes nothing.
+use mathlib.Core.Bool.{Bool, true, _&&_}
+use mathlib.Core.List.{List, [], _∷_}
+use Prim.Native.Nat.{ℕ, suc}
+use lib.IntN.{ℤ}
+use Rattle.partition.specs.Marks.{dimensionMarks}
+use Rattle.partition.specs.Region.{regionOf, inMarks}
+use Rattle.approximation.specs.Codes.{nextColumn, packed}
+
+-- the region of each component in its dimension, from column t on
+unfoldable pub regionsFrom : ℕ → ℕ → List ℤ → ℕ → List ℤ → List ℕ
+regionsFrom d b marks t [] = []
+regionsFrom d b marks t (z ∷ zs) = regionOf (dimensionMarks d b marks (suc t)) z ∷ regionsFrom d b marks (nextColumn d t) zs
+
+abbrev pub vectorRegions : ℕ → ℕ → List ℤ → List ℤ → List ℕ
+vectorRegions d b marks vectors = regionsFrom d b marks 0 vectors
+
+-- whether each component lies inside its dimension's marks, from column t on
+unfoldable pub insideFrom : ℕ → ℕ → List ℤ → ℕ → List ℤ → Bool
+insideFrom d b marks t [] = true
+insideFrom d b marks t (z ∷ zs) = inMarks (dimensionMarks d b marks (suc t)) z && insideFrom d b marks (nextColumn d t) zs
+
+abbrev pub vectorsInside : ℕ → ℕ → List ℤ → List ℤ → Bool
+vectorsInside d b marks vectors = insideFrom d b marks 0 vectors
+
+-- the codes of n vectors
+abbrev pub vectorCodes : ℕ → ℕ → ℕ → List ℤ → List ℤ → List ℕ
+vectorCodes d b n marks vectors = packed d b n (vectorRegions d b marks vectors)

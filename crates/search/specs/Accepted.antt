@@ -1,0 +1,96 @@
+-- What holds where the search is not refused, and that it is not refused where all of that holds. Assumes nothing.
+use mathlib.Core.Path.{_≡_, refl}
+use mathlib.Core.Bool.{Bool, true, _&&_, and-eq-true-iff}
+use mathlib.Core.List.{List}
+use Prim.Native.Nat.{ℕ, _*_}
+use lib.Dec.{leb}
+use lib.IntN.{ℤ}
+use lib.ListN.{length}
+use borrow.Author.Tests.{not-false, eqb-true, eq-eqb}
+use Rattle.refusal.specs.declared.Verdict.the-variants.{Accepted}
+use Rattle.refusal.specs.First.{first, passed}
+use Rattle.limits.specs.Limits.{isDimensionCount, isBits, isVectorCount}
+use Rattle.whole.specs.Components.{areComponents}
+use Rattle.layout.specs.Layout.{firstMarks}
+use Rattle.partition.specs.Marks.{goodMarks}
+use Rattle.approximation.specs.Codes.{codeLength}
+use Rattle.approximation.specs.Cells.{goodCodes}
+use Rattle.search.specs.Search.{Library, Room, searched, inOwnCells, exactLengths, searchCauses}
+
+-- the search is not refused
+abbrev pub Accepts : Library → List ℤ → ℕ → Room → Type 0
+Accepts l query k room = first (searchCauses l query k room) ≡ Accepted
+
+pub record Passes (l : Library) (query : List ℤ) (k : ℕ) (room : Room) : Type 0 where
+  pub dimensions : isDimensionCount (l .d) ≡ true
+  pub bits : isBits (l .d) (l .b) ≡ true
+  pub count : isVectorCount (l .n) ≡ true
+  pub neighbours : leb 1 k && leb k (l .n) ≡ true
+  pub lengths : exactLengths l query k room ≡ true
+  pub components : areComponents query ≡ true
+  pub marks : goodMarks (l .d) (l .b) (l .marks) ≡ true
+  pub codes : goodCodes (l .d) (l .b) (l .n) (l .marks) (l .codes) ≡ true
+  pub cells : inOwnCells l ((searched l query k) .reads) ≡ true
+
+pub passes : (l : Library) (query : List ℤ) (k : ℕ) (room : Room) → Accepts l query k room → Passes l query k room
+passes l query k room accepts =
+    let dimensions = passed _ _ _ accepts in
+    let bits = passed _ _ _ (dimensions .rest) in
+    let count = passed _ _ _ (bits .rest) in
+    let neighbours = passed _ _ _ (count .rest) in
+    let lengths = passed _ _ _ (neighbours .rest) in
+    let components = passed _ _ _ (lengths .rest) in
+    let marks = passed _ _ _ (components .rest) in
+    let codes = passed _ _ _ (marks .rest) in
+    let cells = passed _ _ _ (codes .rest) in
+    record {
+      dimensions = not-false (isDimensionCount (l .d)) (dimensions .fails);
+      bits = not-false (isBits (l .d) (l .b)) (bits .fails);
+      count = not-false (isVectorCount (l .n)) (count .fails);
+      neighbours = not-false (leb 1 k && leb k (l .n)) (neighbours .fails);
+      lengths = not-false (exactLengths l query k room) (lengths .fails);
+      components = not-false (areComponents query) (components .fails);
+      marks = not-false (goodMarks (l .d) (l .b) (l .marks)) (marks .fails);
+      codes = not-false (goodCodes (l .d) (l .b) (l .n) (l .marks) (l .codes)) (codes .fails);
+      cells = not-false (inOwnCells l ((searched l query k) .reads)) (cells .fails);
+    }
+
+pub accepts : (l : Library) (query : List ℤ) (k : ℕ) (room : Room) → Passes l query k room → Accepts l query k room
+unfolding first
+accepts l query k room p =
+    rw (p .dimensions, p .bits, p .count, p .neighbours, p .lengths, p .components, p .marks, p .codes, p .cells) refl
+
+-- ---- the lengths
+
+pub record Lengths (l : Library) (query : List ℤ) (k : ℕ) (room : Room) : Type 0 where
+  pub of-query : length query ≡ l .d
+  pub of-marks : length (l .marks) ≡ firstMarks (l .d) (l .b) (l .d)
+  pub of-codes : length (l .codes) ≡ codeLength (l .b) (l .n)
+  pub of-vectors : length (l .vectors) ≡ l .n * l .d
+  pub of-numbers : room .numbers ≡ k
+  pub of-distances : room .distances ≡ k
+  pub of-reads : room .reads ≡ l .n
+
+pub lengths-told : (l : Library) (query : List ℤ) (k : ℕ) (room : Room) → exactLengths l query k room ≡ true → Lengths l query k room
+lengths-told l query k room exact =
+    let query-and = and-eq-true-iff _ _ .0 exact in
+    let marks-and = and-eq-true-iff _ _ .0 (query-and .1) in
+    let codes-and = and-eq-true-iff _ _ .0 (marks-and .1) in
+    let vectors-and = and-eq-true-iff _ _ .0 (codes-and .1) in
+    let numbers-and = and-eq-true-iff _ _ .0 (vectors-and .1) in
+    let distances-and = and-eq-true-iff _ _ .0 (numbers-and .1) in
+    record {
+      of-query = eqb-true _ _ (query-and .0);
+      of-marks = eqb-true _ _ (marks-and .0);
+      of-codes = eqb-true _ _ (codes-and .0);
+      of-vectors = eqb-true _ _ (vectors-and .0);
+      of-numbers = eqb-true _ _ (numbers-and .0);
+      of-distances = eqb-true _ _ (distances-and .0);
+      of-reads = eqb-true _ _ (distances-and .1);
+    }
+
+pub lengths-exact : (l : Library) (query : List ℤ) (k : ℕ) (room : Room) → Lengths l query k room → exactLengths l query k room ≡ true
+lengths-exact l query k room n =
+    rw
+    (eq-eqb _ _ (n .of-query), eq-eqb _ _ (n .of-marks), eq-eqb _ _ (n .of-codes), eq-eqb _ _ (n .of-vectors), eq-eqb _ _ (n .of-numbers), eq-eqb _ _ (n .of-distances), eq-eqb _ _ (n .of-reads))
+    refl

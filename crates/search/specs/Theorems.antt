@@ -1,0 +1,117 @@
+-- The theorems of the search (demands 2 and 3 of the mission; document 01, "Distance, bounds, reading order"). A library `l` has d, b, n,
+-- marks, codes and vectors; `searched l query k` is the reading order's outcome, its `best` the k pairs (distance, number) that the search
+-- answers and its `reads` the read list; `scanned l query k` is the full scan's answer (Search.antt). What settles an answer, and when a
+-- vector is needed, is in Settled.antt. The query, k, n, d, b and the marks are any; "not refused" is `Accepts`.
+-- Assumes nothing.
+use mathlib.Core.Path.{_≡_, refl, sym, ap, _∙_}
+use mathlib.Core.Bool.{true}
+use mathlib.Core.Logic.{_≢_}
+use mathlib.Core.List.{List, [], _∷_, List·Memᴰ·head, List·Memᴰ·tail}
+use Prim.Native.Nat.{ℕ, _+_, _≤_, _<_}
+use native.Mathlib.Omega.{arith}
+use lib.IntN.{ℤ}
+use lib.ListN.{length, take}
+use Rattle.order.specs.Members.{_∈_}
+use Rattle.order.specs.Counted.{counted, counted-distinct}
+use Rattle.selection.specs.Reading.{Reading, readingOrder}
+use Rattle.selection.specs.Settles.{Bounds, fixed}
+use Rattle.selection.specs.Theorems.{reads-in-order, reads-among, exact, stable, needed, settling-holds, least}
+use Rattle.approximation.specs.Cells.{vectorAt}
+use Rattle.distance.specs.Distance.{distanceOf}
+use Rattle.search.specs.Search.{Library, numbersIn, distanceIn, lowIn, highIn, inOwnCell, inOwnCells, scanned, searched, Room}
+use Rattle.search.specs.Accepted.{Accepts, passes, accepts, lengths-told, lengths-exact}
+use Rattle.search.specs.Settled.{withVectors, OwnCodes, SameCells, SettlesAnswer, NeededVector}
+use Rattle.search.specs.Instance.{Possible, own-lower, own-possible, cell-bounds, settles-distances, needed-vector}
+
+-- a number read is one of the library's
+read-below : (l : Library) (query : List ℤ) (k : ℕ) {i : ℕ} → i ∈ (searched l query k) .reads → i < l .n
+read-below l query k m =
+    omega (arith, (counted 0 (l .n) (reads-among k (lowIn l query) (distanceIn l query) (numbersIn l) m)) .below)
+
+-- where it is not refused, every code names a cell, which has its least and its greatest distance
+bounds-of : (l : Library) (query : List ℤ) (k : ℕ) (room : Room) → Accepts l query k room
+    → Bounds (Possible l query) (lowIn l query) (highIn l query) (numbersIn l)
+bounds-of l query k room accepts = cell-bounds l query ((passes l query k room accepts) .codes)
+
+-- ---- 1. The search's numbers and distances are the scan's, where the codes are the vectors' own.
+pub search-is-scan : (l : Library) (query : List ℤ) (k : ℕ) → OwnCodes l → (searched l query k) .best ≡ scanned l query k
+search-is-scan l query k own = exact k (lowIn l query) (distanceIn l query) (numbersIn l) (own-lower l query own)
+
+-- ---- 2. Whatever vectors of the same cells stand at the unread numbers, the search gives the same numbers, distances and read list ..
+pub search-is-stable : (l : Library) (query : List ℤ) (k : ℕ) (vectors : List ℤ) → SameCells l ((searched l query k) .reads) vectors
+    → searched (withVectors l vectors) query k ≡ searched l query k
+search-is-stable l query k vectors same =
+    stable k (lowIn l query) (distanceIn l query) (numbersIn l) (distanceIn (withVectors l vectors) query)
+    (λ i m. ap (distanceOf (l .d) query) (same .kept i (read-below l query k m) m))
+
+-- .. and is still not refused ..
+kept-cells : (l : Library) (vectors : List ℤ) (is : List ℕ) → ((i : ℕ) → i ∈ is → vectorAt (l .d) vectors i ≡ vectorAt (l .d) (l .vectors) i)
+    → inOwnCells (withVectors l vectors) is ≡ inOwnCells l is
+unfolding inOwnCells
+kept-cells l vectors [] kept = refl
+kept-cells l vectors (i ∷ is) kept = rw (kept i (List·Memᴰ·head refl), kept-cells l vectors is (λ j m. kept j (List·Memᴰ·tail m)))
+
+pub search-stays-accepted : (l : Library) (query : List ℤ) (k : ℕ) (room : Room) (vectors : List ℤ) → SameCells l ((searched l query k) .reads) vectors
+    → Accepts l query k room → Accepts (withVectors l vectors) query k room
+search-stays-accepted l query k room vectors same held =
+    let p = passes l query k room held in
+    let n = lengths-told l query k room (p .lengths) in
+    accepts (withVectors l vectors) query k room
+    (record {
+      dimensions = p .dimensions;
+      bits = p .bits;
+      count = p .count;
+      neighbours = p .neighbours;
+      lengths = lengths-exact (withVectors l vectors) query k room (record {
+        of-query = n .of-query;
+        of-marks = n .of-marks;
+        of-codes = n .of-codes;
+        of-vectors = same .size;
+        of-numbers = n .of-numbers;
+        of-distances = n .of-distances;
+        of-reads = n .of-reads;
+      });
+      components = p .components;
+      marks = p .marks;
+      codes = p .codes;
+      cells = rw (search-is-stable l query k vectors same, kept-cells l vectors ((searched l query k) .reads) (λ i m. same .kept i (read-below l query k m) m)) (p .cells);
+    })
+
+-- .. and so does the scan its answer.
+pub scan-is-stable : (l : Library) (query : List ℤ) (k : ℕ) (vectors : List ℤ) → OwnCodes l → SameCells l ((searched l query k) .reads) vectors
+    → scanned (withVectors l vectors) query k ≡ scanned l query k
+scan-is-stable l query k vectors own same =
+    sym (search-is-scan (withVectors l vectors) query k (record { cells = same .cells; spare = own .spare }))
+    ∙ ap (λ (r : Reading). r .best) (search-is-stable l query k vectors same)
+    ∙ search-is-scan l query k own
+
+-- ---- 3. Each number read whose cell's two distances differ is needed: another vector of its cell, put there alone, changes the answer.
+pub read-is-needed : (l : Library) (query : List ℤ) (k : ℕ) (room : Room) → OwnCodes l → Accepts l query k room
+    → (i : ℕ) → i ∈ (searched l query k) .reads → lowIn l query i ≢ highIn l query i → NeededVector l query k i
+read-is-needed l query k room own accepts i is-read differ =
+    needed-vector l query k i own (read-below l query k is-read)
+    (needed k (lowIn l query) (distanceIn l query) (numbersIn l) (Possible l query) (highIn l query) (bounds-of l query k room accepts)
+    (own-lower l query own) is-read differ)
+
+-- ---- 4. The numbers read settle the answer; every set that settles it holds each read number whose cell's two distances differ ..
+pub reads-settle-answer : (l : Library) (query : List ℤ) (k : ℕ) → OwnCodes l → SettlesAnswer l query k ((searched l query k) .reads)
+reads-settle-answer l query k own vectors same = scan-is-stable l query k vectors own same ∙ sym (search-is-scan l query k own)
+
+pub settling-set-holds-reads : (l : Library) (query : List ℤ) (k : ℕ) (room : Room) → OwnCodes l → Accepts l query k room
+    → (set : List ℕ) → SettlesAnswer l query k set → (i : ℕ) → i ∈ (searched l query k) .reads → lowIn l query i ≢ highIn l query i → i ∈ set
+settling-set-holds-reads l query k room own accepts set settles i is-read differ =
+    settling-holds k (Possible l query) (lowIn l query) (highIn l query) (distanceIn l query) (numbersIn l) (bounds-of l query k room accepts)
+    (own-possible l query own) set (settles-distances l query k set own settles) i is-read differ
+
+-- .. so it has at least as many members as numbers are read, less those read whose cell's two distances are equal.
+pub reading-is-least : (l : Library) (query : List ℤ) (k : ℕ) (room : Room) → OwnCodes l → Accepts l query k room
+    → (set : List ℕ) → SettlesAnswer l query k set
+    → length ((searched l query k) .reads) ≤ length set + fixed (lowIn l query) (highIn l query) ((searched l query k) .reads)
+reading-is-least l query k room own accepts set settles =
+    least k (Possible l query) (lowIn l query) (highIn l query) (distanceIn l query) (numbersIn l) (bounds-of l query k room accepts)
+    (own-possible l query own) (counted-distinct 0 (l .n)) set (settles-distances l query k set own settles)
+
+-- ---- 5. The read list is the reading order's, also where codes are wrong: the first of the numbers in order of (L, number).
+pub reads-are-the-order : (l : Library) (query : List ℤ) (k : ℕ)
+    → (searched l query k) .reads ≡ take (length ((searched l query k) .reads)) (readingOrder (lowIn l query) (numbersIn l))
+reads-are-the-order l query k = reads-in-order k (lowIn l query) (distanceIn l query) (numbersIn l)
