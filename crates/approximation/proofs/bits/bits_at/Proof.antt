@@ -43,7 +43,7 @@ unfolding bitsAt
 read bytes small from w few =
     let q = from / 8 in
     let cut : drop from (byteBits bytes) ≡ drop (from % 8) (byteBits (drop q bytes)) =
-        rw (← drop-bytes q bytes, drop-drop, div-add-mod') in
+    rw (← drop-bytes q bytes, drop-drop, div-add-mod') in
     let rest : Bytes (drop q bytes) = λ i. rw (getD-drop q bytes i 0) (small (q + i)) in
     rw (le-leb w 8 few, cut) (sym (rw (getD-drop q bytes 0 0, getD-drop q bytes 1 0, add-zero q) at (in-two (drop q bytes) rest (from % 8) w (omega arith) few)))
 

@@ -11,11 +11,11 @@ use borrow.Author.Needs.{needs}
 use borrow.Author.Tests.{not-false, eq-eqb, ne-eqb}
 use Rattle.refusal.specs.declared.Refusal.the-variants.{Dimension, Bits, Count, Length, Component}
 use Rattle.refusal.specs.declared.Verdict.the-variants.{Accepted}
-use Rattle.refusal.specs.First.{Row, first, first-here, first-next, outcome-accepted}
+use Rattle.refusal.specs.First.{Row, first, first-here, first-next}
 use Rattle.limits.specs.Limits.{maxDimensions, maxVectors, isDimensionCount, isVectorCount}
 use Rattle.limits.specs.Tests.{between}
 use Rattle.layout.specs.Layout.{firstMarks}
-use Rattle.layout.specs.Stretch.{shapeCauses, marksLength}
+use Rattle.layout.specs.Stretch.{shapeCauses, marks-length-is}
 use Rattle.partition.specs.Making.{makeCauses}
 use Rattle.partition.proofs.made.check_making.Statement.{statement}
 use Rattle.partition.proofs.made.check_making.Tie as tie
@@ -69,8 +69,7 @@ shaped c =
 
 marks-are : (c : tie.After-marks-length) → let a = c .before .before .before .before .before .before .before .before .args in
     c .marks-length .result ≡ firstMarks (a .d) (a .b) (a .d)
-unfolding marksLength
-marks-are c = c .marks-length .ensures ∙ outcome-accepted _ _ (shaped (c .before .before .before .before))
+marks-are c = c .marks-length .ensures ∙ marks-length-is _ _ (shaped (c .before .before .before .before))
 
 -- whether the marks buffer's length is the exact one, where the vectors' is
 room-told : {value : Bool} (c : tie.After-marks-length) → let a = c .before .before .before .before .before .before .before .before .args in

@@ -1,13 +1,13 @@
 -- `write_marks` meets its contract: the first i marks are the dimension's, and the last is written behind the loop. Assumes nothing.
 use mathlib.Core.Path.{_≡_, refl, sym, ap, _∙_}
 use mathlib.Core.List.{List}
-use Prim.Native.Nat.{ℕ, _+_, _-_, _*_, _/_, _%_, _^_, _≤_, _<_}
-use native.Mathlib.Nat.{one-mul, mul-le-mul}
+use Prim.Native.Nat.{ℕ, _+_, _-_, _*_, _/_, _^_, _≤_, _<_}
+use native.Mathlib.Nat.{mul-le-mul}
 use native.Mathlib.Omega.{arith}
 use lib.IntN.{ℤ, pos, sucℤ}
 use lib.ListN.{length, take, getD, set, length-set}
 use lib.Seq.{take-all}
-use lib.Pow.{pow-mono, shl-exact}
+use lib.Pow.{pow-mono}
 use mir.Syntax.{w32}
 use mir.Val.{toZ, ofZ}
 use mir.ValLaws.{toZ-ofZ}
@@ -18,6 +18,7 @@ use Rattle.partition.specs.Making.{MarksOf}
 use Rattle.partition.specs.InOrder.{column-ordered}
 use Rattle.partition.specs.MadeDimension.{place-below, made-length, made-at, made-last}
 use Rattle.partition.proofs.Filled.{filled-one}
+use Rattle.partition.proofs.Power.{shifted}
 use Rattle.partition.proofs.made.write_marks.Statement.{statement}
 use Rattle.partition.proofs.made.write_marks.Tie as tie
 
@@ -36,9 +37,6 @@ Inv-loop d t w vectors numbers part₀ n last regions i₀ part i = Filled d t w
 
 abbrev μ-loop : tie.MeasureT-loop
 μ-loop d t w vectors numbers part₀ n last regions i₀ part i = regions - i
-
-shift : (w : ℕ) → w ≤ maxDimensionBits → 1 * 2 ^ w % 2 ^ 64 ≡ 2 ^ w
-shift w few = shl-exact {a = 1} 1 w 64 (omega arith) (omega arith) ∙ one-mul (2 ^ w)
 
 -- a product of a region's number and a count of vectors is small
 product : (w i n : ℕ) → w ≤ maxDimensionBits → i < 2 ^ w → n ≤ maxVectors → i * n < 2 ^ 64
@@ -78,7 +76,7 @@ module _ {d t w : ℕ} {vectors : List ℤ} {numbers : List ℕ} {room regions :
       ∙ take-all (2 ^ w + 1) (whole d t w vectors numbers) (omega (arith, count-made)))
 
 loop-holds : tie.Need-loop-holds Inv-loop μ-loop
-loop-holds c = record { count = shift (c .before .args .w) (c .before .pre .0 .bits); among = omega arith; same = refl; so-far = refl }
+loop-holds c = record { count = shifted (c .before .args .w) (c .before .pre .0 .bits); among = omega arith; same = refl; so-far = refl }
 
 loop-again : tie.Need-loop-again Inv-loop μ-loop
 loop-again c =
