@@ -16,7 +16,7 @@ use Rattle.limits.specs.Limits.{maxDimensions, maxVectors, isDimensionCount, is
 use Rattle.limits.specs.Tests.{between}
 use Rattle.layout.specs.Layout.{firstMarks}
 use Rattle.layout.specs.Stretch.{shapeCauses, marks-length-is}
-use Rattle.partition.specs.Making.{makeCauses}
+use Rattle.partition.specs.Making.{makeCauses, shape-accepted}
 use Rattle.partition.proofs.made.check_making.Statement.{statement}
 use Rattle.partition.proofs.made.check_making.Tie as tie
 
@@ -63,9 +63,9 @@ returns-4 c =
     sym (passed-3 (c .before) ∙ first-here Length _ (rw (ne-eqb (length (a .vectors .now)) (a .n * a .d) (omega arith))))
 
 shaped : (c : tie.Else2) → let a = c .before .before .before .before .args in first (shapeCauses (a .d) (a .b)) ≡ Accepted
-unfolding first
 shaped c =
-    rw (told (c .before .before .before .is-dimension-count .ensures) (c .before .before .if1 .left), told (c .before .is-bits .ensures) (c .if2 .left))
+    let a = c .before .before .before .before .args in
+    shape-accepted (a .d) (a .b) (told (c .before .before .before .is-dimension-count .ensures) (c .before .before .if1 .left)) (told (c .before .is-bits .ensures) (c .if2 .left))
 
 marks-are : (c : tie.After-marks-length) → let a = c .before .before .before .before .before .before .before .before .args in
     c .marks-length .result ≡ firstMarks (a .d) (a .b) (a .d)

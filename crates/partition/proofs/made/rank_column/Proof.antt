@@ -50,11 +50,11 @@ returns c =
     let start = keys .before .before .before in
     let a = start .args in
     let hold = keys-hold (keys .before .before) in
-    let are =
-    shared-is _ _ _ hold (keys .column-keys .kept .1 .1 .1 .0)
+    ranks (a .d) (a .t) (a .vectors .now) (a .numbers .now) (rank .rank .last .1 .0) _ (start .pre .1) (start .pre .0 .count) (rank .rank .kept .1 .0)
+    (shared-is _ _ (keys .column-keys .last .1 .1 .1 .0) hold (keys .column-keys .kept .1 .1 .1 .0)
     ∙ keys .column-keys .ensures
-    ∙ ap (λ (n : ℕ). map keyOf (column (a .d) n (a .vectors .now) (a .t))) (length-take-le _ _ hold) in
-    ranks (a .d) (a .t) (a .vectors .now) (a .numbers .now) (rank .rank .last .1 .0) _ (start .pre .1) (start .pre .0 .count) (rank .rank .kept .1 .0) are (rank .rank .ensures .1)
+    ∙ ap (λ (n : ℕ). map keyOf (column (a .d) n (a .vectors .now) (a .t))) (length-take-le _ _ hold))
+    (rank .rank .ensures .1)
 
 pub rank-column-spec : {M : Type 1} → statement M
 rank-column-spec =
