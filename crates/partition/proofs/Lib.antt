@@ -4,3 +4,4 @@ pub mod Halving
 mod Filled
 mod Columns
 mod Prefix
+mod Power
