@@ -9,3 +9,4 @@ pub mod CellComponents
 pub mod Small
 pub mod Table
 pub mod TableLaws
+pub mod Bounded

@@ -1,4 +1,5 @@
 // Distances of vectors, and the bounds of a cell's distances.
+pub mod cell;
 mod step;
 pub mod table;
 
