@@ -4,4 +4,7 @@ use Rattle.matcher.proofs.codes.matcher_check_codes.Statement.{statemen
 use Rattle.matcher.proofs.codes.matcher_check_codes.Tie as tie
 
 pub matcher-check-codes-spec : {M : Type 1} → statement M
-matcher-check-codes-spec = tie.close (tie.spec (λ c κs. search needs) (λ c κs. search needs) (λ c. rw (← c .before .check-codes .ensures) (c .number .ensures)))
+matcher-check-codes-spec =
+    tie.close
+    (tie.spec (λ c κs. search needs) (λ c κs. search needs)
+    (λ c. rw (← c .before .check-codes .ensures) (c .number .ensures)))
