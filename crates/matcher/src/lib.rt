@@ -1,4 +1,8 @@
 // The matcher's C interface: thin functions over the public calls. A float is passed as its 32 bits, or as itself.
+pub mod codes;
+pub mod distances;
+pub mod marks;
+
 use reading::Intake;
 use reading::Reading;
 ghost use lib.Ieee.{binary32, ofBits};

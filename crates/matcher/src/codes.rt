@@ -1,0 +1,56 @@
+// Codes, for C. Each gives 0, or the refusal's number; a refused call leaves a buffer as it was.
+ghost use mathlib.Core.Path.{_≡_};
+ghost use lib.ListN.{length};
+ghost use Rattle.refusal.specs.Refusal.{verdictNumber};
+ghost use Rattle.refusal.specs.First.{first, outcome};
+ghost use Rattle.approximation.specs.Codes.{packed, unpacked};
+ghost use Rattle.approximation.specs.Pack.{packCauses, unpackCauses};
+ghost use Rattle.approximation.specs.CellCauses.{codeCauses};
+
+// n rows of region numbers packed into codes of b bits.
+#[no_mangle]
+pub extern "C" fn matcher_pack(
+    d: usize,
+    b: usize,
+    n: usize,
+    regions: &[u8],
+    codes: &mut [u8],
+) -> u32
+    ensures { λ r. ⌜ r ≡ verdictNumber (first (packCauses d b n (now (regions .entry)) (length (now (codes .entry))))) ⌝ }
+    ensures { λ _. ⌜ now (codes .exit)
+        ≡ outcome (first (packCauses d b n (now (regions .entry)) (length (now (codes .entry)))))
+        (packed d b n (now (regions .entry))) (λ _. now (codes .entry)) ⌝ }
+{
+    approximation::codes::pack(d, b, n, regions, codes).number()
+}
+
+// n rows of region numbers read off codes of b bits.
+#[no_mangle]
+pub extern "C" fn matcher_unpack(
+    d: usize,
+    b: usize,
+    n: usize,
+    codes: &[u8],
+    regions: &mut [u8],
+) -> u32
+    ensures { λ r. ⌜ r ≡ verdictNumber (first (unpackCauses d b n (now (codes .entry)) (length (now (regions .entry))))) ⌝ }
+    ensures { λ _. ⌜ now (regions .exit)
+        ≡ outcome (first (unpackCauses d b n (now (codes .entry)) (length (now (regions .entry)))))
+        (unpacked d b n (now (codes .entry))) (λ _. now (regions .entry)) ⌝ }
+{
+    approximation::codes::unpack(d, b, n, codes, regions).number()
+}
+
+// Whether no code names an empty region and no spare bit is set, for codes and marks of the right lengths.
+#[no_mangle]
+pub extern "C" fn matcher_check_codes(
+    d: usize,
+    b: usize,
+    n: usize,
+    marks: &[i32],
+    codes: &[u8],
+) -> u32
+    ensures { λ r. ⌜ r ≡ verdictNumber (first (codeCauses d b n (now (marks .entry)) (now (codes .entry)))) ⌝ }
+{
+    approximation::cells::check_codes(d, b, n, marks, codes).number()
+}

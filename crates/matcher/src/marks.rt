@@ -1,0 +1,102 @@
+// Marks and regions, for C. Each gives 0, or the refusal's number; a refused call leaves a buffer as it was, and 0 in a place for a count.
+use partition::region::Lookup;
+ghost use mathlib.Core.Path.{_≡_};
+ghost use mathlib.Core.List.{[]};
+ghost use lib.IntN.{pos};
+ghost use lib.ListN.{length, getD};
+ghost use Rattle.refusal.specs.Refusal.{verdictNumber};
+ghost use Rattle.refusal.specs.First.{first, outcome};
+ghost use Rattle.layout.specs.Stretch.{dimensionCauses, stretchOf};
+ghost use Rattle.partition.specs.Marks.{dimensionMarks};
+ghost use Rattle.partition.specs.MarksCauses.{marksCauses, partCauses};
+ghost use Rattle.partition.specs.Region.{regionOf};
+ghost use Rattle.partition.specs.Lookup.{regionCauses};
+ghost use Rattle.partition.specs.Made.{madeMarks};
+ghost use Rattle.partition.specs.Making.{makeCauses};
+
+// Where dimension j's marks begin in the marks buffer, and how many bits it has.
+#[no_mangle]
+pub extern "C" fn matcher_stretch(
+    d: usize,
+    b: usize,
+    j: usize,
+    offset: &mut usize,
+    bits: &mut usize,
+) -> u32
+    ensures { λ r. ⌜ r ≡ verdictNumber (first (dimensionCauses d b j)) ⌝ }
+    ensures { λ _. ⌜ now (offset .exit) ≡ stretchOf d b j .offset ⌝ }
+    ensures { λ _. ⌜ now (bits .exit) ≡ stretchOf d b j .bits ⌝ }
+{
+    let stretch = layout::stretch_of(d, b, j);
+    *offset = stretch.offset;
+    *bits = stretch.bits;
+    layout::check_dimension(d, b, j).number()
+}
+
+// Whether the marks are as many as d dimensions with b bits have, in range, and never fall.
+#[no_mangle]
+pub extern "C" fn matcher_check_marks(d: usize, b: usize, marks: &[i32]) -> u32
+    ensures { λ r. ⌜ r ≡ verdictNumber (first (marksCauses d b (now (marks .entry)))) ⌝ }
+{
+    partition::marks::check_marks(d, b, marks).number()
+}
+
+// The same, and whether there is a dimension of this number, from 1.
+#[no_mangle]
+pub extern "C" fn matcher_check_part(d: usize, b: usize, marks: &[i32], j: usize) -> u32
+    ensures { λ r. ⌜ r ≡ verdictNumber (first (partCauses d b (now (marks .entry)) j)) ⌝ }
+{
+    partition::marks::check_part(d, b, marks, j).number()
+}
+
+// How many marks dimension j has, 0 where they are refused.
+#[no_mangle]
+pub extern "C" fn matcher_part_length(d: usize, b: usize, marks: &[i32], j: usize) -> usize
+    ensures { λ r. ⌜ r ≡ length (outcome (first (partCauses d b (now (marks .entry)) j)) (dimensionMarks d b (now (marks .entry)) j) (λ _. [])) ⌝ }
+{
+    partition::marks::dimension_marks(d, b, marks, j).len()
+}
+
+// Dimension j's mark at an index, 0 past the last and where the marks are refused.
+#[no_mangle]
+pub extern "C" fn matcher_part_at(d: usize, b: usize, marks: &[i32], j: usize, i: usize) -> i32
+    ensures { λ r. ⌜ r
+        ≡ getD (outcome (first (partCauses d b (now (marks .entry)) j)) (dimensionMarks d b (now (marks .entry)) j) (λ _. [])) i (pos 0) ⌝ }
+{
+    whole::at(partition::marks::dimension_marks(d, b, marks, j), i)
+}
+
+// The region of a value in one dimension's marks.
+#[no_mangle]
+pub extern "C" fn matcher_region(marks: &[i32], regions: usize, v: i32, region: &mut usize) -> u32
+    ensures { λ r. ⌜ r ≡ verdictNumber (first (regionCauses (now (marks .entry)) regions v)) ⌝ }
+    ensures { λ _. ⌜ now (region .exit) ≡ outcome (first (regionCauses (now (marks .entry)) regions v)) (regionOf (now (marks .entry)) v) (λ _. 0) ⌝ }
+{
+    match partition::region::region(marks, regions, v) {
+        Lookup::Region(number) => {
+            *region = number;
+            0
+        }
+        Lookup::Refused(cause) => {
+            *region = 0;
+            cause.number()
+        }
+    }
+}
+
+// The marks of d dimensions, with b bits in all, made from n vectors.
+#[no_mangle]
+pub extern "C" fn matcher_make_marks(
+    d: usize,
+    b: usize,
+    n: usize,
+    vectors: &[i32],
+    marks: &mut [i32],
+) -> u32
+    ensures { λ r. ⌜ r ≡ verdictNumber (first (makeCauses d b n (now (vectors .entry)) (length (now (marks .entry))))) ⌝ }
+    ensures { λ _. ⌜ now (marks .exit)
+        ≡ outcome (first (makeCauses d b n (now (vectors .entry)) (length (now (marks .entry)))))
+        (madeMarks d b n (now (vectors .entry))) (λ _. now (marks .entry)) ⌝ }
+{
+    partition::made::make_marks(d, b, n, vectors, marks).number()
+}
