@@ -1,7 +1,8 @@
 -- `codes::check_sizes` meets its contract: the shape's causes come first. Assumes nothing.
-use mathlib.Core.Path.{sym, _∙_}
+use mathlib.Core.Path.{_≡_, sym, _∙_}
+use mathlib.Core.List.{_++_}
 use borrow.Author.Needs.{needs}
-use Rattle.refusal.specs.First.{outcome-accepted, outcome-refused, first-append}
+use Rattle.refusal.specs.First.{first, outcome-accepted, outcome-refused, first-append}
 use Rattle.layout.specs.Stretch.{shapeCauses, shape}
 use Rattle.approximation.specs.Pack.{lengthCauses}
 use Rattle.approximation.proofs.codes.check_sizes.Statement.{statement}
@@ -16,9 +17,10 @@ returns : tie.Need-returns
 returns c =
     let told = c .before in
     let args = told .before .before .before .args in
-    c .check-lengths .ensures
-    ∙ sym (first-append (shapeCauses (args .d) (args .b)) (lengthCauses (args .d) (args .b) (args .n) (args .regions) (args .codes))
-    ∙ outcome-accepted _ _ (sym (told .before .before .check-shape .ensures) ∙ told .enum-told .given .1))
+    let rows = lengthCauses (args .d) (args .b) (args .n) (args .regions) (args .codes) in
+    let behind : first (shapeCauses (args .d) (args .b) ++ rows) ≡ first rows =
+    first-append (shapeCauses (args .d) (args .b)) rows ∙ outcome-accepted _ _ (sym (told .before .before .check-shape .ensures) ∙ told .enum-told .given .1) in
+    rw behind (c .check-lengths .ensures)
 
 returns-2 : tie.Need-returns-2
 returns-2 c =

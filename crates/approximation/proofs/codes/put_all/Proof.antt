@@ -115,7 +115,7 @@ returns : tie.Need-returns Inv-loop μ-loop
 returns c =
     let at = c .before .before .loop in
     rw (exact (at .inv .few) (at .inv .writing .small))
-    (last-byte (ended (at .inv) (c .before .loop-test .left)) (at .inv .few) (c .if2 .taken))
+    (last-byte (ended (at .inv) (c .before .loop-test .left)) (at .inv .few) (omega arith))
 
 returns-2 : tie.Need-returns-2 Inv-loop μ-loop
 returns-2 c = no-bits (ended (c .before .before .loop .inv) (c .before .loop-test .left)) (c .before .before .loop .inv .few) (omega arith)
@@ -150,7 +150,7 @@ put-all-spec =
     (λ c. omega (arith, c .before .before .loop .inv .few))
     (λ c. omega (arith, c .before .before .loop .inv .few))
     cast-codes-2
-    (λ c. has-room (c .before .before .loop .inv .writing) (c .if2 .taken))
+    (λ c. has-room (c .before .before .loop .inv .writing) (omega arith))
     (λ c. simp length-set (c .before .before .loop .inv .writing .room))
     returns
     (λ c. c .before .before .loop .inv .writing .room)
