@@ -1,21 +1,20 @@
 -- Marks in range leave only components between them: the vectors of a cell are vectors of components. Assumes nothing.
 use mathlib.Core.Path.{_≡_, refl, sym, _∙_}
-use mathlib.Core.Bool.{Bool, true, _&&_, and-eq-true-iff}
+use mathlib.Core.Bool.{Bool, true, false, and-eq-true-iff}
 use mathlib.Core.List.{List, [], _∷_}
-use mathlib.Core.Logic.{inl, inr}
 use Prim.Native.Nat.{ℕ, zero, suc, _<_}
-use native.Mathlib.Nat.{le-of-suc-le-suc, eq-or-lt-of-le}
 use native.Mathlib.Omega.{arith}
 use lib.Dec.{leb·suc-suc}
 use lib.IntN.{ℤ, pos, negsuc, predℤ}
 use lib.Signed.{leZ}
 use lib.ListN.{length, getD}
 use Rattle.limits.specs.Limits.{isComponent, isMark, greatestComponent, leastMark, greatestMark}
+use Rattle.limits.specs.Tests.{All, all-fails}
+use Rattle.whole.specs.Components.{areComponents, all-components}
 use Rattle.partition.specs.Marks.{dimensionMarks, notAbove, goodDimension, goodFirst, goodMarks}
 use Rattle.partition.specs.Region.{inRegion}
 use Rattle.approximation.specs.Codes.{codeRegion}
 use Rattle.approximation.specs.Cells.{InCell, inFirst}
-use Rattle.whole.specs.Components.{areComponents, all-components}
 use Rattle.distance.specs.Order.{lt-pred, le-trans}
 use Rattle.distance.specs.Steps.{Inside}
 use Rattle.distance.specs.CellBounds.{in-region}
@@ -32,15 +31,22 @@ inside-component {low} {v} {high} lows highs inside =
     let greatest = and-eq-true-iff (leZ leastMark high) (leZ high greatestMark) .0 highs .1 in
     and-eq-true-iff _ _ .1 (le-trans leastMark low v least (inside .above), le-trans v (predℤ high) greatestComponent (sym (lt-pred v high) ∙ inside .below) (last-component high greatest))
 
--- a test of the first n that tests one more each time holds of each
-each : (first one : ℕ → Bool) → ((n : ℕ) → first (suc n) ≡ (first n && one n)) → (n t : ℕ) → t < n → first n ≡ true → one t ≡ true
-each first one more zero t h holds = absurd (omega arith)
-each first one more (suc n) t h holds =
-    let both = and-eq-true-iff (first n) (one n) .0 (sym (more n) ∙ holds) in
-    elim (eq-or-lt-of-le (le-of-suc-le-suc h)) [
-      | inl e ↦ rw e (both .1)
-      | inr l ↦ each first one more n t l (both .0)
-    ]
+-- where all of them hold, each does
+each : {first one : ℕ → Bool} → All first one → (n t : ℕ) → t < n → first n ≡ true → one t ≡ true
+each {first} {one} is n t h holds = go (one t) refl
+  where
+    go : (b : Bool) → one t ≡ b → b ≡ true
+    go true e = refl
+    go false e = let fails = all-fails is n t h e in cc
+
+good-all : (d b : ℕ) (marks : List ℤ) → All (goodFirst d b marks) (λ t. goodDimension (dimensionMarks d b marks (suc t)))
+unfolding goodFirst
+good-all d b marks = record { next = λ t. refl }
+
+inside-all : (d b : ℕ) (marks : List ℤ) (codes : List ℕ) (i : ℕ) (vector : List ℤ)
+    → All (inFirst d b marks codes i vector) (λ t. inRegion (dimensionMarks d b marks (suc t)) (codeRegion d b codes i t) (getD vector t (pos 0)))
+unfolding inFirst
+inside-all d b marks codes i vector = record { next = λ t. refl }
 
 mark-at : (ms : List ℤ) (r : ℕ) → goodDimension ms ≡ true → isMark (getD ms r (pos 0)) ≡ true
 unfolding goodDimension
@@ -52,7 +58,7 @@ module _ (d b : ℕ) (marks : List ℤ) (good : goodMarks d b marks ≡ true) wh
   pub good-mark : (t r : ℕ) → t < d → isMark (getD (dimensionMarks d b marks (suc t)) r (pos 0)) ≡ true
   good-mark t r h =
       mark-at (dimensionMarks d b marks (suc t)) r
-      (each (goodFirst d b marks) (λ n. goodDimension (dimensionMarks d b marks (suc n))) (λ n. unfold goodFirst in refl) d t h good)
+      (each (good-all d b marks) d t h good)
 
   pub cell-components : (codes : List ℕ) (i : ℕ) {vector : List ℤ} → InCell d b marks codes i vector → areComponents vector ≡ true
   cell-components codes i {vector} cell = all-components vector one
@@ -61,5 +67,5 @@ module _ (d b : ℕ) (marks : List ℤ) (good : goodMarks d b marks ≡ true) wh
       one t h =
           let h : t < d = omega (arith, cell .components) in
           let r = codeRegion d b codes i t in
-          let inside = each (inFirst d b marks codes i vector) (λ n. inRegion (dimensionMarks d b marks (suc n)) (codeRegion d b codes i n) (getD vector n (pos 0))) (λ n. unfold inFirst in refl) d t h (cell .inside) in
+          let inside = each (inside-all d b marks codes i vector) d t h (cell .inside) in
           inside-component (good-mark t r h) (good-mark t (suc r) h) (in-region (dimensionMarks d b marks (suc t)) r (getD vector t (pos 0)) inside)

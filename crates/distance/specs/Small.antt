@@ -8,12 +8,12 @@ use borrow.Author.Tests.{leb-true}
 use lib.IntN.{ℤ, pos, negsuc, predℤ}
 use lib.Signed.{mag, leZ}
 use lib.ListN.{getD}
-use Rattle.limits.specs.Limits.{isComponent, isMark, leastMark, maxDimensions}
+use Rattle.limits.specs.Limits.{maxDimensions, leastComponent, greatestComponent, isComponent, leastMark, greatestMark, isMark}
+use Rattle.whole.specs.Components.{areComponents, component-at}
 use Rattle.partition.specs.Marks.{dimensionMarks, goodMarks}
 use Rattle.approximation.specs.Codes.{codeRegion}
 use Rattle.distance.specs.Distance.{gap, squared, firstDistance, distanceOf}
 use Rattle.distance.specs.Bounds.{shortest, longest, firstBound, lowerOf, upperOf}
-use Rattle.whole.specs.Components.{areComponents, component-at}
 use Rattle.distance.specs.Places.{gap-size, pred-size}
 use Rattle.distance.specs.Steps.{shortest-le-longest}
 use Rattle.distance.specs.CellBounds.{squared-le}
@@ -27,12 +27,12 @@ within-size top (negsuc n) low high h = omega (arith, leb-true n 32767 low)
 
 mark-size : (z : ℤ) → isMark z ≡ true → mag z ≤ 32768
 mark-size z h =
-    let both = and-eq-true-iff (leZ leastMark z) (leZ z (pos 32768)) .0 h in
+    let both = and-eq-true-iff (leZ leastMark z) (leZ z greatestMark) .0 h in
     within-size 32768 z (both .0) (both .1) (omega arith)
 
 component-size : (z : ℤ) → isComponent z ≡ true → mag z ≤ 32768
 component-size z h =
-    let both = and-eq-true-iff (leZ leastMark z) (leZ z (pos 32767)) .0 h in
+    let both = and-eq-true-iff (leZ leastComponent z) (leZ z greatestComponent) .0 h in
     let within = within-size 32767 z (both .0) (both .1) (omega arith) in
     omega arith
 

@@ -3,13 +3,13 @@ use mathlib.Core.Path.{_≡_, refl, sym, ap, _∙_}
 use mathlib.Core.Bool.{true}
 use mathlib.Core.List.{List}
 use mathlib.Core.Logic.{inl, inr}
-use Prim.Native.Nat.{ℕ, zero, suc, _+_, _-_, _%_, _^_, _≤_, _<_}
+use Prim.Native.Nat.{ℕ, zero, suc, _+_, _%_, _^_, _≤_, _<_}
 use native.Mathlib.Nat.{zero-add, add-zero, add-mod, mod-mod, mod-eq-of-lt, le-refl, le-of-suc-le-suc, eq-or-lt-of-le}
 use native.Mathlib.Omega.{arith}
 use borrow.Author.Tests.{lt-ltb}
 use lib.IntN.{ℤ, pos}
 use lib.ListN.{length, drop, getD, length-append, List·getD-append}
-use lib.Seq.{getD-append-add, getD-take}
+use lib.Seq.{getD-append-add, getD-drop}
 use Rattle.refusal.specs.declared.Verdict.the-variants.{Accepted}
 use Rattle.refusal.specs.First.{first}
 use Rattle.limits.specs.Limits.{maxDimensions, maxDimensionBits, maxVectors}
@@ -18,6 +18,7 @@ use Rattle.layout.specs.Layout.{regionCount, markCount, firstMarks}
 use Rattle.layout.specs.Laws.{marks-le, marks-within, first-next-marks}
 use Rattle.layout.specs.Stretch.{shapeCauses, shape}
 use Rattle.partition.specs.Marks.{dimensionMarks, goodMarks}
+use Rattle.partition.specs.Parts.{part-at}
 use Rattle.approximation.specs.Codes.{codeRegion}
 use Rattle.approximation.specs.PackLaws.{code-region-fits}
 use Rattle.distance.specs.declared.Bound.{Bound}
@@ -73,11 +74,9 @@ module _ (step : ℤ → ℤ → ℤ → ℕ) (d b : ℕ) (marks query : List �
 
   -- a region's marks are those of its dimension's part
   region-step : (q : ℤ) (t r : ℕ) → r < regionCount d b (suc t) → stepTo step q (drop (firstMarks d b t) marks) r ≡ stepTo step q (dimensionMarks d b marks (suc t)) r
-  unfolding dimensionMarks
   region-step q t r h =
-      let one : suc t - 1 ≡ t = omega arith in
-      let part = drop (firstMarks d b t) marks in
-      rw (one, getD-take (markCount d b (suc t)) part r (pos 0) (omega arith), getD-take (markCount d b (suc t)) part (suc r) (pos 0) (omega arith))
+      let o = firstMarks d b t in
+      rw (getD-drop o marks r (pos 0), getD-drop o marks (suc r) (pos 0), part-at d b marks t r (pos 0) (omega arith), part-at d b marks t (suc r) (pos 0) (omega arith))
 
   -- a code's entries sum up to its bound, modulo 2^64 for any numbers
   module _ (codes : List ℕ) (i : ℕ) where

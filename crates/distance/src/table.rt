@@ -12,10 +12,10 @@ ghost use mathlib.Core.Bool.{cond};
 ghost use Prim.Native.Nat.{suc, _+_, _%_, _^_, _≤_, _<_};
 ghost use lib.Dec.{leb};
 ghost use lib.ListN.{length, getD};
-ghost use Rattle.refusal.specs.First.{first, outcome};
-ghost use Rattle.limits.specs.Limits.{maxVectors};
-ghost use Rattle.layout.specs.Layout.{firstMarks};
 ghost use Rattle.refusal.specs.declared.Verdict.the-variants.{Accepted};
+ghost use Rattle.refusal.specs.First.{first, outcome};
+ghost use Rattle.limits.specs.Limits.{maxDimensionBits, maxVectors};
+ghost use Rattle.layout.specs.Layout.{firstMarks};
 ghost use Rattle.layout.specs.Stretch.{shapeCauses};
 ghost use Rattle.distance.specs.Table.{stepOf, stepsFrom, tableOf, tableCauses, tableSum, boundSum};
 
@@ -138,7 +138,7 @@ fn sum_entries(d: usize, b: usize, table: &[u64], codes: &[u8], i: usize) -> u64
 
 // The bits of the dimension behind t others, where each has the fewest and the first ones have one more.
 fn dimension_bits(fewest: usize, more: usize, t: usize) -> usize
-    requires { ⌜ fewest ≤ 6 ⌝ }
+    requires { ⌜ fewest ≤ maxDimensionBits ⌝ }
     ensures { λ r. ⌜ r ≡ fewest + cond (leb (suc t) more) 1 0 ⌝ }
 {
     if t < more { fewest + 1 } else { fewest }

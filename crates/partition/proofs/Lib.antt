@@ -4,4 +4,4 @@ pub mod Halving
 mod Filled
 mod Columns
 pub mod Prefix
-mod Power
+pub mod Power

@@ -1,22 +1,20 @@
 -- `fill_dimensions` meets its contract: the front of the table, up to the stretch of dimension t + 1, is the table of the first t
 -- dimensions. Assumes nothing.
 use mathlib.Core.Path.{_≡_, refl, sym, _∙_}
-use Prim.Native.Nat.{ℕ, suc, _+_, _-_, _*_, _%_, _^_, _≤_, _<_}
+use Prim.Native.Nat.{ℕ, suc, _+_, _-_, _*_, _%_, _^_, _≤_}
 use native.Mathlib.Numerals.{add-one}
 use native.Mathlib.Omega.{arith}
 use borrow.Author.Needs.{needs}
-use borrow.Author.Tests.{le-leb}
 use borrow.Rule.Slice.PartMut.{same-len-mid}
 use lib.ListN.{length, take}
 use lib.Seq.{take-all}
-use Rattle.refusal.specs.declared.Verdict.the-variants.{Accepted}
-use Rattle.refusal.specs.First.{first}
+use Rattle.limits.specs.Limits.{maxDimensionBits}
 use Rattle.layout.specs.Layout.{firstMarks}
-use Rattle.layout.specs.Stretch.{shapeCauses, dimensionCauses, stretches}
-use Rattle.distance.specs.Table.{stepOf, tableFirst}
+use Rattle.layout.specs.Stretch.{stretches, dimension-accepted}
+use Rattle.partition.proofs.Power.{shifted}
+use Rattle.distance.specs.Table.{maxTable, stepOf, tableFirst}
 use Rattle.distance.proofs.Entries.{next-entries}
 use Rattle.distance.proofs.Read.{read-back}
-use Rattle.distance.proofs.Shift.{shifted}
 use Rattle.distance.proofs.table.fill_dimensions.Statement.{statement}
 use Rattle.distance.proofs.table.fill_dimensions.Tie as tie
 
@@ -27,17 +25,13 @@ Inv-loop bound d b marks query table₀ t₀ table t =
 abbrev μ-loop : tie.MeasureT-loop
 μ-loop bound d b marks query table₀ t₀ table t = d - t
 
-numbered : (d b t : ℕ) → first (shapeCauses d b) ≡ Accepted → t < d → first (dimensionCauses d b (t + 1)) ≡ Accepted
-unfolding first
-numbered d b t shaped within = rw (le-leb 1 (t + 1) (omega arith), le-leb (t + 1) d (omega arith)) shaped
-
 -- a stretch with its end as the code works it out
 pub record Place (d b t offset bits : ℕ) : Type 0 where
   pub start : offset ≡ firstMarks d b t
-  pub few : bits ≤ 6
+  pub few : bits ≤ maxDimensionBits
   pub end : offset + 1 * 2 ^ bits % 2 ^ 64 + 1 ≡ firstMarks d b (suc t)
   pub within : firstMarks d b (suc t) ≤ firstMarks d b d
-  pub small : firstMarks d b d ≤ 2080
+  pub small : firstMarks d b d ≤ maxTable
 
 place : (c : tie.After-stretch-of Inv-loop μ-loop) → let at = c .before .before in let args = at .before .before .args in
     Place (args .d) (args .b) (at .loop .t) (c .stretch-of .result .offset) (c .stretch-of .result .bits)
@@ -46,7 +40,7 @@ place c =
     let start = at .before .before in
     let args = start .args in
     let t = at .loop .t in
-    let told = stretches (numbered (args .d) (args .b) t (start .pre .0) (c .before .loop-test .taken)) (c .stretch-of .ensures) in
+    let told = stretches (dimension-accepted (args .d) (args .b) t (start .pre .0) (c .before .loop-test .taken)) (c .stretch-of .ensures) in
     let number : t + 1 - 1 ≡ t = omega arith in
     record {
       start = rw number at (told .offset-is);

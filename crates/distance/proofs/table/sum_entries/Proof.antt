@@ -7,17 +7,17 @@ use native.Mathlib.Omega.{arith}
 use borrow.Author.Needs.{needs}
 use lib.ListN.{getD}
 use lib.Pow.{pow-mono}
-use Rattle.limits.specs.Limits.{maxVectors}
+use Rattle.limits.specs.Limits.{maxDimensions, maxDimensionBits, maxVectors}
 use Rattle.layout.specs.Layout.{bitsOf, firstBits, firstMarks}
 use Rattle.layout.specs.Laws.{fewest-le, bits-le, marks-le, first-next-marks}
 use Rattle.layout.specs.Stretch.{Shape, shape}
+use Rattle.partition.proofs.Power.{shifted}
 use Rattle.approximation.specs.Bits.{bitsAt}
 use Rattle.approximation.specs.BitLaws.{bits-at}
 use Rattle.approximation.specs.Codes.{codeRegion}
 use Rattle.approximation.specs.PackLaws.{code-region-fits}
 use Rattle.approximation.specs.Pack.{bits-le as codes-le}
-use Rattle.distance.specs.Table.{tableSum}
-use Rattle.distance.proofs.Shift.{shifted}
+use Rattle.distance.specs.Table.{maxTable, tableSum}
 use Rattle.distance.proofs.Sum.{sum-more}
 use Rattle.distance.proofs.table.sum_entries.Statement.{statement}
 use Rattle.distance.proofs.table.sum_entries.Tie as tie
@@ -26,7 +26,7 @@ use Rattle.distance.proofs.table.sum_entries.Tie as tie
 record Summing (d b : ℕ) (table codes : List ℕ) (i bit start sum t : ℕ) : Type 0 where
   within : t ≤ d
   bit-is : bit ≡ i * b + firstBits d b t
-  near : firstBits d b t ≤ 6 * t
+  near : firstBits d b t ≤ maxDimensionBits * t
   start-is : start ≡ firstMarks d b t
   so-far : sum ≡ tableSum d b table codes i t % 2 ^ 64
 
@@ -37,23 +37,23 @@ abbrev μ-loop : tie.MeasureT-loop
 μ-loop d b table codes i fewest more bit₀ start₀ sum₀ t₀ bit start sum t = d - t
 
 module _ {d b : ℕ} {table codes : List ℕ} {i bit start sum t : ℕ} (at : Summing d b table codes i bit start sum t) (shaped : Shape d b) where
-  few : bitsOf d b (suc t) ≤ 6
-  few = bits-le 6 d b t (shaped .some) (shaped .bits)
+  few : bitsOf d b (suc t) ≤ maxDimensionBits
+  few = bits-le maxDimensionBits d b t (shaped .some) (shaped .bits)
 
-  power : 2 ^ bitsOf d b (suc t) ≤ 64
+  power : 2 ^ bitsOf d b (suc t) ≤ 2 ^ maxDimensionBits
   power = pow-mono few
 
-  start-small : start ≤ 2080
-  start-small = omega (arith, at .start-is, marks-le 6 d b t (shaped .some) (shaped .bits), shaped .few)
+  start-small : start ≤ maxTable
+  start-small = omega (arith, at .start-is, marks-le maxDimensionBits d b t (shaped .some) (shaped .bits), shaped .few)
 
-  bit-small : i < maxVectors → bit ≤ maxVectors * 192 + 192
+  bit-small : i < maxVectors → bit ≤ suc maxVectors * (maxDimensionBits * maxDimensions)
   bit-small least = omega (arith, at .bit-is, at .near, at .within, shaped .few, codes-le i shaped (omega arith))
 
   region-is : bitsAt codes bit (bitsOf d b (suc t)) ≡ codeRegion d b codes i t
   unfolding codeRegion
   region-is = rw (bits-at codes bit (bitsOf d b (suc t)) (omega (arith, few)), at .bit-is)
 
-  region-small : codeRegion d b codes i t < 64
+  region-small : codeRegion d b codes i t < 2 ^ maxDimensionBits
   region-small = omega (arith, power, code-region-fits d b codes i t)
 
   next : {sum' : ℕ} → t < d → sum' ≡ (sum + getD table (start + codeRegion d b codes i t) 0) % 2 ^ 64
@@ -101,10 +101,10 @@ add-entry-at c =
 
 -- what the loop's sums stay below
 record Sums (bit start w : ℕ) : Type 0 where
-  bit-small : bit ≤ maxVectors * 192 + 192
-  start-small : start ≤ 2080
-  few : w ≤ 6
-  power : 1 * 2 ^ w % 2 ^ 64 ≤ 64
+  bit-small : bit ≤ suc maxVectors * (maxDimensionBits * maxDimensions)
+  start-small : start ≤ maxTable
+  few : w ≤ maxDimensionBits
+  power : 1 * 2 ^ w % 2 ^ 64 ≤ 2 ^ maxDimensionBits
 
 sums : (c : tie.After-wrapping-add-u64 Inv-loop μ-loop) → let at = c .before .before .before .before .before in Sums (at .loop .bit) (at .loop .start) (c .before .before .before .dimension-bits .result)
 sums c =
@@ -137,7 +137,7 @@ sum-entries-spec =
     (λ c. shaped (c .before .before) .some)
     (λ c. omega (arith, codes-le (c .before .before .args .i) (shaped (c .before .before)) (omega (arith, c .before .before .pre))))
     (λ c. unfold firstBits firstMarks tableSum in (record { within = omega arith; bit-is = omega arith; near = omega arith; start-is = refl; so-far = refl }))
-    (λ c κs. fewest-le 6 _ _ (shaped (c .before .before .before .before) .bits))
+    (λ c κs. fewest-le maxDimensionBits _ _ (shaped (c .before .before .before .before) .bits))
     (λ c κs. search needs)
     add-entry-at
     (λ c κs. search needs)
