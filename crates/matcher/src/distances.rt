@@ -1,11 +1,14 @@
-// Distances, for C. Each gives 0, or the refusal's number; a refused call leaves the place for a distance as it was.
+// Distances, for C. Each gives 0, or the refusal's number; a refused call leaves the places for distances as they were.
 use distance::Distance;
+use distance::cell::Bounds;
 ghost use mathlib.Core.Path.{_≡_};
 ghost use lib.ListN.{length};
 ghost use Rattle.refusal.specs.Refusal.{verdictNumber};
 ghost use Rattle.refusal.specs.First.{first, outcome};
 ghost use Rattle.distance.specs.Distance.{distanceOf};
+ghost use Rattle.distance.specs.Bounds.{lowerOf, upperOf};
 ghost use Rattle.distance.specs.Measured.{distanceCauses};
+ghost use Rattle.distance.specs.Bounded.{boundsCauses};
 
 // The distance of a vector from a query, of as many components as the query has.
 #[no_mangle]
@@ -21,5 +24,36 @@ pub extern "C" fn matcher_distance(query: &[i32], vector: &[i32], distance: &mut
             0
         }
         Distance::Refused(cause) => cause.number(),
+    }
+}
+
+// The least and the greatest distance of code i's cell from a query.
+#[no_mangle]
+pub extern "C" fn matcher_bounds(
+    d: usize,
+    b: usize,
+    n: usize,
+    query: &[i32],
+    marks: &[i32],
+    codes: &[u8],
+    i: usize,
+    lower: &mut u64,
+    upper: &mut u64,
+) -> u32
+    ensures { λ r. ⌜ r ≡ verdictNumber (first (boundsCauses d b n (now (query .entry)) (now (marks .entry)) (now (codes .entry)) i)) ⌝ }
+    ensures { λ _. ⌜ now (lower .exit)
+        ≡ outcome (first (boundsCauses d b n (now (query .entry)) (now (marks .entry)) (now (codes .entry)) i))
+        (lowerOf d b (now (marks .entry)) (now (codes .entry)) (now (query .entry)) i) (λ _. now (lower .entry)) ⌝ }
+    ensures { λ _. ⌜ now (upper .exit)
+        ≡ outcome (first (boundsCauses d b n (now (query .entry)) (now (marks .entry)) (now (codes .entry)) i))
+        (upperOf d b (now (marks .entry)) (now (codes .entry)) (now (query .entry)) i) (λ _. now (upper .entry)) ⌝ }
+{
+    match distance::cell::cell_bounds(d, b, n, query, marks, codes, i) {
+        Bounds::Between(least, greatest) => {
+            *lower = least;
+            *upper = greatest;
+            0
+        }
+        Bounds::Refused(cause) => cause.number(),
     }
 }
