@@ -5,3 +5,5 @@ pub mod PackLaws
 pub mod Pack
 pub mod Vectors
 pub mod Cells
+pub mod VectorCauses
+pub mod OwnCodes
