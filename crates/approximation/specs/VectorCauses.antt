@@ -1,9 +1,12 @@
 -- The causes for which the regions and the codes of vectors are not given (document 01, "When a call says no"), and what holds where they
 -- are. Assumes nothing.
 use mathlib.Core.Path.{_≡_}
+use mathlib.Core.Logic.{inl, inr}
 use mathlib.Core.Bool.{true, not, _&&_, and-eq-true-iff}
 use mathlib.Core.List.{List, [], _∷_, _++_}
-use Prim.Native.Nat.{ℕ, _*_, _≤_}
+use Prim.Native.Nat.{ℕ, zero, suc, _*_, _≤_, _<_}
+use native.Mathlib.Nat.{eq-or-lt-of-le, le-of-suc-le-suc}
+use native.Mathlib.Omega.{arith}
 use borrow.Author.Tests.{eqb-true, not-false}
 use lib.Dec.{eqb}
 use lib.IntN.{ℤ}
@@ -16,7 +19,7 @@ use Rattle.limits.specs.Tests.{between}
 use Rattle.whole.specs.Components.{areComponents}
 use Rattle.layout.specs.Layout.{firstMarks}
 use Rattle.layout.specs.Stretch.{shapeCauses, Shape, shape}
-use Rattle.partition.specs.Marks.{goodMarks}
+use Rattle.partition.specs.Marks.{dimensionMarks, goodDimension, goodFirst, goodMarks}
 use Rattle.approximation.specs.Codes.{codeLength}
 use Rattle.approximation.specs.Vectors.{vectorsInside}
 
@@ -93,3 +96,14 @@ places d b n vectors marks room wanted accepted =
             inside = not-false (vectorsInside d b marks vectors) (inside .fails);
           };
     }
+
+-- each dimension's marks are good
+pub good-each : (d b : ℕ) (marks : List ℤ) (n t : ℕ) → t < n → goodFirst d b marks n ≡ true → goodDimension (dimensionMarks d b marks (suc t)) ≡ true
+unfolding goodFirst
+good-each d b marks zero t below good = absurd (omega arith)
+good-each d b marks (suc n) t below good =
+    let both = and-eq-true-iff (goodFirst d b marks n) (goodDimension (dimensionMarks d b marks (suc n))) .0 good in
+    elim (eq-or-lt-of-le (le-of-suc-le-suc below)) [
+      | inl e ↦ rw e (both .1)
+      | inr l ↦ good-each d b marks n t l (both .0)
+    ]

@@ -118,7 +118,7 @@ fn regions_fit(d: usize, b: usize, regions: &[u8]) -> bool
 }
 
 // Region numbers packed into as many bytes as hold their bits. Fewer than 8 bits wait for the next byte.
-fn put_all(d: usize, b: usize, regions: &[u8], codes: &mut [u8])
+pub(crate) fn put_all(d: usize, b: usize, regions: &[u8], codes: &mut [u8])
     requires { ⌜ Shape d b × (regionsFit d b 0 (now regions) ≡ true) × (length (now codes) ≡ (length (joined d b 0 (now regions)) + 7) / 8) ⌝ }
     ensures { λ _. ⌜ now (codes .exit) ≡ bytesOf (length (now (codes .entry))) (joined d b 0 (now (regions .entry))) ⌝ }
 {
@@ -169,7 +169,7 @@ fn take_all(d: usize, b: usize, codes: &[u8], regions: &mut [u8])
 }
 
 // The bits of a column's dimension, where each has the fewest and the first ones have one more.
-fn column_bits(fewest: usize, more: usize, column: usize) -> usize
+pub(crate) fn column_bits(fewest: usize, more: usize, column: usize) -> usize
     requires { ⌜ fewest ≤ 6 ⌝ }
     ensures { λ r. ⌜ r ≡ fewest + cond (leb (suc column) more) 1 0 ⌝ }
 {
@@ -177,7 +177,7 @@ fn column_bits(fewest: usize, more: usize, column: usize) -> usize
 }
 
 // The column behind a column, the first behind the last.
-fn next_column(d: usize, column: usize) -> usize
+pub(crate) fn next_column(d: usize, column: usize) -> usize
     requires { ⌜ column < d ⌝ }
     ensures { λ r. ⌜ r ≡ nextColumn d column ⌝ }
 {

@@ -1,3 +1,4 @@
 // Approximations of vectors: region numbers, packed into codes.
 pub mod bits;
 pub mod codes;
+pub mod vectors;
