@@ -1,26 +1,28 @@
 -- The causes for which the regions and the codes of vectors are not given (document 01, "When a call says no"), and what holds where they
 -- are. Assumes nothing.
-use mathlib.Core.Path.{_≡_}
+use mathlib.Core.Path.{_≡_, ap, _∙_}
 use mathlib.Core.Logic.{inl, inr}
 use mathlib.Core.Bool.{true, not, _&&_, and-eq-true-iff}
 use mathlib.Core.List.{List, [], _∷_, _++_}
 use Prim.Native.Nat.{ℕ, zero, suc, _*_, _≤_, _<_}
 use native.Mathlib.Nat.{eq-or-lt-of-le, le-of-suc-le-suc}
 use native.Mathlib.Omega.{arith}
-use borrow.Author.Tests.{eqb-true, not-false}
+use borrow.Author.Tests.{eqb-true, eq-eqb, not-false}
 use lib.Dec.{eqb}
 use lib.IntN.{ℤ}
 use lib.ListN.{length}
 use Rattle.refusal.specs.declared.Refusal.the-variants.{Count, Length, Component, Mark, Outside}
 use Rattle.refusal.specs.declared.Verdict.the-variants.{Accepted}
-use Rattle.refusal.specs.First.{Row, _⇒_, first, passed, accepted-front, accepted-behind}
+use Rattle.refusal.specs.First.{Row, _⇒_, first, first-next, passed, accepted-front, accepted-behind}
 use Rattle.limits.specs.Limits.{maxVectors, isVectorCount}
 use Rattle.limits.specs.Tests.{between}
 use Rattle.whole.specs.Components.{areComponents}
 use Rattle.layout.specs.Layout.{firstMarks}
 use Rattle.layout.specs.Stretch.{shapeCauses, Shape, shape}
 use Rattle.partition.specs.Marks.{dimensionMarks, goodDimension, goodFirst, goodMarks}
+use Rattle.partition.specs.MarksCauses.{shapedCauses, marksCauses}
 use Rattle.approximation.specs.Codes.{codeLength}
+use Rattle.approximation.specs.Pack.{append-accepted}
 use Rattle.approximation.specs.Vectors.{vectorsInside}
 
 -- 1, 2, 3
@@ -107,3 +109,10 @@ good-each d b marks (suc n) t below good =
       | inl e ↦ rw e (both .1)
       | inr l ↦ good-each d b marks n t l (both .0)
     ]
+
+-- where the shape and the length are right, only the marks themselves can be refused
+pub marks-row : (d b : ℕ) (marks : List ℤ) → first (shapeCauses d b) ≡ Accepted → length marks ≡ firstMarks d b d
+    → first (marksCauses d b marks) ≡ first ((not (goodMarks d b marks) ⇒ Mark) ∷ [])
+marks-row d b marks shaped exact =
+    append-accepted (shapeCauses d b) (shapedCauses d b marks) shaped
+    ∙ first-next Length _ (ap not (eq-eqb (length marks) (firstMarks d b d) exact))

@@ -1,52 +1,52 @@
+-- `vectors::check_packing` meets its contract: the causes of the numbers come first. Assumes nothing.
+use mathlib.Core.Path.{_≡_, sym, _∙_}
+use mathlib.Core.List.{List}
+use native.Mathlib.Omega.{arith}
 use borrow.Author.Needs.{needs}
+use Rattle.refusal.specs.declared.Verdict.the-variants.{Accepted}
+use Rattle.refusal.specs.First.{Row, first}
+use Rattle.approximation.specs.Codes.{codeLength}
+use Rattle.approximation.specs.Pack.{append-accepted, append-refused, bits-le}
+use Rattle.approximation.specs.VectorCauses.{countCauses, placeCauses, Counts, counts}
 use Rattle.approximation.proofs.vectors.check_packing.Statement.{statement}
 use Rattle.approximation.proofs.vectors.check_packing.Tie as tie
-use Rattle.approximation.proofs.vectors.check_packing.Reads as reads
-use Rattle.approximation.proofs.vectors.check_packing.Lts as lts
-use Rattle.approximation.proofs.vectors.check_counts.Reads as check-counts-reads
-use Rattle.approximation.proofs.vectors.check_places.Reads as check-places-reads
 
--- src/vectors.rt:100:11
-check-counts-requires : tie.Need-check-counts-requires
-check-counts-requires c κs = search needs
+-- the rows of the numbers, and those behind them
+abbrev front : tie.Start → List Row
+front c = countCauses (c .args .d) (c .args .b) (c .args .n)
 
--- src/vectors.rt:101:75
-enum-told : tie.Need-enum-told
-enum-told c = search needs
+abbrev behind : tie.Start → List Row
+behind c =
+    let args = c .args in
+    placeCauses (args .d) (args .b) (args .n) (args .vectors .now) (args .marks .now) (args .room) (codeLength (args .b) (args .n))
 
--- src/vectors.rt:101:75
-mul-check-places : tie.Need-mul-check-places
-mul-check-places c = ?
+right : (c : tie.After-enum-told) → first (front (c .before .before .before)) ≡ Accepted
+right c = sym (c .before .before .check-counts .ensures) ∙ c .enum-told .given .1
 
--- src/vectors.rt:101:75
-add-check-places : tie.Need-add-check-places
-add-check-places c = ?
+count : (c : tie.After-enum-told) → let args = c .before .before .before .args in Counts (args .d) (args .b) (args .n)
+count c =
+    let args = c .before .before .before .args in
+    counts (args .d) (args .b) (args .n) (right c)
 
--- src/vectors.rt:101:30
-check-places-requires : tie.Need-check-places-requires
-check-places-requires c κs = ?
-
--- src/vectors.rt:102:26
-enum-known-cause : tie.Need-enum-known-cause
-enum-known-cause c = search needs
-
--- src/vectors.rt:90:1
 returns : tie.Need-returns
-returns c = ?
+returns c =
+    let start = c .before .before .before .before in
+    c .check-places .ensures ∙ sym (append-accepted (front start) (behind start) (right (c .before)))
 
--- src/vectors.rt:90:1
 returns-2 : tie.Need-returns-2
-returns-2 c = ?
+returns-2 c =
+    let start = c .before .before .before .before in
+    sym (append-refused (front start) (behind start) (sym (c .before .before .before .check-counts .ensures) ∙ c .before .cause .given .1))
 
 pub check-packing-spec : {M : Type 1} → statement M
 check-packing-spec =
     tie.close
     (tie.spec
-    check-counts-requires
-    enum-told
-    mul-check-places
-    add-check-places
-    check-places-requires
-    enum-known-cause
+    (λ c κs. search needs)
+    (λ c. search needs)
+    (λ c. omega (arith, bits-le (c .before .before .before .args .n) (count c .shaped) (count c .few)))
+    (λ c. omega (arith, bits-le (c .before .before .before .args .n) (count c .shaped) (count c .few)))
+    (λ c κs. right c)
+    (λ c. search needs)
     returns
     returns-2)

@@ -1,47 +1,43 @@
+-- `vectors::pack_vectors` meets its contract: the codes are written where nothing refuses, and else left as they were. Assumes nothing.
+use mathlib.Core.Path.{_≡_, sym, _∙_}
 use borrow.Author.Needs.{needs}
+use lib.ListN.{length}
+use Rattle.refusal.specs.declared.Verdict.the-variants.{Accepted}
+use Rattle.refusal.specs.First.{first, outcome-accepted, outcome-refused}
+use Rattle.approximation.specs.Codes.{codeLength}
+use Rattle.approximation.specs.VectorCauses.{packVectorsCauses, places}
 use Rattle.approximation.proofs.vectors.pack_vectors.Statement.{statement}
 use Rattle.approximation.proofs.vectors.pack_vectors.Tie as tie
-use Rattle.approximation.proofs.vectors.pack_vectors.Reads as reads
-use Rattle.approximation.proofs.vectors.pack_vectors.Lts as lts
-use Rattle.approximation.proofs.vectors.check_packing.Reads as check-packing-reads
-use Rattle.approximation.proofs.vectors.put_vectors.Reads as put-vectors-reads
 
--- src/vectors.rt:63:11
-check-packing-requires : tie.Need-check-packing-requires
-check-packing-requires c κs = search needs
+accepted : (c : tie.After-enum-told) → let a = c .before .before .before .before .args in
+    first (packVectorsCauses (a .d) (a .b) (a .n) (a .vectors .now) (a .marks .now) (length (a .codes .now))) ≡ Accepted
+accepted c = sym (c .before .before .check-packing .ensures) ∙ c .enum-told .given .1
 
--- src/vectors.rt:65:50
-enum-told : tie.Need-enum-told
-enum-told c = search needs
-
--- src/vectors.rt:65:13
 put-vectors-requires : tie.Need-put-vectors-requires
-put-vectors-requires c κs = ?
+put-vectors-requires c κs =
+    let told = c .before in
+    let a = told .before .before .before .before .args in
+    places (a .d) (a .b) (a .n) (a .vectors .now) (a .marks .now) (length (a .codes .now)) (codeLength (a .b) (a .n)) (accepted told)
 
--- src/vectors.rt:68:26
-enum-known-cause : tie.Need-enum-known-cause
-enum-known-cause c = search needs
-
--- src/vectors.rt:50:1
-same-length : tie.Need-same-length
-same-length c = search needs
-
--- src/vectors.rt:50:1
 returns : tie.Need-returns
-returns c = ?
+returns c =
+    let put = c .before .before in
+    let none = accepted (put .before .before) in
+    (sym none, put .put-vectors .ensures ∙ sym (outcome-accepted _ _ none))
 
--- src/vectors.rt:50:1
 returns-2 : tie.Need-returns-2
-returns-2 c = ?
+returns-2 c =
+    let refused = sym (c .before .before .before .check-packing .ensures) ∙ c .before .cause .given .1 in
+    (sym refused, sym (outcome-refused _ _ refused))
 
 pub pack-vectors-spec : {M : Type 1} → statement M
 pack-vectors-spec =
     tie.close
     (tie.spec
-    check-packing-requires
-    enum-told
+    (λ c κs. search needs)
+    (λ c. search needs)
     put-vectors-requires
-    enum-known-cause
-    same-length
+    (λ c. search needs)
+    (λ c. search needs)
     returns
     returns-2)

@@ -1,47 +1,63 @@
+-- `vectors::put_vectors` meets its contract: what is packed is the region numbers that came back. Assumes nothing.
+use mathlib.Core.Path.{_≡_, sym, ap, _∙_}
+use mathlib.Core.Bool.{true}
+use mathlib.Core.List.{List}
+use Prim.Native.Nat.{ℕ, _+_, _*_, _/_, _≤_}
+use native.Mathlib.Nat.{le-trans, le-of-eq}
 use borrow.Author.Needs.{needs}
+use lib.IntN.{ℤ}
+use lib.ListN.{length}
+use lib.Seq.{length-take-le}
+use Rattle.limits.specs.Limits.{maxDimensions, maxVectors}
+use Rattle.layout.specs.Stretch.{Shape}
+use Rattle.approximation.specs.Bits.{bytesOf}
+use Rattle.approximation.specs.Codes.{joined, regionsFit, codeLength, packed}
+use Rattle.approximation.specs.PackLaws.{length-joined}
+use Rattle.approximation.specs.Pack.{numbers-le}
+use Rattle.approximation.specs.Vectors.{vectorRegions, vectorCodes}
+use Rattle.approximation.specs.OwnCodes.{length-regions, regions-fit}
+use Rattle.approximation.specs.VectorCauses.{Places}
 use Rattle.approximation.proofs.vectors.put_vectors.Statement.{statement}
 use Rattle.approximation.proofs.vectors.put_vectors.Tie as tie
-use Rattle.approximation.proofs.vectors.put_vectors.Reads as reads
-use Rattle.approximation.proofs.vectors.put_vectors.Lts as lts
-use Rattle.approximation.proofs.codes.put_all.Reads as put-all-reads
-use Rattle.approximation.proofs.vectors.locate_all.Reads as locate-all-reads
 
--- src/vectors.rt:205:38
-slice-aggregate-locate-all : tie.Need-slice-aggregate-locate-all
-slice-aggregate-locate-all c = search needs
+module _ {d b n : ℕ} {vectors marks : List ℤ} {room : ℕ} (given : Places d b n vectors marks room (codeLength b n)) {regions : List ℕ} (are : regions ≡ vectorRegions d b marks vectors) where
+  -- region numbers that are the vectors' can be packed, and make their codes
+  asked : (Shape d b) × (regionsFit d b 0 regions ≡ true) × (room ≡ (length (joined d b 0 regions) + 7) / 8)
+  asked =
+      let shaped = given .within .shaped in
+      let count : length regions ≡ n * d = ap length are ∙ length-regions d b marks 0 vectors ∙ given .rows in
+      (shaped, rw are (regions-fit d b marks vectors (given .within .inside)), rw (length-joined d b (shaped .some) n regions count) (given .fits))
 
--- src/vectors.rt:205:5
-locate-all-requires : tie.Need-locate-all-requires
-locate-all-requires c κs = ?
+  codes-are : {codes : List ℕ} → codes ≡ bytesOf room (joined d b 0 regions) → codes ≡ vectorCodes d b n marks vectors
+  unfolding packed
+  codes-are is = rw (given .fits, are) at is
 
--- src/vectors.rt:206:19
-array-share-prefix-regions : tie.Need-array-share-prefix-regions
-array-share-prefix-regions c = ?
+-- there is room for all region numbers
+room : (c : tie.Start) → length (c .args .vectors .now) ≤ maxVectors * maxDimensions
+room c = rw (c .pre .rows) (numbers-le (c .args .n) (c .pre .within .shaped) (c .pre .few))
 
--- src/vectors.rt:206:19
-slice-aggregate-put-all : tie.Need-slice-aggregate-put-all
-slice-aggregate-put-all c = ?
+regions-hold : tie.Need-array-share-prefix-regions
+regions-hold c = le-trans (room (c .before .before .before .before)) (le-of-eq (sym (c .before .locate-all .kept .1 .1 .1 .1 .0)))
 
--- src/vectors.rt:206:5
 put-all-requires : tie.Need-put-all-requires
-put-all-requires c κs = ?
+put-all-requires c κs =
+    let located = c .before .before .before in
+    asked (located .before .before .before .pre) (located .locate-all .ensures)
 
--- src/vectors.rt:199:1
-same-length : tie.Need-same-length
-same-length c = search needs
-
--- src/vectors.rt:199:1
 returns : tie.Need-returns
-returns c = ?
+returns c =
+    let put = c .before .before in
+    let located = put .before .before .before .before in
+    codes-are (located .before .before .before .pre) (located .locate-all .ensures) (put .put-all .ensures)
 
 pub put-vectors-spec : {M : Type 1} → statement M
 put-vectors-spec =
     tie.close
     (tie.spec
-    slice-aggregate-locate-all
-    locate-all-requires
-    array-share-prefix-regions
-    slice-aggregate-put-all
+    (λ c. search needs)
+    (λ c κs. (c .before .before .pre .within, room (c .before .before)))
+    regions-hold
+    (λ c. sym (length-take-le _ _ (regions-hold (c .before))))
     put-all-requires
-    same-length
+    (λ c. search needs)
     returns)
