@@ -1,21 +1,21 @@
 -- The codes of vectors are the vectors' own, and own codes name no empty region. Assumes nothing.
-use mathlib.Core.Path.{_≡_, refl, sym, ap, _∙_}
-use mathlib.Core.Bool.{Bool, true, _&&_, and-eq-true-iff}
+use mathlib.Core.Path.{_≡_, refl, ap, _∙_}
+use mathlib.Core.Bool.{true, and-eq-true-iff}
 use mathlib.Core.List.{List, [], _∷_}
-use Prim.Native.Nat.{ℕ, zero, suc, _+_, _*_, _/_, _%_, _^_, _≤_, _<_}
+use Prim.Native.Nat.{ℕ, zero, suc, _+_, _*_, _%_, _≤_, _<_}
 use native.Mathlib.Nat.{zero-add, add-zero, add-suc, suc-add, zero-mod, suc-mul, mul-le-mul-right, le-of-suc-le-suc}
 use native.Mathlib.Omega.{arith}
 use borrow.Author.Tests.{lt-ltb}
 use lib.Arith.{digits-lt, digits-mod}
 use lib.IntN.{ℤ, pos}
-use lib.ListN.{length, take, drop, getD, length-take, length-drop}
+use lib.ListN.{length, drop, getD, length-take, length-drop}
 use lib.Seq.{getD-take, getD-drop, length-take-le}
-use Rattle.layout.specs.Layout.{regionCount, markCount, firstMarks}
+use Rattle.layout.specs.Layout.{regionCount}
 use Rattle.partition.specs.Marks.{dimensionMarks}
 use Rattle.partition.specs.Region.{inRegion, regionOf, inMarks}
 use Rattle.partition.specs.Within.{within, within-apart}
 use Rattle.partition.specs.Regions.{Holds, region-of-holds}
-use Rattle.approximation.specs.Codes.{nextColumn, regionsFit, packed, unpacked, codeRegion}
+use Rattle.approximation.specs.Codes.{nextColumn, regionsFit, packed, codeRegion}
 use Rattle.approximation.specs.PackLaws.{next-column, packed-spare, unpacked-packed, code-region}
 use Rattle.approximation.specs.Vectors.{regionsFrom, vectorRegions, insideFrom, vectorsInside, vectorCodes}
 use Rattle.approximation.specs.Cells.{vectorAt, inFirst, InCell, hasValue, noneEmpty, noEmptyCodes, goodCodes, Own}

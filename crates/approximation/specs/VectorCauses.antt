@@ -4,7 +4,7 @@ use mathlib.Core.Path.{_≡_, ap, _∙_}
 use mathlib.Core.Logic.{inl, inr}
 use mathlib.Core.Bool.{true, not, _&&_, and-eq-true-iff}
 use mathlib.Core.List.{List, [], _∷_, _++_}
-use Prim.Native.Nat.{ℕ, zero, suc, _*_, _≤_, _<_}
+use Prim.Native.Nat.{ℕ, zero, suc, _*_, _<_}
 use native.Mathlib.Nat.{eq-or-lt-of-le, le-of-suc-le-suc}
 use native.Mathlib.Omega.{arith}
 use borrow.Author.Tests.{eqb-true, eq-eqb, not-false}
@@ -13,90 +13,72 @@ use lib.IntN.{ℤ}
 use lib.ListN.{length}
 use Rattle.refusal.specs.declared.Refusal.the-variants.{Count, Length, Component, Mark, Outside}
 use Rattle.refusal.specs.declared.Verdict.the-variants.{Accepted}
-use Rattle.refusal.specs.First.{Row, _⇒_, first, first-next, passed, accepted-front, accepted-behind}
-use Rattle.limits.specs.Limits.{maxVectors, isVectorCount}
-use Rattle.limits.specs.Tests.{between}
+use Rattle.refusal.specs.First.{Row, _⇒_, first, first-next, passed, accepted-behind}
+use Rattle.limits.specs.Limits.{isVectorCount}
 use Rattle.whole.specs.Components.{areComponents}
 use Rattle.layout.specs.Layout.{firstMarks}
 use Rattle.layout.specs.Stretch.{shapeCauses, Shape, shape}
 use Rattle.partition.specs.Marks.{dimensionMarks, goodDimension, goodFirst, goodMarks}
 use Rattle.partition.specs.MarksCauses.{shapedCauses, marksCauses}
-use Rattle.approximation.specs.Codes.{codeLength}
-use Rattle.approximation.specs.Pack.{append-accepted}
+use Rattle.approximation.specs.Pack.{sizeCauses, append-accepted}
 use Rattle.approximation.specs.Vectors.{vectorsInside}
 
--- 1, 2, 3
-abbrev pub countCauses : ℕ → ℕ → ℕ → List Row
-countCauses d b n = shapeCauses d b ++ ((not (isVectorCount n) ⇒ Count) ∷ [])
+-- 1, 2, 3, and 5 for n rows of d components and n rows of d region numbers
+abbrev pub rowCauses : ℕ → ℕ → ℕ → ℕ → ℕ → List Row
+rowCauses d b n vectors regions =
+    shapeCauses d b ++ ((not (isVectorCount n) ⇒ Count) ∷ (not (eqb vectors (n * d) && eqb regions (n * d)) ⇒ Length) ∷ [])
 
--- 5 for the vectors, the marks and a buffer that has `room` where `wanted` is asked, then 6, 7, 8
-abbrev pub placeCauses : ℕ → ℕ → ℕ → List ℤ → List ℤ → ℕ → ℕ → List Row
-placeCauses d b n vectors marks room wanted =
-    (not (eqb (length vectors) (n * d) && (eqb (length marks) (firstMarks d b d) && eqb room wanted)) ⇒ Length)
+-- 5 for the marks, 6, 7, 8
+abbrev pub locateCauses : ℕ → ℕ → List ℤ → List ℤ → List Row
+locateCauses d b vectors marks =
+    (not (eqb (length marks) (firstMarks d b d)) ⇒ Length)
     ∷ (not (areComponents vectors) ⇒ Component)
     ∷ (not (goodMarks d b marks) ⇒ Mark)
     ∷ (not (vectorsInside d b marks vectors) ⇒ Outside)
     ∷ []
 
--- a buffer for the region numbers of n vectors
+-- for a buffer of so many region numbers
 abbrev pub regionsCauses : ℕ → ℕ → ℕ → List ℤ → List ℤ → ℕ → List Row
-regionsCauses d b n vectors marks room = countCauses d b n ++ placeCauses d b n vectors marks room (n * d)
+regionsCauses d b n vectors marks regions = rowCauses d b n (length vectors) regions ++ locateCauses d b vectors marks
 
--- a buffer for the codes of n vectors
+-- for a buffer of so many bytes of codes
 abbrev pub packVectorsCauses : ℕ → ℕ → ℕ → List ℤ → List ℤ → ℕ → List Row
-packVectorsCauses d b n vectors marks room = countCauses d b n ++ placeCauses d b n vectors marks room (codeLength b n)
+packVectorsCauses d b n vectors marks codes = sizeCauses d b n (length vectors) codes ++ locateCauses d b vectors marks
 
 -- ---- what holds where nothing is refused
 
-pub record Counts (d b n : ℕ) : Type 0 where
-  pub shaped : Shape d b
-  pub few : n ≤ maxVectors
+pub record Rows (d b n vectors regions : ℕ) : Type 0 where
+  pub components : vectors ≡ n * d
+  pub numbers : regions ≡ n * d
 
-pub counts : (d b n : ℕ) → first (countCauses d b n) ≡ Accepted → Counts d b n
-counts d b n accepted =
-    let count = passed (not (isVectorCount n)) Count [] (accepted-behind (shapeCauses d b) _ accepted) in
-    record {
-      shaped = shape d b (accepted-front (shapeCauses d b) _ accepted);
-      few = between 1 n maxVectors (not-false (isVectorCount n) (count .fails)) .below;
-    }
+pub rows : (d b n vectors regions : ℕ) → first (rowCauses d b n vectors regions) ≡ Accepted → Rows d b n vectors regions
+rows d b n vectors regions accepted =
+    let components = eqb vectors (n * d) in
+    let numbers = eqb regions (n * d) in
+    let count = passed (not (isVectorCount n)) Count _ (accepted-behind (shapeCauses d b) _ accepted) in
+    let lengths = passed (not (components && numbers)) Length [] (count .rest) in
+    let both = and-eq-true-iff components numbers .0 (not-false (components && numbers) (lengths .fails)) in
+    record { components = eqb-true vectors (n * d) (both .0); numbers = eqb-true regions (n * d) (both .1) }
 
--- good marks of all dimensions, with each vector inside them
+-- good marks of all dimensions, with each component inside its dimension's
 pub record Inside (d b : ℕ) (marks vectors : List ℤ) : Type 0 where
   pub shaped : Shape d b
   pub exact : length marks ≡ firstMarks d b d
   pub good : goodMarks d b marks ≡ true
   pub inside : vectorsInside d b marks vectors ≡ true
 
-pub record Places (d b n : ℕ) (vectors marks : List ℤ) (room wanted : ℕ) : Type 0 where
-  pub few : n ≤ maxVectors
-  pub rows : length vectors ≡ n * d
-  pub fits : room ≡ wanted
-  pub within : Inside d b marks vectors
-
-pub places : (d b n : ℕ) (vectors marks : List ℤ) (room wanted : ℕ) → first (countCauses d b n ++ placeCauses d b n vectors marks room wanted) ≡ Accepted
-    → Places d b n vectors marks room wanted
-places d b n vectors marks room wanted accepted =
-    let count = counts d b n (accepted-front (countCauses d b n) _ accepted) in
-    let rows = eqb (length vectors) (n * d) in
-    let exact = eqb (length marks) (firstMarks d b d) in
-    let fits = eqb room wanted in
-    let lengths = passed (not (rows && (exact && fits))) Length _ (accepted-behind (countCauses d b n) _ accepted) in
-    let range = passed (not (areComponents vectors)) Component _ (lengths .rest) in
+pub inside-marks : (d b : ℕ) (vectors marks : List ℤ) → first (shapeCauses d b) ≡ Accepted → first (locateCauses d b vectors marks) ≡ Accepted → Inside d b marks vectors
+inside-marks d b vectors marks shaped accepted =
+    let count = eqb (length marks) (firstMarks d b d) in
+    let exact = passed (not count) Length _ accepted in
+    let range = passed (not (areComponents vectors)) Component _ (exact .rest) in
     let good = passed (not (goodMarks d b marks)) Mark _ (range .rest) in
     let inside = passed (not (vectorsInside d b marks vectors)) Outside [] (good .rest) in
-    let all = and-eq-true-iff rows (exact && fits) .0 (not-false (rows && (exact && fits)) (lengths .fails)) in
-    let two = and-eq-true-iff exact fits .0 (all .1) in
     record {
-      few = count .few;
-      rows = eqb-true (length vectors) (n * d) (all .0);
-      fits = eqb-true room wanted (two .1);
-      within =
-          record {
-            shaped = count .shaped;
-            exact = eqb-true (length marks) (firstMarks d b d) (two .0);
-            good = not-false (goodMarks d b marks) (good .fails);
-            inside = not-false (vectorsInside d b marks vectors) (inside .fails);
-          };
+      shaped = shape d b shaped;
+      exact = eqb-true (length marks) (firstMarks d b d) (not-false count (exact .fails));
+      good = not-false (goodMarks d b marks) (good .fails);
+      inside = not-false (vectorsInside d b marks vectors) (inside .fails);
     }
 
 -- each dimension's marks are good

@@ -73,7 +73,7 @@ pub fn code_region(d: usize, b: usize, codes: &[u8], i: usize, j: usize) -> usiz
 }
 
 // Whether the numbers of dimensions, bits and vectors are within their limits, and the buffers' lengths the right ones.
-fn check_sizes(d: usize, b: usize, n: usize, regions: usize, codes: usize) -> Verdict
+pub(crate) fn check_sizes(d: usize, b: usize, n: usize, regions: usize, codes: usize) -> Verdict
     ensures { λ r. ⌜ r ≡ first (sizeCauses d b n regions codes) ⌝ }
 {
     match layout::check_shape(d, b) {

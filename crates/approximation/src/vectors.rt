@@ -1,4 +1,5 @@
 // The region numbers of vectors under given marks, and the codes made of them.
+use crate::codes::check_sizes;
 use crate::codes::column_bits;
 use crate::codes::next_column;
 use crate::codes::put_all;
@@ -17,10 +18,10 @@ ghost use Rattle.refusal.specs.declared.Verdict.the-variants.{Accepted};
 ghost use Rattle.refusal.specs.First.{first, outcome};
 ghost use Rattle.limits.specs.Limits.{maxDimensionBits};
 ghost use Rattle.layout.specs.Layout.{firstMarks};
-ghost use Rattle.layout.specs.Stretch.{Shape};
-ghost use Rattle.approximation.specs.Codes.{codeLength};
+ghost use Rattle.layout.specs.Stretch.{shapeCauses, Shape};
+ghost use Rattle.approximation.specs.Pack.{Sizes};
 ghost use Rattle.approximation.specs.Vectors.{vectorRegions, vectorsInside, vectorCodes};
-ghost use Rattle.approximation.specs.VectorCauses.{countCauses, placeCauses, regionsCauses, packVectorsCauses, Inside, Places};
+ghost use Rattle.approximation.specs.VectorCauses.{rowCauses, locateCauses, regionsCauses, packVectorsCauses, Inside};
 
 // The region numbers of n vectors of d components that stand in a row. Refused are numbers of dimensions, bits or vectors out of their
 // limits, buffers of other lengths, components or marks out of range, marks that fall, and a component outside its dimension's marks.
@@ -37,11 +38,14 @@ pub fn regions(
         ≡ outcome (first (regionsCauses d b n (now (vectors .entry)) (now (marks .entry)) (length (now (regions .entry)))))
         (vectorRegions d b (now (marks .entry)) (now (vectors .entry))) (λ _. now (regions .entry)) ⌝ }
 {
-    match check_regions(d, b, n, vectors, marks, regions.len()) {
-        Verdict::Accepted => {
-            locate_all(d, b, vectors, marks, regions);
-            Verdict::Accepted
-        }
+    match check_rows(d, b, n, vectors.len(), regions.len()) {
+        Verdict::Accepted => match check_located(d, b, vectors, marks) {
+            Verdict::Accepted => {
+                locate_all(d, b, vectors, marks, regions);
+                Verdict::Accepted
+            }
+            Verdict::Refused(cause) => Verdict::Refused(cause),
+        },
         Verdict::Refused(cause) => Verdict::Refused(cause),
     }
 }
@@ -60,57 +64,32 @@ pub fn pack_vectors(
         ≡ outcome (first (packVectorsCauses d b n (now (vectors .entry)) (now (marks .entry)) (length (now (codes .entry)))))
         (vectorCodes d b n (now (marks .entry)) (now (vectors .entry))) (λ _. now (codes .entry)) ⌝ }
 {
-    match check_packing(d, b, n, vectors, marks, codes.len()) {
-        Verdict::Accepted => {
-            put_vectors(d, b, n, vectors, marks, codes);
-            Verdict::Accepted
-        }
+    match check_sizes(d, b, n, vectors.len(), codes.len()) {
+        Verdict::Accepted => match check_located(d, b, vectors, marks) {
+            Verdict::Accepted => {
+                put_vectors(d, b, n, vectors, marks, codes);
+                Verdict::Accepted
+            }
+            Verdict::Refused(cause) => Verdict::Refused(cause),
+        },
         Verdict::Refused(cause) => Verdict::Refused(cause),
     }
 }
 
-// Whether region numbers can be given, for a buffer of this length.
-fn check_regions(
-    d: usize,
-    b: usize,
-    n: usize,
-    vectors: &[i32],
-    marks: &[i32],
-    room: usize,
-) -> Verdict
-    ensures { λ r. ⌜ r ≡ first (regionsCauses d b n (now (vectors .entry)) (now (marks .entry)) room) ⌝ }
-{
-    match check_counts(d, b, n) {
-        Verdict::Accepted => check_places(d, b, n, vectors, marks, room, n * d),
-        Verdict::Refused(cause) => Verdict::Refused(cause),
-    }
-}
-
-// Whether codes can be given, for a buffer of this length.
-fn check_packing(
-    d: usize,
-    b: usize,
-    n: usize,
-    vectors: &[i32],
-    marks: &[i32],
-    room: usize,
-) -> Verdict
-    ensures { λ r. ⌜ r ≡ first (packVectorsCauses d b n (now (vectors .entry)) (now (marks .entry)) room) ⌝ }
-{
-    match check_counts(d, b, n) {
-        Verdict::Accepted => check_places(d, b, n, vectors, marks, room, (n * b + 7) / 8),
-        Verdict::Refused(cause) => Verdict::Refused(cause),
-    }
-}
-
-// Whether the numbers of dimensions, bits and vectors are within their limits.
-fn check_counts(d: usize, b: usize, n: usize) -> Verdict
-    ensures { λ r. ⌜ r ≡ first (countCauses d b n) ⌝ }
+// Whether the numbers of dimensions, bits and vectors are within their limits, and the two buffers rows of d numbers for each vector.
+fn check_rows(d: usize, b: usize, n: usize, vectors: usize, regions: usize) -> Verdict
+    ensures { λ r. ⌜ r ≡ first (rowCauses d b n vectors regions) ⌝ }
 {
     match layout::check_shape(d, b) {
         Verdict::Accepted => {
             if !limits::is_vector_count(n) {
                 return Verdict::Refused(Refusal::Count);
+            }
+            if vectors != n * d {
+                return Verdict::Refused(Refusal::Length);
+            }
+            if regions != n * d {
+                return Verdict::Refused(Refusal::Length);
             }
             Verdict::Accepted
         }
@@ -118,26 +97,12 @@ fn check_counts(d: usize, b: usize, n: usize) -> Verdict
     }
 }
 
-// Whether the lengths are the right ones, components and marks good, and each component inside its dimension's marks.
-fn check_places(
-    d: usize,
-    b: usize,
-    n: usize,
-    vectors: &[i32],
-    marks: &[i32],
-    room: usize,
-    wanted: usize,
-) -> Verdict
-    requires { ⌜ first (countCauses d b n) ≡ Accepted ⌝ }
-    ensures { λ r. ⌜ r ≡ first (placeCauses d b n (now (vectors .entry)) (now (marks .entry)) room wanted) ⌝ }
+// Whether the marks are of the right length, components and marks good, and each component inside its dimension's marks.
+fn check_located(d: usize, b: usize, vectors: &[i32], marks: &[i32]) -> Verdict
+    requires { ⌜ first (shapeCauses d b) ≡ Accepted ⌝ }
+    ensures { λ r. ⌜ r ≡ first (locateCauses d b (now (vectors .entry)) (now (marks .entry))) ⌝ }
 {
-    if vectors.len() != n * d {
-        return Verdict::Refused(Refusal::Length);
-    }
     if marks.len() != layout::marks_length(d, b) {
-        return Verdict::Refused(Refusal::Length);
-    }
-    if room != wanted {
         return Verdict::Refused(Refusal::Length);
     }
     if !whole::components::are_components(vectors) {
@@ -197,7 +162,7 @@ fn locate_all(d: usize, b: usize, vectors: &[i32], marks: &[i32], regions: &mut 
 
 // The codes, where nothing refuses: the region numbers are packed.
 fn put_vectors(d: usize, b: usize, n: usize, vectors: &[i32], marks: &[i32], codes: &mut [u8])
-    requires { ⌜ Places d b n (now vectors) (now marks) (length (now codes)) (codeLength b n) ⌝ }
+    requires { ⌜ (Sizes d b n (length (now vectors)) (length (now codes))) × (Inside d b (now marks) (now vectors)) ⌝ }
     ensures { λ _. ⌜ now (codes .exit) ≡ vectorCodes d b n (now (marks .entry)) (now (vectors .entry)) ⌝ }
 {
     let mut regions = [0u8; MAX_VECTORS * MAX_DIMENSIONS];

@@ -1,39 +1,74 @@
--- `vectors::regions` meets its contract: the region numbers are written where nothing refuses, and else left as they were. Assumes nothing.
+-- `vectors::regions` meets its contract: the causes in their order, and then the region numbers. Assumes nothing.
 use mathlib.Core.Path.{_≡_, sym, _∙_}
-use Prim.Native.Nat.{_*_}
+use mathlib.Core.List.{List}
+use Prim.Native.Nat.{ℕ}
 use native.Mathlib.Omega.{arith}
 use borrow.Author.Needs.{needs}
 use lib.ListN.{length}
 use lib.Seq.{take-all}
 use Rattle.refusal.specs.declared.Verdict.the-variants.{Accepted}
-use Rattle.refusal.specs.First.{first, outcome-accepted, outcome-refused}
-use Rattle.approximation.specs.VectorCauses.{regionsCauses, Places, places}
+use Rattle.refusal.specs.First.{Row, first, accepted-front}
+use Rattle.layout.specs.Stretch.{shapeCauses}
+use Rattle.approximation.specs.Vectors.{vectorRegions}
+use Rattle.approximation.specs.VectorCauses.{rowCauses, locateCauses, Rows, rows, inside-marks}
+use Rattle.approximation.proofs.Answers.{refused-before, refused-behind, accepted-both}
 use Rattle.approximation.proofs.vectors.regions.Statement.{statement}
 use Rattle.approximation.proofs.vectors.regions.Tie as tie
 
-accepted : (c : tie.After-enum-told) → let a = c .before .before .before .before .args in
-    first (regionsCauses (a .d) (a .b) (a .n) (a .vectors .now) (a .marks .now) (length (a .regions .now))) ≡ Accepted
-accepted c = sym (c .before .before .check-regions .ensures) ∙ c .enum-told .given .1
+-- the rows that are tested first, and those behind them
+abbrev front : tie.Start → List Row
+front c = rowCauses (c .args .d) (c .args .b) (c .args .n) (length (c .args .vectors .now)) (length (c .args .regions .now))
 
-given : (c : tie.After-enum-told) → let a = c .before .before .before .before .args in
-    Places (a .d) (a .b) (a .n) (a .vectors .now) (a .marks .now) (length (a .regions .now)) (a .n * a .d)
-given c =
-    let a = c .before .before .before .before .args in
-    places (a .d) (a .b) (a .n) (a .vectors .now) (a .marks .now) (length (a .regions .now)) (a .n * a .d) (accepted c)
+abbrev behind : tie.Start → List Row
+behind c = locateCauses (c .args .d) (c .args .b) (c .args .vectors .now) (c .args .marks .now)
+
+abbrev numbers : tie.Start → List ℕ
+numbers c = vectorRegions (c .args .d) (c .args .b) (c .args .marks .now) (c .args .vectors .now)
+
+-- they do not refuse
+right : (c : tie.After-enum-told) → first (front (c .before .before .before .before)) ≡ Accepted
+right c = sym (c .before .before .check-rows .ensures) ∙ c .enum-told .given .1
+
+shaped : (c : tie.After-enum-told) → let args = c .before .before .before .before .args in first (shapeCauses (args .d) (args .b)) ≡ Accepted
+shaped c =
+    let args = c .before .before .before .before .args in
+    accepted-front (shapeCauses (args .d) (args .b)) _ (right c)
+
+lengths : (c : tie.After-enum-told) → let args = c .before .before .before .before .args in
+    Rows (args .d) (args .b) (args .n) (length (args .vectors .now)) (length (args .regions .now))
+lengths c =
+    let args = c .before .before .before .before .args in
+    rows (args .d) (args .b) (args .n) (length (args .vectors .now)) (length (args .regions .now)) (right c)
+
+located : (c : tie.After-enum-told2) → first (behind (c .before .before .before .before .before .before .before)) ≡ Accepted
+located c = sym (c .before .before .check-located .ensures) ∙ c .enum-told2 .given .1
+
+locate-all-requires : tie.Need-locate-all-requires
+locate-all-requires c κs =
+    let told = c .before .before .before .before in
+    let args = told .before .before .before .before .args in
+    (inside-marks (args .d) (args .b) (args .vectors .now) (args .marks .now) (shaped told) (located (c .before)), omega (arith, lengths told))
 
 returns : tie.Need-returns
 returns c =
-    let located = c .before .before in
-    let told = located .before .before in
-    let none = accepted told in
-    let last = located .locate-all .last .1 .1 .1 .1 .0 in
-    let all = take-all (length (told .before .before .before .before .args .vectors .now)) last (omega (arith, located .locate-all .kept .1 .1 .1 .1 .0, given told .rows, given told .fits)) in
-    (sym none, sym all ∙ located .locate-all .ensures ∙ sym (outcome-accepted _ _ none))
+    let filled = c .before .before in
+    let told = filled .before .before .before .before .before in
+    let start = told .before .before .before .before in
+    let last = filled .locate-all .last .1 .1 .1 .1 .0 in
+    let all = take-all (length (start .args .vectors .now)) last (omega (arith, filled .locate-all .kept .1 .1 .1 .1 .0, lengths told)) in
+    accepted-both (front start) (behind start) (start .args .regions .now) (numbers start) (right told) (located (filled .before .before)) (sym all ∙ filled .locate-all .ensures)
 
 returns-2 : tie.Need-returns-2
 returns-2 c =
-    let refused = sym (c .before .before .before .check-regions .ensures) ∙ c .before .cause .given .1 in
-    (sym refused, sym (outcome-refused _ _ refused))
+    let test = c .before .before .before in
+    let start = test .before .before .before .before .before in
+    refused-behind (front start) (behind start) (start .args .regions .now) (numbers start) (right (test .before)) (sym (test .check-located .ensures) ∙ c .before .cause .given .1)
+
+returns-3 : tie.Need-returns-3
+returns-3 c =
+    let test = c .before .before .before in
+    let start = test .before .before in
+    refused-before (front start) (behind start) (start .args .regions .now) (numbers start) (sym (test .check-rows .ensures) ∙ c .before .cause2 .given .1)
 
 pub regions-spec : {M : Type 1} → statement M
 regions-spec =
@@ -41,8 +76,12 @@ regions-spec =
     (tie.spec
     (λ c κs. search needs)
     (λ c. search needs)
-    (λ c κs. (given (c .before) .within, omega (arith, given (c .before) .rows, given (c .before) .fits)))
+    (λ c κs. shaped c)
+    (λ c. search needs)
+    locate-all-requires
+    (λ c. search needs)
     (λ c. search needs)
     (λ c. search needs)
     returns
-    returns-2)
+    returns-2
+    returns-3)

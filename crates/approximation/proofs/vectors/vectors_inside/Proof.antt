@@ -1,15 +1,14 @@
 -- `vectors::vectors_inside` meets its contract: the components before i lie inside, so it is for those from i on to decide. Assumes nothing.
 use mathlib.Core.Path.{_≡_, refl, sym, ap₂, _∙_}
-use mathlib.Core.Bool.{Bool, true, false, _&&_}
-use Prim.Native.Nat.{ℕ, suc, _+_, _-_}
+use mathlib.Core.Bool.{_&&_}
+use Prim.Native.Nat.{_+_, _-_}
 use native.Mathlib.Omega.{arith}
 use borrow.Author.Needs.{needs}
 use borrow.Author.Tests.{not-true, not-false}
-use lib.IntN.{ℤ, pos}
+use lib.IntN.{pos}
 use lib.ListN.{length, getD, drop, drop-of-length-le}
 use mir.Syntax.{w32}
 use mir.ValLaws.{toZ-ofZ}
-use Rattle.partition.specs.Marks.{dimensionMarks}
 use Rattle.partition.specs.Region.{inMarks}
 use Rattle.approximation.specs.Codes.{nextColumn}
 use Rattle.approximation.specs.Vectors.{vectorsInside, insideFrom}
