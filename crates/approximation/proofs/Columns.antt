@@ -10,26 +10,27 @@ use borrow.Author.Tests.{eqb-false}
 use lib.Dec.{leb, ltb, eqb}
 use lib.ListN.{length, getD, drop}
 use lib.Seq.{drop-cons}
+use Rattle.limits.specs.Limits.{maxDimensionBits}
 use Rattle.layout.specs.Layout.{bitsOf, regionCount}
 use Rattle.layout.specs.Laws.{fewest-le, bits-le}
 use Rattle.layout.specs.Stretch.{Shape}
 use Rattle.approximation.specs.Bits.{lowBits}
 use Rattle.approximation.specs.Codes.{nextColumn, joined, regionsFit}
 
--- the bits of the dimension of column t, 6 at most
+-- the bits of the dimension of column t, as many as a dimension may have at most
 pub record Width (d b t w : ℕ) : Type 0 where
   pub is : w ≡ bitsOf d b (suc t)
-  pub few : w ≤ 6
+  pub few : w ≤ maxDimensionBits
 
 module _ {d b : ℕ} (shaped : Shape d b) where
-  pub fewest : b / d ≤ 6
-  fewest = fewest-le 6 d b (shaped .bits)
+  pub fewest : b / d ≤ maxDimensionBits
+  fewest = fewest-le maxDimensionBits d b (shaped .bits)
 
   -- what `column_bits` gives is that
   pub width : {t w : ℕ} → w ≡ b / d + cond (leb (suc t) (b % d)) 1 0 → Width d b t w
   unfolding bitsOf
   width {t} {w} e =
-      let few : b / d + cond (leb (suc t) (b % d)) 1 0 ≤ 6 = bits-le 6 d b t (shaped .some) (shaped .bits) in
+      let few : b / d + cond (leb (suc t) (b % d)) 1 0 ≤ maxDimensionBits = bits-le maxDimensionBits d b t (shaped .some) (shaped .bits) in
       record { is = e; few = rw e few }
 
 pub next-below : (d t : ℕ) → t < d → nextColumn d t < d

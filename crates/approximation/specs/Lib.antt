@@ -1,9 +1,11 @@
 pub mod Bits
-pub mod Codes
 pub mod BitLaws
+pub mod Codes
 pub mod PackLaws
 pub mod Pack
 pub mod Vectors
 pub mod Cells
+pub mod CellCauses
+pub mod CellLaws
 pub mod VectorCauses
 pub mod OwnCodes

@@ -1,6 +1,6 @@
 -- The causes for which packing, unpacking and reading a code say no (document 01, "When a call says no"). Assumes nothing.
-use mathlib.Core.Path.{_≡_, refl, _∙_}
-use mathlib.Core.Bool.{true, false, not, _&&_, cond, and-eq-true-iff}
+use mathlib.Core.Path.{_≡_}
+use mathlib.Core.Bool.{not, _&&_, cond, and-eq-true-iff}
 use mathlib.Core.List.{List, [], _∷_, _++_}
 use Prim.Native.Nat.{ℕ, _-_, _*_, _≤_, _<_}
 use native.Mathlib.Nat.{mul-le-mul}
@@ -8,10 +8,9 @@ use native.Mathlib.Omega.{arith}
 use borrow.Author.Tests.{eqb-true, not-false, lt-ltb}
 use lib.Dec.{ltb, eqb}
 use lib.ListN.{length}
-use Rattle.refusal.specs.declared.Refusal.{Refusal}
 use Rattle.refusal.specs.declared.Refusal.the-variants.{Count, Length, Code}
-use Rattle.refusal.specs.declared.Verdict.the-variants.{Accepted, Refused}
-use Rattle.refusal.specs.First.{Row, _⇒_, first, outcome, passed}
+use Rattle.refusal.specs.declared.Verdict.the-variants.{Accepted}
+use Rattle.refusal.specs.First.{Row, _⇒_, first, outcome, passed, accepted-front, accepted-behind}
 use Rattle.limits.specs.Limits.{maxDimensions, maxDimensionBits, maxVectors, isVectorCount}
 use Rattle.limits.specs.Tests.{between}
 use Rattle.layout.specs.Stretch.{shapeCauses, dimensionCauses, Shape, shape}
@@ -42,34 +41,6 @@ pub region-named : (d b : ℕ) (codes : List ℕ) (i j : ℕ) → i < maxVectors
 unfolding regionNamed
 region-named d b codes i j within accepted = rw (lt-ltb i maxVectors within, accepted)
 
--- ---- rows behind others
-
--- they come in where none of those refuses
-first-append : (rows more : List Row) → first (rows ++ more) ≡ outcome (first rows) (first more) Refused
-unfolding first
-first-append [] more = refl
-first-append ((true ⇒ cause) ∷ rows) more = refl
-first-append ((false ⇒ cause) ∷ rows) more = first-append rows more
-
-pub append-accepted : (rows more : List Row) → first rows ≡ Accepted → first (rows ++ more) ≡ first more
-append-accepted rows more accepted = first-append rows more ∙ rw accepted
-
-pub append-refused : (rows more : List Row) {cause : Refusal} → first rows ≡ Refused cause → first (rows ++ more) ≡ Refused cause
-append-refused rows more refused = first-append rows more ∙ rw refused
-
--- where nothing refuses, nothing of either part does
-pub record Both (rows more : List Row) : Type 0 where
-  pub before : first rows ≡ Accepted
-  pub behind : first more ≡ Accepted
-
-pub both : (rows more : List Row) → first (rows ++ more) ≡ Accepted → Both rows more
-unfolding first
-both [] more accepted = record { before = refl; behind = accepted }
-both ((true ⇒ cause) ∷ rows) more accepted = record { before = cc; behind = cc }
-both ((false ⇒ cause) ∷ rows) more accepted =
-    let parts = both rows more accepted in
-    record { before = parts .before; behind = parts .behind }
-
 -- ---- what holds where the sizes are not refused
 
 pub record Sizes (d b n regions codes : ℕ) : Type 0 where
@@ -80,13 +51,12 @@ pub record Sizes (d b n regions codes : ℕ) : Type 0 where
 
 pub sizes : (d b n regions codes : ℕ) → first (sizeCauses d b n regions codes) ≡ Accepted → Sizes d b n regions codes
 sizes d b n regions codes accepted =
-    let parts = both (shapeCauses d b) (lengthCauses d b n regions codes) accepted in
     let rows = eqb regions (n * d) in
     let bytes = eqb codes (codeLength b n) in
-    let count = passed (not (isVectorCount n)) Count ((not (rows && bytes) ⇒ Length) ∷ []) (parts .behind) in
+    let count = passed (not (isVectorCount n)) Count ((not (rows && bytes) ⇒ Length) ∷ []) (accepted-behind (shapeCauses d b) (lengthCauses d b n regions codes) accepted) in
     let lengths = and-eq-true-iff rows bytes .0 (not-false (rows && bytes) (passed (not (rows && bytes)) Length [] (count .rest) .fails)) in
     record {
-      shaped = shape d b (parts .before);
+      shaped = shape d b (accepted-front (shapeCauses d b) (lengthCauses d b n regions codes) accepted);
       few = between 1 n maxVectors (not-false (isVectorCount n) (count .fails)) .below;
       rows = eqb-true regions (n * d) (lengths .0);
       bytes = eqb-true codes (codeLength b n) (lengths .1);

@@ -13,14 +13,14 @@ use lib.IntN.{ℤ}
 use lib.ListN.{length}
 use Rattle.refusal.specs.declared.Refusal.the-variants.{Count, Length, Component, Mark, Outside}
 use Rattle.refusal.specs.declared.Verdict.the-variants.{Accepted}
-use Rattle.refusal.specs.First.{Row, _⇒_, first, first-next, passed, accepted-behind}
+use Rattle.refusal.specs.First.{Row, _⇒_, first, outcome-accepted, first-next, first-append, passed, accepted-behind}
 use Rattle.limits.specs.Limits.{isVectorCount}
 use Rattle.whole.specs.Components.{areComponents}
 use Rattle.layout.specs.Layout.{firstMarks}
 use Rattle.layout.specs.Stretch.{shapeCauses, Shape, shape}
 use Rattle.partition.specs.Marks.{dimensionMarks, goodDimension, goodFirst, goodMarks}
 use Rattle.partition.specs.MarksCauses.{shapedCauses, marksCauses}
-use Rattle.approximation.specs.Pack.{sizeCauses, append-accepted}
+use Rattle.approximation.specs.Pack.{sizeCauses}
 use Rattle.approximation.specs.Vectors.{vectorsInside}
 
 -- 1, 2, 3, and 5 for n rows of d components and n rows of d region numbers
@@ -96,5 +96,5 @@ good-each d b marks (suc n) t below good =
 pub marks-row : (d b : ℕ) (marks : List ℤ) → first (shapeCauses d b) ≡ Accepted → length marks ≡ firstMarks d b d
     → first (marksCauses d b marks) ≡ first ((not (goodMarks d b marks) ⇒ Mark) ∷ [])
 marks-row d b marks shaped exact =
-    append-accepted (shapeCauses d b) (shapedCauses d b marks) shaped
+    first-append (shapeCauses d b) (shapedCauses d b marks) ∙ outcome-accepted _ _ shaped
     ∙ first-next Length _ (ap not (eq-eqb (length marks) (firstMarks d b d) exact))

@@ -6,12 +6,11 @@ use refusal::Refusal;
 use refusal::Verdict;
 ghost use mathlib.Core.Path.{_≡_};
 ghost use mathlib.Core.Bool.{true, cond};
-ghost use mathlib.Core.List.{[], _∷_};
 ghost use Prim.Native.Nat.{suc, _+_, _*_, _/_, _≤_, _<_};
 ghost use lib.Dec.{leb};
 ghost use lib.ListN.{length};
 ghost use Rattle.refusal.specs.First.{first, outcome};
-ghost use Rattle.limits.specs.Limits.{maxDimensions, maxVectors};
+ghost use Rattle.limits.specs.Limits.{maxDimensions, maxDimensionBits, maxVectors};
 ghost use Rattle.layout.specs.Stretch.{Shape};
 ghost use Rattle.approximation.specs.Bits.{bytesOf, byteBits};
 ghost use Rattle.approximation.specs.Codes.{nextColumn, joined, regionsFit, packed, split, unpacked};
@@ -56,7 +55,7 @@ pub fn unpack(d: usize, b: usize, n: usize, codes: &[u8], regions: &mut [u8]) ->
     }
 }
 
-// The region that code i names for dimension j, from 1; 0 where there is no such dimension, and for an i past MAX_VECTORS.
+// The region that code i names for dimension j, from 1; 0 where there is no such dimension, and where i is not below MAX_VECTORS.
 pub fn code_region(d: usize, b: usize, codes: &[u8], i: usize, j: usize) -> usize
     ensures { λ r. ⌜ r ≡ regionNamed d b (now (codes .entry)) i j ⌝ }
 {
@@ -170,7 +169,7 @@ fn take_all(d: usize, b: usize, codes: &[u8], regions: &mut [u8])
 
 // The bits of a column's dimension, where each has the fewest and the first ones have one more.
 pub(crate) fn column_bits(fewest: usize, more: usize, column: usize) -> usize
-    requires { ⌜ fewest ≤ 6 ⌝ }
+    requires { ⌜ fewest ≤ maxDimensionBits ⌝ }
     ensures { λ r. ⌜ r ≡ fewest + cond (leb (suc column) more) 1 0 ⌝ }
 {
     if column < more { fewest + 1 } else { fewest }

@@ -1,11 +1,10 @@
 -- L and U are the least and the greatest distance of a code's cell: no vector of the cell is nearer or farther, and where the code names no
 -- empty region both are reached inside the cell, for every query. Assumes nothing.
-use mathlib.Core.Path.{_≡_, refl, ap, ap₂, _∙_}
-use mathlib.Core.Bool.{Bool, true, _&&_, and-eq-true-iff}
+use mathlib.Core.Path.{_≡_, refl}
+use mathlib.Core.Bool.{true, and-eq-true-iff}
 use mathlib.Core.List.{List, [], _∷_, _++_}
-use Prim.Native.Nat.{ℕ, zero, suc, _+_, _≤_}
+use Prim.Native.Nat.{ℕ, zero, suc, _≤_}
 use native.Mathlib.Nat.{mul-le-mul, le-refl}
-use native.Mathlib.Numerals.{add-one}
 use native.Mathlib.Omega.{arith}
 use lib.IntN.{ℤ, pos}
 use lib.Signed.{ltZ}
@@ -15,8 +14,8 @@ use Rattle.partition.specs.Marks.{dimensionMarks}
 use Rattle.partition.specs.Region.{inRegion}
 use Rattle.approximation.specs.Codes.{codeRegion}
 use Rattle.approximation.specs.Cells.{InCell, inFirst, hasValue, noneEmpty}
-use Rattle.distance.specs.Distance.{squared, gap, firstDistance, distanceOf}
-use Rattle.distance.specs.Bounds.{shortest, longest, stepTo, firstBound, lowerOf, upperOf}
+use Rattle.distance.specs.Distance.{squared, firstDistance, distanceOf}
+use Rattle.distance.specs.Bounds.{shortest, longest, firstBound, lowerOf, upperOf}
 use Rattle.distance.specs.Steps.{Inside, shortest-le, le-longest, Reached, shortest-reached, longest-reached}
 
 pub squared-le : {a b : ℕ} → a ≤ b → squared a ≤ squared b

@@ -1,6 +1,6 @@
 -- The distance of a vector from a query: "the sum of squared differences" (document 01, "Distance, bounds, reading order").
 -- Assumes nothing.
-use mathlib.Core.List.{List, [], _∷_}
+use mathlib.Core.List.{List}
 use Prim.Native.Nat.{ℕ, zero, suc, _+_, _*_}
 use lib.IntN.{ℤ, pos, natAbs, _-ℤ_}
 use lib.ListN.{getD}

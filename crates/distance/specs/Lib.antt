@@ -1,4 +1,5 @@
 pub mod Distance
+pub mod Measured
 pub mod Bounds
 pub mod Order
 pub mod Places
@@ -6,3 +7,6 @@ pub mod Steps
 pub mod CellBounds
 pub mod CellComponents
 pub mod Small
+pub mod Table
+pub mod TableLaws
+pub mod Bounded

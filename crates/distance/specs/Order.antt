@@ -7,7 +7,7 @@ use borrow.Author.Tests.{ltb-true, le-leb}
 use lib.Dec.{T, leb·zero, leb·suc-zero, leb·suc-suc}
 use lib.IntN.{ℤ, pos, negsuc, predℤ}
 use lib.Signed.{leZ, ltZ, leZ-yes, ltZ-yes, <ℤ-≤ℤ-trans, clashℤ}
-use Rattle.limits.specs.Tests.{leZ-not}
+use Rattle.limits.specs.Tests.{leZ-not, ltZ-not}
 
 pub le-self : (a : ℤ) → leZ a a ≡ true
 le-self (pos a) = le-leb a a (omega arith)
@@ -27,6 +27,10 @@ lt-pred (pos a) (negsuc b) = refl
 lt-pred (negsuc a) (pos zero) = sym (leb·zero a)
 lt-pred (negsuc a) (pos (suc b)) = refl
 lt-pred (negsuc a) (negsuc b) = refl
+
+-- and the one before a is below b exactly if a is at most b
+pub pred-lt : (a b : ℤ) → ltZ (predℤ a) b ≡ leZ a b
+pred-lt a b = ltZ-not (predℤ a) b ∙ ap not (sym (lt-pred b a)) ∙ sym (leZ-not b a)
 
 pub le-trans : (a b c : ℤ) → leZ a b ≡ true → leZ b c ≡ true → leZ a c ≡ true
 le-trans a b c ab bc = go (ltZ c a) refl

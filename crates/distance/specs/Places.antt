@@ -1,11 +1,11 @@
 -- Whole numbers with m added are numbers from 0 on, for all that lie above -m. There a gap is a difference. Assumes nothing.
-use mathlib.Core.Path.{_≡_, refl, sym, ap, _∙_, subst}
+use mathlib.Core.Path.{_≡_, refl}
 use mathlib.Core.Bool.{Bool, true, false, cond}
 use Prim.Native.Nat.{ℕ, zero, suc, _+_, _-_, _≤_, _<_, _^_}
 use native.Mathlib.Omega.{arith}
 use borrow.Author.Tests.{leb-true, ltb-true, ltb-false}
 use lib.Dec.{ltb}
-use lib.IntN.{ℤ, pos, negsuc, natAbs, subℕ}
+use lib.IntN.{ℤ, pos, negsuc, natAbs, predℤ, subℕ}
 use lib.Signed.{mag, leZ}
 use Rattle.whole.specs.Keys.{keyOf}
 use Rattle.distance.specs.Distance.{gap}
@@ -69,11 +69,38 @@ gap-size a b =
     let hb : mag b < m = omega arith in
     omega (arith, gap-place m a b ha hb, place-size m a ha, place-size m b hb)
 
--- the key of a number of 32 bits is its place from 2^31 on
+-- the number before it
+place-pred : (m : ℕ) (z : ℤ) → place m (predℤ z) ≡ place m z - 1
+unfolding place
+place-pred m (pos zero) = omega arith
+place-pred m (pos (suc n)) = omega arith
+place-pred m (negsuc n) = omega arith
+
+pub pred-size : (z : ℤ) → mag (predℤ z) ≤ mag z + 1
+pred-size (pos zero) = omega arith
+pred-size (pos (suc n)) = omega arith
+pred-size (negsuc n) = omega arith
+
+-- ---- by keys
+
+-- the key of a number of 32 bits is its place for 2^31
 key-place : (z : ℤ) → keyOf z ≡ place (2 ^ 31) z
 unfolding keyOf place
 key-place (pos n) = refl
 key-place (negsuc n) = refl
 
-pub gap-key : (a b : ℤ) → mag a < 2 ^ 31 → mag b < 2 ^ 31 → gap a b ≡ (keyOf a - keyOf b) + (keyOf b - keyOf a)
-gap-key a b ha hb = rw (key-place a, key-place b) (gap-place (2 ^ 31) a b ha hb)
+place-key : (z : ℤ) → mag z < 2 ^ 31 → place (2 ^ 31 + 1) z ≡ keyOf z + 1
+unfolding keyOf place
+place-key (pos n) h = omega arith
+place-key (negsuc n) h = omega arith
+
+module _ (a b : ℤ) (ha : mag a < 2 ^ 31) (hb : mag b < 2 ^ 31) where
+  pub gap-key : gap a b ≡ (keyOf a - keyOf b) + (keyOf b - keyOf a)
+  gap-key = rw (key-place a, key-place b) (gap-place (2 ^ 31) a b ha hb)
+
+  -- the number before b need not be one of 32 bits
+  pub gap-key-pred : gap a (predℤ b) ≡ (keyOf a + 1 - keyOf b) + (keyOf b - (keyOf a + 1))
+  gap-key-pred =
+      let m : ℕ = 2 ^ 31 + 1 in
+      let within : mag (predℤ b) < m = omega (arith, pred-size b) in
+      omega (arith, gap-place m a (predℤ b) (omega arith) within, place-pred m b, place-key a ha, place-key b hb)

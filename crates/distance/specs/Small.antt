@@ -1,14 +1,12 @@
 -- Distances and bounds are far below 2^64, for components and marks in range: sums of theirs are exact in 64 bits. Assumes nothing.
 use mathlib.Core.Path.{_≡_, refl}
-use mathlib.Core.Bool.{Bool, true, false, cond, and-eq-true-iff}
+use mathlib.Core.Bool.{true, and-eq-true-iff}
 use mathlib.Core.List.{List}
-use Prim.Native.Nat.{ℕ, zero, suc, _+_, _*_, _^_, _≤_, _<_, zero-le, max}
-use native.Mathlib.Nat.{le-refl}
+use Prim.Native.Nat.{ℕ, zero, suc, _+_, _*_, _^_, _≤_, _<_}
 use native.Mathlib.Omega.{arith}
 use borrow.Author.Tests.{leb-true}
-use lib.Dec.{leb, lit≤}
 use lib.IntN.{ℤ, pos, negsuc, predℤ}
-use lib.Signed.{mag, leZ, ltZ}
+use lib.Signed.{mag, leZ}
 use lib.ListN.{getD}
 use Rattle.limits.specs.Limits.{isComponent, isMark, leastMark, maxDimensions}
 use Rattle.partition.specs.Marks.{dimensionMarks, goodMarks}
@@ -16,7 +14,7 @@ use Rattle.approximation.specs.Codes.{codeRegion}
 use Rattle.distance.specs.Distance.{gap, squared, firstDistance, distanceOf}
 use Rattle.distance.specs.Bounds.{shortest, longest, firstBound, lowerOf, upperOf}
 use Rattle.whole.specs.Components.{areComponents, component-at}
-use Rattle.distance.specs.Places.{gap-size}
+use Rattle.distance.specs.Places.{gap-size, pred-size}
 use Rattle.distance.specs.Steps.{shortest-le-longest}
 use Rattle.distance.specs.CellBounds.{squared-le}
 use Rattle.distance.specs.CellComponents.{good-mark}
@@ -37,11 +35,6 @@ component-size z h =
     let both = and-eq-true-iff (leZ leastMark z) (leZ z (pos 32767)) .0 h in
     let within = within-size 32767 z (both .0) (both .1) (omega arith) in
     omega arith
-
-pred-size : (z : ℤ) → mag (predℤ z) ≤ mag z + 1
-pred-size (pos zero) = zero-le
-pred-size (pos (suc n)) = omega arith
-pred-size (negsuc n) = omega arith
 
 longest-size : (q low high : ℤ) → mag q ≤ 32768 → mag low ≤ 32768 → mag high ≤ 32768 → longest q low high ≤ 2 ^ 17
 unfolding longest

@@ -1,15 +1,15 @@
 -- Where a dimension's marks stand in the marks buffer, and how many bits it has; 0 where the numbers are refused. Assumes nothing.
 use mathlib.Core.Path.{_≡_, ap, _∙_, subst⁻¹}
-use mathlib.Core.Bool.{not, _&&_}
+use mathlib.Core.Bool.{false, not, _&&_}
 use mathlib.Core.List.{List, [], _∷_}
 use Prim.Native.Nat.{ℕ, suc, _+_, _-_, _*_, _^_, _≤_, _<_}
 use native.Mathlib.Nat.{le-trans, mul-le-mul-left}
 use native.Mathlib.Omega.{arith}
-use borrow.Author.Tests.{leb-true, not-false}
+use borrow.Author.Tests.{leb-true, le-leb, not-false}
 use lib.Dec.{leb}
 use Rattle.refusal.specs.declared.Refusal.the-variants.{Dimension, Bits}
 use Rattle.refusal.specs.declared.Verdict.the-variants.{Accepted}
-use Rattle.refusal.specs.First.{Row, _⇒_, first, outcome, outcome-accepted, passed}
+use Rattle.refusal.specs.First.{Row, _⇒_, first, outcome, outcome-accepted, first-next, passed}
 use Rattle.limits.specs.Limits.{maxDimensions, maxDimensionBits, isDimensionCount, isBits}
 use Rattle.limits.specs.Tests.{between}
 use Rattle.layout.specs.declared.Stretch.{Stretch}
@@ -105,3 +105,10 @@ stretches {d} {b} {j} {s} accepted is =
 pub marks-length-is : (d b : ℕ) → first (shapeCauses d b) ≡ Accepted → marksLength d b ≡ firstMarks d b d
 unfolding marksLength
 marks-length-is d b accepted = outcome-accepted _ _ accepted
+
+-- dimension t + 1 of those that are taken
+pub dimension-accepted : (d b t : ℕ) → first (shapeCauses d b) ≡ Accepted → t < d → first (dimensionCauses d b (t + 1)) ≡ Accepted
+dimension-accepted d b t accepted below =
+    let in-range : not (leb 1 (t + 1) && leb (t + 1) d) ≡ false =
+    rw (le-leb 1 (t + 1) (omega arith), le-leb (t + 1) d (omega arith)) in
+    first-next Dimension (shapeCauses d b) in-range ∙ accepted

@@ -1,7 +1,9 @@
--- Tests of order: two that agree, not below is at least, a number between two others. Assumes nothing.
+-- Tests of order: two that agree, not below is at least, a number between two others, and tests that all hold. Assumes nothing.
 use mathlib.Core.Path.{_≡_, refl, sym, ap, _∙_}
+use mathlib.Core.Logic.{inl, inr}
 use mathlib.Core.Bool.{Bool, true, false, not, _&&_}
-use Prim.Native.Nat.{ℕ, suc, _≤_, _<_}
+use Prim.Native.Nat.{ℕ, zero, suc, _≤_, _<_}
+use native.Mathlib.Nat.{eq-or-lt-of-le, le-of-suc-le-suc}
 use native.Mathlib.Omega.{arith}
 use borrow.Author.Tests.{leb-true, leb-false, le-leb, lt-leb}
 use lib.Dec.{leb, ltb}
@@ -56,3 +58,24 @@ between low x high holds = go (leb low x) refl holds
     go false e holds =
         let impossible : _≡_ {A = ℕ} 0 1 = cc in
         absurd (omega arith)
+
+-- ---- tests that all hold, up to a number
+
+pub record All (all test : ℕ → Bool) : Type 0 where
+  pub next : (t : ℕ) → all (suc t) ≡ all t && test t
+
+pub all-next : {all test : ℕ → Bool} → All all test → (t : ℕ) → all t ≡ true → all (suc t) ≡ test t
+all-next is t before = is .next t ∙ rw before
+
+and-no : (t : Bool) → t && false ≡ false
+and-no true = refl
+and-no false = refl
+
+pub all-fails : {all test : ℕ → Bool} → All all test → (n t : ℕ) → t < n → test t ≡ false → all n ≡ false
+all-fails is zero t below fails = absurd (omega arith)
+all-fails {all} {test} is (suc n) t below fails =
+    is .next n
+    ∙ elim (eq-or-lt-of-le (le-of-suc-le-suc below)) [
+      | inl e ↦ rw (← e, fails) (and-no (all t))
+      | inr l ↦ rw (all-fails is n t l fails)
+    ]

@@ -3,4 +3,5 @@ pub mod ReadBack
 pub mod Halving
 mod Filled
 mod Columns
-mod Prefix
+pub mod Prefix
+mod Power

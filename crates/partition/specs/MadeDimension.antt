@@ -77,7 +77,7 @@ place-rises i j n w le = shr-mono w (mul-le-mul-right n le)
 -- ---- the marks
 
 module _ (n w : ℕ) (ordered : List ℤ) where
-  -- the greatest component, and the mark that stands at a place for a region's first
+  -- the greatest component, and region i's lower mark
   abbrev greatest : ℤ
   greatest = getD ordered (n - 1) (pos 0)
 

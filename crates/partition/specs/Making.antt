@@ -29,15 +29,16 @@ makeCauses d b n vectors room =
     ∷ (not (areComponents vectors) ⇒ Component)
     ∷ []
 
--- what holds where nothing is refused
+-- ---- what holds where nothing is refused
+
 pub record Given (d b n : ℕ) (vectors : List ℤ) (room : ℕ) : Type 0 where
   pub shaped : first (shapeCauses d b) ≡ Accepted
   pub count : Between 1 n maxVectors
-  pub rows : length vectors ≡ n * d
+  pub full : length vectors ≡ n * d
   pub exact : room ≡ firstMarks d b d
   pub components : areComponents vectors ≡ true
 
-shape-accepted : (d b : ℕ) → not (isDimensionCount d) ≡ false → not (isBits d b) ≡ false → first (shapeCauses d b) ≡ Accepted
+pub shape-accepted : (d b : ℕ) → not (isDimensionCount d) ≡ false → not (isBits d b) ≡ false → first (shapeCauses d b) ≡ Accepted
 unfolding first
 shape-accepted d b dimensions bits = rw (dimensions, bits)
 
@@ -52,7 +53,7 @@ given d b n vectors room accepted =
     record {
       shaped = shape-accepted d b (dimensions .fails) (bits .fails);
       count = between 1 n maxVectors (not-false (isVectorCount n) (vector-count .fails));
-      rows = eqb-true (length vectors) (n * d) (both .0);
+      full = eqb-true (length vectors) (n * d) (both .0);
       exact = eqb-true room (firstMarks d b d) (both .1);
       components = not-false (areComponents vectors) (range .fails);
     }

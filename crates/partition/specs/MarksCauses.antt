@@ -1,12 +1,16 @@
 -- The causes for which a call that is given the marks buffer says no. Assumes nothing.
-use mathlib.Core.Bool.{not, _&&_}
+use mathlib.Core.Path.{_≡_, refl, sym, ap, _∙_}
+use mathlib.Core.Bool.{Bool, true, false, not, _&&_}
 use mathlib.Core.List.{List, [], _∷_, _++_}
 use Prim.Native.Nat.{ℕ}
 use lib.Dec.{leb, eqb}
 use lib.IntN.{ℤ}
 use lib.ListN.{length}
+use borrow.Author.Tests.{eq-eqb, not-false}
+use Rattle.refusal.specs.declared.Refusal.{Refusal}
 use Rattle.refusal.specs.declared.Refusal.the-variants.{Dimension, Length, Mark}
-use Rattle.refusal.specs.First.{Row, _⇒_}
+use Rattle.refusal.specs.declared.Verdict.the-variants.{Accepted, Refused}
+use Rattle.refusal.specs.First.{Row, _⇒_, first, first-none, first-next, first-append, outcome-accepted, passed, apart}
 use Rattle.layout.specs.Layout.{firstMarks}
 use Rattle.layout.specs.Stretch.{shapeCauses}
 use Rattle.partition.specs.Marks.{goodMarks}
@@ -22,3 +26,28 @@ marksCauses d b marks = shapeCauses d b ++ shapedCauses d b marks
 -- 1 for the dimension's number too
 abbrev pub partCauses : ℕ → ℕ → List ℤ → ℕ → List Row
 partCauses d b marks j = (not (leb 1 j && leb j d) ⇒ Dimension) ∷ marksCauses d b marks
+
+-- ---- where only the marks themselves are left to test
+
+left : (d b : ℕ) (marks : List ℤ) → first (shapeCauses d b) ≡ Accepted → length marks ≡ firstMarks d b d
+    → first (marksCauses d b marks) ≡ first ((not (goodMarks d b marks) ⇒ Mark) ∷ [])
+left d b marks shaped size =
+    first-append (shapeCauses d b) (shapedCauses d b marks)
+    ∙ outcome-accepted _ _ shaped
+    ∙ first-next Length ((not (goodMarks d b marks) ⇒ Mark) ∷ []) (ap not (eq-eqb (length marks) (firstMarks d b d) size))
+
+pub marks-good : (d b : ℕ) (marks : List ℤ) → first (shapeCauses d b) ≡ Accepted → length marks ≡ firstMarks d b d
+    → first (marksCauses d b marks) ≡ Accepted → goodMarks d b marks ≡ true
+marks-good d b marks shaped size accepted =
+    let last = passed _ _ _ (sym (left d b marks shaped size) ∙ accepted) in
+    not-false (goodMarks d b marks) (last .fails)
+
+pub marks-bad : (d b : ℕ) (marks : List ℤ) {cause : Refusal} → first (shapeCauses d b) ≡ Accepted → length marks ≡ firstMarks d b d
+    → first (marksCauses d b marks) ≡ Refused cause → goodMarks d b marks ≡ false
+marks-bad d b marks shaped size refused = go (goodMarks d b marks) refl
+  where
+    go : (good : Bool) → goodMarks d b marks ≡ good → good ≡ false
+    go true e =
+        let accepted : first (marksCauses d b marks) ≡ Accepted = left d b marks shaped size ∙ first-next Mark [] (ap not e) ∙ first-none in
+        absurd (apart (sym accepted ∙ refused))
+    go false e = refl

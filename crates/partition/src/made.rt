@@ -112,13 +112,14 @@ fn write_marks(d: usize, t: usize, w: usize, vectors: &[i32], numbers: &[u32], p
         ≡ madeDimension (length (now (numbers .entry))) w (inOrder (column d (length (now (numbers .entry))) (now (vectors .entry)) t)) ⌝ }
 {
     let n = numbers.len();
+    let last = n - 1;
     let regions = 1usize << w;
     let mut i = 0;
     while i < regions {
         part[i] = component_at(d, t, vectors, numbers, (i * n) >> w);
         i += 1;
     }
-    part[regions] = next(component_at(d, t, vectors, numbers, n - 1));
+    part[regions] = next(component_at(d, t, vectors, numbers, last));
 }
 
 // The component at a place of the order.

@@ -114,3 +114,12 @@ unfolding first
 accepted-behind [] more accepted = accepted
 accepted-behind ((true ⇒ cause) ∷ rows) more accepted = cc
 accepted-behind ((false ⇒ cause) ∷ rows) more accepted = accepted-behind rows more accepted
+
+pub first-none : first [] ≡ Accepted
+unfolding first
+first-none = refl
+
+pub apart : {cause : Refusal} → Accepted ≡ Refused cause → ⊥
+apart e =
+    let impossible : _≡_ {A = ℕ} 0 1 = cc in
+    omega arith

@@ -9,3 +9,6 @@ pub mod Stable
 pub mod Changed
 pub mod Needed
 pub mod Least
+pub mod Kept
+pub mod Place
+pub mod Holds

@@ -1,12 +1,12 @@
 -- `bits::bits_at` meets its contract: w bits, at most 8, from a place of a byte on stand in that byte and the next. Assumes nothing.
-use mathlib.Core.Path.{_≡_, refl, sym, ap, _∙_}
+use mathlib.Core.Path.{_≡_, refl, sym, _∙_}
 use mathlib.Core.List.{List, [], _∷_, _++_, append-assoc, append-nil}
 use Prim.Native.Nat.{ℕ, zero, suc, _+_, _-_, _*_, _/_, _%_, _^_, _≤_, _<_}
-use native.Mathlib.Nat.{suc-mul, zero-div, add-comm, add-zero, div-add-mod'}
+use native.Mathlib.Nat.{suc-mul, add-comm, add-zero, div-add-mod'}
 use native.Mathlib.Omega.{arith}
 use borrow.Author.Needs.{needs}
 use borrow.Author.Tests.{le-leb, lt-leb}
-use lib.ListN.{length, getD, drop, replicate}
+use lib.ListN.{getD, drop}
 use lib.Seq.{drop-at, drop-nil, drop-drop, getD-drop}
 use Rattle.approximation.specs.Bits.{lowBits, fromBits, byteBits, bitsAt}
 use Rattle.approximation.specs.BitLaws.{Bytes, length-low, low-join, from-field, Same, same-drop, same-zeros, from-same}
@@ -43,7 +43,7 @@ unfolding bitsAt
 read bytes small from w few =
     let q = from / 8 in
     let cut : drop from (byteBits bytes) ≡ drop (from % 8) (byteBits (drop q bytes)) =
-        rw (← drop-bytes q bytes, drop-drop, div-add-mod') in
+    rw (← drop-bytes q bytes, drop-drop, div-add-mod') in
     let rest : Bytes (drop q bytes) = λ i. rw (getD-drop q bytes i 0) (small (q + i)) in
     rw (le-leb w 8 few, cut) (sym (rw (getD-drop q bytes 0 0, getD-drop q bytes 1 0, add-zero q) at (in-two (drop q bytes) rest (from % 8) w (omega arith) few)))
 

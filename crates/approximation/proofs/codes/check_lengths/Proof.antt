@@ -1,12 +1,11 @@
 -- `codes::check_lengths` meets its contract: the tests in their order. Assumes nothing.
-use mathlib.Core.Path.{_≡_, sym, _∙_}
-use mathlib.Core.Bool.{true}
-use Prim.Native.Nat.{ℕ, _*_, _≤_}
+use mathlib.Core.Path.{sym, _∙_}
+use Prim.Native.Nat.{_*_, _≤_}
 use native.Mathlib.Omega.{arith}
 use borrow.Author.Needs.{needs}
 use borrow.Author.Tests.{not-false, eq-eqb, ne-eqb}
 use Rattle.refusal.specs.First.{first}
-use Rattle.limits.specs.Limits.{maxVectors, isVectorCount}
+use Rattle.limits.specs.Limits.{maxVectors}
 use Rattle.limits.specs.Tests.{between}
 use Rattle.approximation.specs.Codes.{codeLength}
 use Rattle.approximation.specs.Pack.{numbers-le, bits-le}

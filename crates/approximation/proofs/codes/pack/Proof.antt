@@ -7,7 +7,7 @@ use borrow.Author.Needs.{needs}
 use borrow.Author.Tests.{not-false}
 use lib.ListN.{length}
 use Rattle.refusal.specs.declared.Refusal.the-variants.{Code}
-use Rattle.refusal.specs.declared.Verdict.the-variants.{Accepted}
+use Rattle.refusal.specs.declared.Verdict.the-variants.{Accepted, Refused}
 use Rattle.refusal.specs.First.{Row, _⇒_, first}
 use Rattle.approximation.specs.Codes.{regionsFit, packed}
 use Rattle.approximation.specs.PackLaws.{length-joined}
@@ -68,7 +68,8 @@ returns-2 c =
 returns-3 : tie.Need-returns-3
 returns-3 c =
     let at = c .before .before .before in
-    refused-before (rows at) ((past at ⇒ Code) ∷ []) (at .before .before .before .args .codes .now) (bytes at) (sym (at .check-sizes .ensures) ∙ c .before .cause .given .1)
+    let refused : first (rows at) ≡ Refused (c .before .cause .given .0 .0) = rw (← at .check-sizes .ensures) (c .before .cause .given .1) in
+    refused-before (rows at) ((past at ⇒ Code) ∷ []) (at .before .before .before .args .codes .now) (bytes at) refused
 
 pub pack-spec : {M : Type 1} → statement M
 pack-spec =

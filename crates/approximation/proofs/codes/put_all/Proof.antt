@@ -1,20 +1,18 @@
 -- `codes::put_all` meets its contract: the bytes written so far, then the bits that wait and those of the numbers that are left, are the
 -- whole. Assumes nothing.
-use mathlib.Core.Path.{_≡_, refl, sym, ap, _∙_}
+use mathlib.Core.Path.{_≡_, refl}
 use mathlib.Core.Bool.{true, and-eq-true-iff}
-use mathlib.Core.List.{List, [], _∷_, _++_}
-use Prim.Native.Nat.{ℕ, zero, suc, _+_, _-_, _*_, _/_, _%_, _^_, _≤_, _<_}
+use mathlib.Core.List.{List, []}
+use Prim.Native.Nat.{ℕ, suc, _+_, _-_, _*_, _/_, _%_, _^_, _≤_, _<_}
 use native.Mathlib.Nat.{sub-zero}
-use native.Mathlib.Numerals.{add-one}
 use native.Mathlib.Omega.{arith}
-use borrow.Author.Needs.{needs}
 use borrow.Author.Tests.{ltb-true}
 use lib.Dec.{ltb}
-use lib.ListN.{length, getD, take, drop, set, length-set, drop-of-length-le}
+use lib.ListN.{length, getD, drop, set, length-set, drop-of-length-le}
 use lib.Pow.{pow-mono, shl-exact}
-use lib.Seq.{drop-cons}
+use Rattle.limits.specs.Limits.{maxDimensionBits}
 use Rattle.layout.specs.Layout.{bitsOf}
-use Rattle.approximation.specs.Bits.{lowBits, bytesOf}
+use Rattle.approximation.specs.Bits.{lowBits}
 use Rattle.approximation.specs.Codes.{nextColumn, joined, regionsFit}
 use Rattle.approximation.proofs.Columns.{Width, fewest, width, next-below, fit-next, joined-next}
 use Rattle.approximation.proofs.Writing.{Writing, push, has-room, is-byte, emit, no-bits, last-lt, last-byte}
@@ -28,6 +26,10 @@ record Putting (d b : ℕ) (regions codes : List ℕ) (n top column i o waiting 
   fit : regionsFit d b column (drop i regions) ≡ true
   writing : Writing (joined d b 0 regions) (joined d b column (drop i regions)) codes n o waiting bits
 
+-- while fewer than 8 bits wait, a number's bits are added
+abbrev most : ℕ
+most = 8 + maxDimensionBits
+
 abbrev Inv-loop : tie.InvT-loop
 Inv-loop d b regions codes₀ fewest more column₀ i₀ o₀ waiting₀ bits₀ codes column i o waiting bits = Putting d b regions codes (length codes₀) 8 column i o waiting bits
 
@@ -37,7 +39,7 @@ abbrev μ-loop : tie.MeasureT-loop
 module _ {d b : ℕ} {regions codes : List ℕ} {n column i o waiting bits : ℕ} where
   -- the bits of the number at i wait too
   pushed : {w : ℕ} → Putting d b regions codes n 8 column i o waiting bits → Width d b column w → i < length regions
-      → Putting d b regions codes n 14 (nextColumn d column) (i + 1) o (waiting + w) ((bits * 2 ^ w) % 2 ^ 64 + getD regions i 0)
+      → Putting d b regions codes n most (nextColumn d column) (i + 1) o (waiting + w) ((bits * 2 ^ w) % 2 ^ 64 + getD regions i 0)
   pushed {w} at wide more =
       let x = getD regions i 0 in
       let rest = regionsFit d b (nextColumn d column) (drop (i + 1) regions) in
@@ -53,17 +55,17 @@ module _ {d b : ℕ} {regions codes : List ℕ} {n column i o waiting bits : ℕ
       }
 
   -- they still wait, or a byte is written
-  held : Putting d b regions codes n 14 column i o waiting bits → waiting < 8 → Putting d b regions codes n 8 column i o waiting bits
+  held : Putting d b regions codes n most column i o waiting bits → waiting < 8 → Putting d b regions codes n 8 column i o waiting bits
   held at few = record { inside = at .inside; few = few; fit = at .fit; writing = at .writing }
 
-  put : Putting d b regions codes n 14 column i o waiting bits → 8 ≤ waiting
+  put : Putting d b regions codes n most column i o waiting bits → 8 ≤ waiting
       → Putting d b regions (set codes o (bits / 2 ^ (waiting - 8))) n 8 column i (o + 1) (waiting - 8) (bits % 2 ^ (waiting - 8))
   put at eight = record { inside = at .inside; few = omega (arith, at .few); fit = at .fit; writing = emit (at .writing) eight }
 
-  -- fewer than 14 bits make a small number
-  few-bits : Putting d b regions codes n 14 column i o waiting bits → bits < 2 ^ 14
+  -- so few bits make a small number
+  few-bits : Putting d b regions codes n most column i o waiting bits → bits < 2 ^ most
   few-bits at =
-      let power : 2 ^ waiting ≤ 2 ^ 14 = pow-mono {j = 14} (omega (arith, at .few)) in
+      let power : 2 ^ waiting ≤ 2 ^ most = pow-mono {j = most} (omega (arith, at .few)) in
       omega (arith, at .writing .small)
 
   -- no number is left
@@ -73,13 +75,13 @@ module _ {d b : ℕ} {regions codes : List ℕ} {n column i o waiting bits : ℕ
 
 -- the bits of the number that is read in a turn wait
 turn : (c : tie.After-column-bits Inv-loop μ-loop) → let at = c .before .before .loop in let start = c .before .before .before .before .before in
-    Putting (start .args .d) (start .args .b) (start .args .regions .now) (at .codes) (length (start .args .codes .now)) 14 (nextColumn (start .args .d) (at .column)) (at .i + 1) (at .o)
+    Putting (start .args .d) (start .args .b) (start .args .regions .now) (at .codes) (length (start .args .codes .now)) most (nextColumn (start .args .d) (at .column)) (at .i + 1) (at .o)
     (at .waiting + c .column-bits .result) ((at .bits * 2 ^ c .column-bits .result) % 2 ^ 64 + getD (start .args .regions .now) (at .i) 0)
 turn c =
     let start = c .before .before .before .before .before in
     pushed (c .before .before .loop .inv) (width (start .pre .0) (c .column-bits .ensures)) (c .before .loop-test .taken)
 
-wide : (c : tie.After-column-bits Inv-loop μ-loop) → c .column-bits .result ≤ 6
+wide : (c : tie.After-column-bits Inv-loop μ-loop) → c .column-bits .result ≤ maxDimensionBits
 wide c = width (c .before .before .before .before .before .pre .0) (c .column-bits .ensures) .few
 
 loop-holds : tie.Need-loop-holds Inv-loop μ-loop
@@ -113,7 +115,7 @@ returns : tie.Need-returns Inv-loop μ-loop
 returns c =
     let at = c .before .before .loop in
     rw (exact (at .inv .few) (at .inv .writing .small))
-    (last-byte (ended (at .inv) (c .before .loop-test .left)) (at .inv .few) (c .if2 .taken))
+    (last-byte (ended (at .inv) (c .before .loop-test .left)) (at .inv .few) (omega arith))
 
 returns-2 : tie.Need-returns-2 Inv-loop μ-loop
 returns-2 c = no-bits (ended (c .before .before .loop .inv) (c .before .loop-test .left)) (c .before .before .loop .inv .few) (omega arith)
@@ -148,7 +150,7 @@ put-all-spec =
     (λ c. omega (arith, c .before .before .loop .inv .few))
     (λ c. omega (arith, c .before .before .loop .inv .few))
     cast-codes-2
-    (λ c. has-room (c .before .before .loop .inv .writing) (c .if2 .taken))
+    (λ c. has-room (c .before .before .loop .inv .writing) (omega arith))
     (λ c. simp length-set (c .before .before .loop .inv .writing .room))
     returns
     (λ c. c .before .before .loop .inv .writing .room)

@@ -2,18 +2,14 @@
 -- Assumes nothing.
 use mathlib.Core.Path.{_≡_, refl, sym, _∙_}
 use mathlib.Core.Bool.{Bool, true, false, _&&_}
-use mathlib.Core.List.{List}
-use Prim.Native.Nat.{ℕ, suc, _+_, _-_, _*_, _/_, _^_, _≤_, _<_}
+use Prim.Native.Nat.{ℕ, suc, _+_, _-_, _*_, _/_, _^_, _<_}
 use native.Mathlib.Nat.{div-eq-of-lt, div-lt-iff-lt-mul}
-use native.Mathlib.Numerals.{add-one}
 use native.Mathlib.Omega.{arith}
-use borrow.Author.Needs.{needs}
 use borrow.Author.Tests.{eqb-true, eqb-false, lt-ltb, le-ltb, eq-eqb, ne-eqb}
 use lib.Dec.{ltb, eqb}
 use lib.ListN.{length, getD, drop, drop-of-length-le}
 use lib.Pow.{pow-pos}
-use lib.Seq.{drop-cons, drop-length}
-use Rattle.layout.specs.Layout.{bitsOf, regionCount}
+use Rattle.layout.specs.Layout.{bitsOf}
 use Rattle.approximation.specs.Codes.{nextColumn, regionsFit}
 use Rattle.approximation.proofs.Columns.{fewest, width, next-below, fit-next}
 use Rattle.approximation.proofs.codes.regions_fit.Statement.{statement}

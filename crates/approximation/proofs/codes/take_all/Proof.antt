@@ -1,6 +1,6 @@
 -- `codes::take_all` meets its contract: what is written so far, with what is left to be read off the bits, is the whole. Assumes nothing.
-use mathlib.Core.Path.{_≡_, refl, sym, _∙_}
-use mathlib.Core.List.{List, [], _++_}
+use mathlib.Core.Path.{_≡_, refl}
+use mathlib.Core.List.{List, _++_}
 use Prim.Native.Nat.{ℕ, suc, _+_, _-_, _*_, _≤_, _<_}
 use native.Mathlib.Nat.{sub-zero}
 use native.Mathlib.Omega.{arith}
@@ -8,7 +8,7 @@ use borrow.Author.Needs.{needs}
 use lib.ListN.{length, take, drop, set, length-set}
 use lib.Seq.{drop-drop}
 use Rattle.order.proofs.Written.{written-one, written-all}
-use Rattle.layout.specs.Stretch.{Shape}
+use Rattle.limits.specs.Limits.{maxDimensionBits}
 use Rattle.approximation.specs.Bits.{byteBits, bitsAt}
 use Rattle.approximation.specs.BitLaws.{bits-at, bits-at-lt}
 use Rattle.approximation.specs.Codes.{nextColumn, split}
@@ -21,7 +21,7 @@ record Taking (d b : ℕ) (codes regions : List ℕ) (n column i from : ℕ) : T
   within : i ≤ n
   room : length regions ≡ n
   inside : column < d
-  near : from ≤ 6 * i
+  near : from ≤ maxDimensionBits * i
   so-far : take i regions ++ split d b column (n - i) (drop from (byteBits codes)) ≡ split d b 0 n (byteBits codes)
 
 abbrev Inv-loop : tie.InvT-loop

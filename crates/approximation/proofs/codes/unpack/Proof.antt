@@ -2,14 +2,14 @@
 use mathlib.Core.Path.{_≡_, sym, ap, _∙_}
 use mathlib.Core.Bool.{Bool, not}
 use mathlib.Core.List.{List, [], _∷_}
-use Prim.Native.Nat.{ℕ, _*_}
+use Prim.Native.Nat.{ℕ}
 use native.Mathlib.Omega.{arith}
 use borrow.Author.Needs.{needs}
 use borrow.Author.Tests.{eq-eqb, ne-eqb}
 use lib.Dec.{eqb}
 use lib.ListN.{length}
 use Rattle.refusal.specs.declared.Refusal.the-variants.{Code}
-use Rattle.refusal.specs.declared.Verdict.the-variants.{Accepted}
+use Rattle.refusal.specs.declared.Verdict.the-variants.{Accepted, Refused}
 use Rattle.refusal.specs.First.{Row, _⇒_, first}
 use Rattle.approximation.specs.Codes.{spareZero, unpacked}
 use Rattle.approximation.specs.PackLaws.{spare-read}
@@ -24,8 +24,8 @@ rows c =
     let args = c .before .before .before .args in
     sizeCauses (args .d) (args .b) (args .n) (length (args .regions .now)) (length (args .codes .now))
 
-abbrev set : (c : tie.After-check-sizes) → Bool
-set c =
+abbrev spare-set : (c : tie.After-check-sizes) → Bool
+spare-set c =
     let args = c .before .before .before .args in
     not (spareZero (args .b) (args .n) (args .codes .now))
 
@@ -59,7 +59,7 @@ returns : tie.Need-returns
 returns c =
     let told = c .before .before in
     let at = told .before .before in
-    refused-last (rows at) (set at) Code (at .before .before .before .args .regions .now) (numbers at) (right told) (ap not (sym (spare (c .before)) ∙ ne-eqb (c .before .bits-at .result) 0 (c .if1 .taken)))
+    refused-last (rows at) (spare-set at) Code (at .before .before .before .args .regions .now) (numbers at) (right told) (ap not (sym (spare (c .before)) ∙ ne-eqb (c .before .bits-at .result) 0 (c .if1 .taken)))
 
 take-all-requires : tie.Need-take-all-requires
 take-all-requires c κs =
@@ -73,13 +73,14 @@ returns-2 c =
     let took = c .before .before in
     let told = took .before .before .before .before in
     let at = told .before .before in
-    accepted-all (rows at) (set at) Code (at .before .before .before .args .regions .now) (numbers at) (right told) (ap not (sym (spare (took .before .before .before)) ∙ eq-eqb (took .before .before .before .bits-at .result) 0 (took .before .before .if1 .left)))
+    accepted-all (rows at) (spare-set at) Code (at .before .before .before .args .regions .now) (numbers at) (right told) (ap not (sym (spare (took .before .before .before)) ∙ eq-eqb (took .before .before .before .bits-at .result) 0 (took .before .before .if1 .left)))
     (rw (← sized told .rows) (took .take-all .ensures))
 
 returns-3 : tie.Need-returns-3
 returns-3 c =
     let at = c .before .before .before in
-    refused-before (rows at) ((set at ⇒ Code) ∷ []) (at .before .before .before .args .regions .now) (numbers at) (sym (at .check-sizes .ensures) ∙ c .before .cause .given .1)
+    let refused : first (rows at) ≡ Refused (c .before .cause .given .0 .0) = rw (← at .check-sizes .ensures) (c .before .cause .given .1) in
+    refused-before (rows at) ((spare-set at ⇒ Code) ∷ []) (at .before .before .before .args .regions .now) (numbers at) refused
 
 pub unpack-spec : {M : Type 1} → statement M
 unpack-spec =

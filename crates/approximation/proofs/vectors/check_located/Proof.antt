@@ -7,11 +7,10 @@ use borrow.Author.Needs.{needs}
 use borrow.Author.Tests.{eq-eqb, ne-eqb}
 use lib.ListN.{length, drop}
 use Rattle.refusal.specs.declared.Refusal.the-variants.{Length, Component, Mark, Outside}
-use Rattle.refusal.specs.First.{Row, _⇒_, first, first-here, first-next}
+use Rattle.refusal.specs.First.{Row, _⇒_, first, outcome-accepted, outcome-refused, first-here, first-next, first-append}
 use Rattle.layout.specs.Layout.{firstMarks}
 use Rattle.layout.specs.Stretch.{marks-length-is, shape}
 use Rattle.partition.specs.Marks.{goodMarks}
-use Rattle.approximation.specs.Pack.{append-accepted, append-refused}
 use Rattle.approximation.specs.VectorCauses.{locateCauses, marks-row}
 use Rattle.approximation.proofs.vectors.check_located.Statement.{statement}
 use Rattle.approximation.proofs.vectors.check_located.Tie as tie
@@ -64,7 +63,7 @@ passed-3 : (c : tie.After-enum-told) → let start = c .before .before .before .
 passed-3 c =
     let test = c .before .before in
     let start = test .before .before .before .before .before in
-    passed-2 (test .before) ∙ append-accepted (mark-row start) (rows 3 start) (sym (checked test) ∙ c .enum-told .given .1)
+    passed-2 (test .before) ∙ first-append (mark-row start) (rows 3 start) ∙ outcome-accepted _ _ (sym (checked test) ∙ c .enum-told .given .1)
 
 returns-3 : tie.Need-returns-3
 returns-3 c = sym (passed-3 (c .before .before) ∙ first-here Outside [] (told (c .before .vectors-inside .ensures) (c .if3 .taken)))
@@ -77,7 +76,7 @@ returns-5 : tie.Need-returns-5
 returns-5 c =
     let test = c .before .before .before in
     let start = test .before .before .before .before .before in
-    sym (passed-2 (test .before) ∙ append-refused (mark-row start) (rows 3 start) (sym (checked test) ∙ c .before .cause .given .1))
+    sym (passed-2 (test .before) ∙ first-append (mark-row start) (rows 3 start) ∙ outcome-refused _ _ (sym (checked test) ∙ c .before .cause .given .1))
 
 pub check-located-spec : {M : Type 1} → statement M
 check-located-spec =

@@ -11,12 +11,12 @@ use borrow.Author.Needs.{needs}
 use borrow.Author.Tests.{not-false, eq-eqb, ne-eqb}
 use Rattle.refusal.specs.declared.Refusal.the-variants.{Dimension, Bits, Count, Length, Component}
 use Rattle.refusal.specs.declared.Verdict.the-variants.{Accepted}
-use Rattle.refusal.specs.First.{Row, first, first-here, first-next, outcome-accepted}
+use Rattle.refusal.specs.First.{Row, first, first-here, first-next}
 use Rattle.limits.specs.Limits.{maxDimensions, maxVectors, isDimensionCount, isVectorCount}
 use Rattle.limits.specs.Tests.{between}
 use Rattle.layout.specs.Layout.{firstMarks}
-use Rattle.layout.specs.Stretch.{shapeCauses, marksLength}
-use Rattle.partition.specs.Making.{makeCauses}
+use Rattle.layout.specs.Stretch.{shapeCauses, marks-length-is}
+use Rattle.partition.specs.Making.{makeCauses, shape-accepted}
 use Rattle.partition.proofs.made.check_making.Statement.{statement}
 use Rattle.partition.proofs.made.check_making.Tie as tie
 
@@ -60,34 +60,33 @@ mul-if4 c =
 returns-4 : tie.Need-returns-4
 returns-4 c =
     let a = c .before .before .before .before .before .before .before .args in
-    sym (passed-3 (c .before) ∙ first-here Length _ (rw (ne-eqb (length (a .vectors .now)) (a .n * a .d) (c .if4 .taken))))
+    sym (passed-3 (c .before) ∙ first-here Length _ (rw (ne-eqb (length (a .vectors .now)) (a .n * a .d) (omega arith))))
 
 shaped : (c : tie.Else2) → let a = c .before .before .before .before .args in first (shapeCauses (a .d) (a .b)) ≡ Accepted
-unfolding first
 shaped c =
-    rw (told (c .before .before .before .is-dimension-count .ensures) (c .before .before .if1 .left), told (c .before .is-bits .ensures) (c .if2 .left))
+    let a = c .before .before .before .before .args in
+    shape-accepted (a .d) (a .b) (told (c .before .before .before .is-dimension-count .ensures) (c .before .before .if1 .left)) (told (c .before .is-bits .ensures) (c .if2 .left))
 
 marks-are : (c : tie.After-marks-length) → let a = c .before .before .before .before .before .before .before .before .args in
     c .marks-length .result ≡ firstMarks (a .d) (a .b) (a .d)
-unfolding marksLength
-marks-are c = c .marks-length .ensures ∙ outcome-accepted _ _ (shaped (c .before .before .before .before))
+marks-are c = c .marks-length .ensures ∙ marks-length-is _ _ (shaped (c .before .before .before .before))
 
 -- whether the marks buffer's length is the exact one, where the vectors' is
 room-told : {value : Bool} (c : tie.After-marks-length) → let a = c .before .before .before .before .before .before .before .before .args in
     eqb (a .room) (c .marks-length .result) ≡ value → not (eqb (length (a .vectors .now)) (a .n * a .d) && eqb (a .room) (firstMarks (a .d) (a .b) (a .d))) ≡ not value
 room-told c is =
     let a = c .before .before .before .before .before .before .before .before .args in
-    rw (eq-eqb (length (a .vectors .now)) (a .n * a .d) (c .before .if4 .left), ← marks-are c, is)
+    rw (eq-eqb (length (a .vectors .now)) (a .n * a .d) (omega (arith, c .before)), ← marks-are c, is)
 
 returns-5 : tie.Need-returns-5
 returns-5 c =
     let a = c .before .before .before .before .before .before .before .before .before .args in
-    sym (passed-3 (c .before .before .before) ∙ first-here Length _ (room-told (c .before) (ne-eqb (a .room) (c .before .marks-length .result) (c .if5 .taken))))
+    sym (passed-3 (c .before .before .before) ∙ first-here Length _ (room-told (c .before) (ne-eqb (a .room) (c .before .marks-length .result) (omega arith))))
 
 passed-4 : (c : tie.Else5) → let start = c .before .before .before .before .before .before .before .before .before in first (rows 0 start) ≡ first (rows 4 start)
 passed-4 c =
     let a = c .before .before .before .before .before .before .before .before .before .args in
-    passed-3 (c .before .before .before) ∙ first-next Length _ (room-told (c .before) (eq-eqb (a .room) (c .before .marks-length .result) (c .if5 .left)))
+    passed-3 (c .before .before .before) ∙ first-next Length _ (room-told (c .before) (eq-eqb (a .room) (c .before .marks-length .result) (omega arith)))
 
 returns-6 : tie.Need-returns-6
 returns-6 c = sym (passed-4 (c .before .before) ∙ first-here Component _ (told (c .before .are-components .ensures) (c .if6 .taken)))

@@ -1,24 +1,17 @@
 -- `make_dimensions` meets its contract: the marks of the first t dimensions are written. Assumes nothing.
 use mathlib.Core.Path.{_≡_, refl, sym, ap, ap₂, _∙_}
-use mathlib.Core.Bool.{false, not, _&&_}
 use mathlib.Core.List.{List, _++_}
 use Prim.Native.Nat.{ℕ, suc, _+_, _-_, _^_, _≤_, _<_}
 use native.Mathlib.Numerals.{add-one}
 use native.Mathlib.Omega.{arith}
-use lib.Dec.{leb}
 use lib.IntN.{ℤ}
 use lib.ListN.{length, take, drop, length-drop}
 use lib.Seq.{length-take-le, take-all, take-append-add, take-append-le}
 use borrow.Author.Needs.{needs}
-use borrow.Author.Tests.{le-leb}
 use borrow.Rule.Slice.PartMut.{midOf, postOf, putMid, same-len-mid}
-use Rattle.refusal.specs.declared.Refusal.the-variants.{Dimension}
-use Rattle.refusal.specs.First.{first-next, outcome-accepted}
-use Rattle.limits.specs.Limits.{maxDimensionBits}
 use Rattle.layout.specs.declared.Stretch.{Stretch}
 use Rattle.layout.specs.Layout.{bitsOf, firstMarks}
-use Rattle.layout.specs.Laws.{bits-le, marks-within}
-use Rattle.layout.specs.Stretch.{shapeCauses, stretchOf, shape}
+use Rattle.layout.specs.Stretch.{stretchOf, shape, Stretches, stretches, dimension-accepted}
 use Rattle.partition.specs.Made.{column, inOrder, madeDimension, madeFirst}
 use Rattle.partition.specs.Making.{Given, given, MarksOf}
 use Rattle.partition.proofs.made.make_dimensions.Statement.{statement}
@@ -44,23 +37,11 @@ written o m k marks last within count =
 -- ---- one dimension's stretch of the marks buffer, s
 
 module _ {d b n : ℕ} {vectors : List ℤ} {room : ℕ} (is : Given d b n vectors room) (t : ℕ) (among : t < d) (s : Stretch) (told : s ≡ stretchOf d b (t + 1)) where
-  stretch-is : s ≡ record { offset = firstMarks d b t; bits = bitsOf d b (suc t) }
-  unfolding stretchOf
-  stretch-is =
-      let numbered : not (leb 1 (t + 1) && leb (t + 1) d) ≡ false = rw (le-leb 1 (t + 1) (omega arith), le-leb (t + 1) d (omega arith)) in
-      let before : t + 1 - 1 ≡ t = omega arith in
-      told ∙ outcome-accepted _ _ (first-next Dimension (shapeCauses d b) numbered ∙ is .shaped) ∙ rw (before, add-one)
+  stretch : Stretches d b (t + 1) s
+  stretch = stretches (dimension-accepted d b t (is .shaped) among) told
 
-  offset-is : s .offset ≡ firstMarks d b t
-  offset-is = ap (λ (u : Stretch). u .offset) stretch-is
-
-  bits-are : s .bits ≡ bitsOf d b (suc t)
-  bits-are = ap (λ (u : Stretch). u .bits) stretch-is
-
-  -- it lies in the buffer
   ends : s .offset + (2 ^ s .bits + 1) ≤ room
-  unfolding firstMarks
-  ends = rw (offset-is, bits-are, is .exact) (marks-within d b d t among)
+  ends = omega (arith, stretch .end, stretch .within, is .exact)
 
   module _ (marks : List ℤ) (same : length marks ≡ room) where
     asked : MarksOf d n t (s .bits) vectors (length (midOf (s .offset) (length marks - s .offset) marks))
@@ -69,7 +50,7 @@ module _ {d b n : ℕ} {vectors : List ℤ} {room : ℕ} (is : Given d b n vecto
         record {
           of-column = record { few = shaped .few; among = among; count = is .count .below };
           some = is .count .above;
-          bits = rw bits-are (bits-le maxDimensionBits d b t (shaped .some) (shaped .bits));
+          bits = stretch .few-bits;
           fits = omega (arith, ends, part-length (s .offset) marks);
           components = is .components;
         }
@@ -77,15 +58,16 @@ module _ {d b n : ℕ} {vectors : List ℤ} {room : ℕ} (is : Given d b n vecto
     turn : (last : List ℤ) → length last ≡ length (midOf (s .offset) (length marks - s .offset) marks)
         → take (2 ^ s .bits + 1) last ≡ madeDimension n (s .bits) (inOrder (column d n vectors t)) → take (firstMarks d b t) marks ≡ madeFirst d b n vectors t
         → take (firstMarks d b (t + 1)) (putMid (s .offset) (length marks - s .offset) marks last) ≡ madeFirst d b n vectors (t + 1)
-    unfolding firstMarks madeFirst
+    unfolding madeFirst
     turn last kept made so-far =
         let o = s .offset in
         let m = 2 ^ s .bits + 1 in
-        let count : firstMarks d b (t + 1) ≡ o + m = rw (add-one t, offset-is, bits-are) in
-        let before : take o marks ≡ madeFirst d b n vectors t = rw offset-is so-far in
-        ap (λ (k : ℕ). take k (putMid o (length marks - o) marks last)) count
+        let start : t + 1 - 1 ≡ t = omega arith in
+        let before : take o marks ≡ madeFirst d b n vectors t = rw (stretch .offset-is, start) so-far in
+        let bits : s .bits ≡ bitsOf d b (suc t) = stretch .bits-are ∙ ap (bitsOf d b) (add-one t) in
+        ap (λ (k : ℕ). take k (putMid o (length marks - o) marks last)) (sym (stretch .end))
         ∙ written o m (length marks - o) marks last (omega (arith, ends)) (omega (arith, ends, part-length o marks))
-        ∙ ap₂ _++_ before (made ∙ ap (λ (w : ℕ). madeDimension n w (inOrder (column d n vectors t))) bits-are)
+        ∙ ap₂ _++_ before (made ∙ ap (λ (w : ℕ). madeDimension n w (inOrder (column d n vectors t))) bits)
         ∙ ap (madeFirst d b n vectors) (sym (add-one t))
 
 -- the call's facts, and the stretch's law at a turn

@@ -2,7 +2,7 @@
 use mathlib.Core.Path.{_≡_, sym, _∙_}
 use lib.ListN.{length}
 use borrow.Author.Needs.{needs}
-use Rattle.refusal.specs.declared.Verdict.the-variants.{Accepted}
+use Rattle.refusal.specs.declared.Verdict.the-variants.{Accepted, Refused}
 use Rattle.refusal.specs.First.{first, outcome-accepted, outcome-refused}
 use Rattle.partition.specs.Making.{makeCauses}
 use Rattle.partition.proofs.made.make_marks.Statement.{statement}
@@ -14,13 +14,14 @@ accepted c = sym (c .before .before .check-making .ensures) ∙ c .enum-told .gi
 
 returns : tie.Need-returns
 returns c =
-    let none = accepted (c .before .before .before) in
-    (sym none, c .before .make-dimensions .ensures ∙ sym (outcome-accepted _ _ none))
+    (sym (accepted (c .before .before .before)), c .before .make-dimensions .ensures ∙ sym (outcome-accepted _ _ (accepted (c .before .before .before))))
+
+refused : (c : tie.After-known-told) → let a = c .before .before .before .before .args in
+    first (makeCauses (a .d) (a .b) (a .n) (a .vectors .now) (length (a .marks .now))) ≡ Refused (c .before .verdict .given .0 .0)
+refused c = sym (c .before .before .before .check-making .ensures) ∙ c .before .verdict .given .1
 
 returns-2 : tie.Need-returns-2
-returns-2 c =
-    let refused = sym (c .before .before .before .check-making .ensures) ∙ c .before .verdict .given .1 in
-    (sym refused, sym (outcome-refused _ _ refused))
+returns-2 c = (sym (refused c), sym (outcome-refused _ _ (refused c)))
 
 pub make-marks-spec : {M : Type 1} → statement M
 make-marks-spec =

@@ -18,11 +18,11 @@ module _ (z : ℤ) (fits : SFits w32 z) (is : isComponent z ≡ true) where
   sum-fits : SFits w32 (toZ w32 (ofZ w32 z) +ℤ pos 1)
   sum-fits = subst⁻¹ (SFits w32) sum (record { sfits = mark-small (sucℤ z) (next-mark z is) })
 
-add-result : tie.Need-add-result
-add-result c = sum-fits (c .args .z) (c .fits .z) (c .pre)
-
 returns : tie.Need-returns
 returns c = toZ-ofZ w32 _ (sum-fits (c .args .z) (c .fits .z) (c .pre)) ∙ sum (c .args .z) (c .fits .z) (c .pre)
+
+add-result : tie.Need-add-result
+add-result c = sum-fits (c .args .z) (c .fits .z) (c .pre)
 
 pub next-spec : {M : Type 1} → statement M
 next-spec = tie.close (tie.spec add-result returns)

@@ -1,8 +1,7 @@
 -- `rank_column` meets its contract: the ranking is accepted, and is that of the column's keys. Assumes nothing.
-use mathlib.Core.Path.{_≡_, refl, sym, ap, _∙_}
+use mathlib.Core.Path.{_≡_, refl, sym, ap, _∙_, subst⁻¹}
 use mathlib.Core.List.{List, map}
 use Prim.Native.Nat.{ℕ, _≤_}
-use native.Mathlib.Omega.{arith}
 use lib.IntN.{ℤ}
 use lib.ListN.{length, length-map}
 use lib.Seq.{length-take-le}
@@ -14,9 +13,9 @@ use Rattle.limits.specs.Limits.{maxVectors}
 use Rattle.whole.specs.Keys.{keyOf}
 use Rattle.order.specs.Rank.{rankCauses, ranking}
 use Rattle.partition.specs.Made.{column}
-use Rattle.partition.specs.Making.{Ranks}
+use Rattle.partition.specs.Making.{ColumnOf, Ranks}
 use Rattle.partition.specs.InOrder.{column-length}
-use Rattle.partition.proofs.Prefix.{back-length, back-within, shared-is}
+use Rattle.partition.proofs.Prefix.{back-within, shared-is}
 use Rattle.partition.proofs.made.rank_column.Statement.{statement}
 use Rattle.partition.proofs.made.rank_column.Tie as tie
 
@@ -37,7 +36,9 @@ keys-hold : tie.Need-array-borrow-prefix-keys
 keys-hold c = search needs
 
 column-keys-requires : tie.Need-column-keys-requires
-column-keys-requires c κs = rw (length-take-le _ _ (keys-hold (c .before))) (c .before .before .pre .0)
+column-keys-requires c κs =
+    let a = c .before .before .args in
+    subst⁻¹ (λ (n : ℕ). ColumnOf (a .d) n (a .t)) (length-take-le _ _ (keys-hold (c .before))) (c .before .before .pre .0)
 
 keys-within : tie.Need-array-share-prefix-keys
 keys-within c = back-within _ _ (c .before .column-keys .last .1 .1 .1 .0) (keys-hold (c .before .before .before)) (c .before .column-keys .kept .1 .1 .1 .0)
@@ -49,8 +50,11 @@ returns c =
     let start = keys .before .before .before in
     let a = start .args in
     let hold = keys-hold (keys .before .before) in
-    let are = shared-is _ _ _ hold (keys .column-keys .kept .1 .1 .1 .0) ∙ (rw (length-take-le _ _ hold) at (keys .column-keys .ensures)) in
-    ranks (a .d) (a .t) (a .vectors .now) (a .numbers .now) (rank .rank .last .1 .0) _ (start .pre .1) (start .pre .0 .count) (rank .rank .kept .1 .0) are (rank .rank .ensures .1)
+    ranks (a .d) (a .t) (a .vectors .now) (a .numbers .now) (rank .rank .last .1 .0) _ (start .pre .1) (start .pre .0 .count) (rank .rank .kept .1 .0)
+    (shared-is _ _ (keys .column-keys .last .1 .1 .1 .0) hold (keys .column-keys .kept .1 .1 .1 .0)
+    ∙ keys .column-keys .ensures
+    ∙ ap (λ (n : ℕ). map keyOf (column (a .d) n (a .vectors .now) (a .t))) (length-take-le _ _ hold))
+    (rank .rank .ensures .1)
 
 pub rank-column-spec : {M : Type 1} → statement M
 rank-column-spec =

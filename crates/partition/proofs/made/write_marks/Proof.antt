@@ -1,13 +1,13 @@
 -- `write_marks` meets its contract: the first i marks are the dimension's, and the last is written behind the loop. Assumes nothing.
 use mathlib.Core.Path.{_≡_, refl, sym, ap, _∙_}
 use mathlib.Core.List.{List}
-use Prim.Native.Nat.{ℕ, _+_, _-_, _*_, _/_, _%_, _^_, _≤_, _<_}
-use native.Mathlib.Nat.{one-mul, mul-le-mul}
+use Prim.Native.Nat.{ℕ, _+_, _-_, _*_, _/_, _^_, _≤_, _<_}
+use native.Mathlib.Nat.{mul-le-mul}
 use native.Mathlib.Omega.{arith}
 use lib.IntN.{ℤ, pos, sucℤ}
 use lib.ListN.{length, take, getD, set, length-set}
 use lib.Seq.{take-all}
-use lib.Pow.{pow-mono, shl-exact}
+use lib.Pow.{pow-mono}
 use mir.Syntax.{w32}
 use mir.Val.{toZ, ofZ}
 use mir.ValLaws.{toZ-ofZ}
@@ -18,6 +18,7 @@ use Rattle.partition.specs.Making.{MarksOf}
 use Rattle.partition.specs.InOrder.{column-ordered}
 use Rattle.partition.specs.MadeDimension.{place-below, made-length, made-at, made-last}
 use Rattle.partition.proofs.Filled.{filled-one}
+use Rattle.partition.proofs.Power.{shifted}
 use Rattle.partition.proofs.made.write_marks.Statement.{statement}
 use Rattle.partition.proofs.made.write_marks.Tie as tie
 
@@ -32,13 +33,10 @@ record Filled (d t w : ℕ) (vectors : List ℤ) (numbers : List ℕ) (room regi
   so-far : take i part ≡ take i (whole d t w vectors numbers)
 
 abbrev Inv-loop : tie.InvT-loop
-Inv-loop d t w vectors numbers part₀ n regions i₀ part i = Filled d t w vectors numbers (length part₀) regions part i
+Inv-loop d t w vectors numbers part₀ n last regions i₀ part i = Filled d t w vectors numbers (length part₀) regions part i
 
 abbrev μ-loop : tie.MeasureT-loop
-μ-loop d t w vectors numbers part₀ n regions i₀ part i = regions - i
-
-shift : (w : ℕ) → w ≤ maxDimensionBits → 1 * 2 ^ w % 2 ^ 64 ≡ 2 ^ w
-shift w few = shl-exact {a = 1} 1 w 64 (omega arith) (omega arith) ∙ one-mul (2 ^ w)
+μ-loop d t w vectors numbers part₀ n last regions i₀ part i = regions - i
 
 -- a product of a region's number and a count of vectors is small
 product : (w i n : ℕ) → w ≤ maxDimensionBits → i < 2 ^ w → n ≤ maxVectors → i * n < 2 ^ 64
@@ -78,23 +76,23 @@ module _ {d t w : ℕ} {vectors : List ℤ} {numbers : List ℕ} {room regions :
       ∙ take-all (2 ^ w + 1) (whole d t w vectors numbers) (omega (arith, count-made)))
 
 loop-holds : tie.Need-loop-holds Inv-loop μ-loop
-loop-holds c = record { count = shift (c .before .args .w) (c .before .pre .0 .bits); among = omega arith; same = refl; so-far = refl }
+loop-holds c = record { count = shifted (c .before .args .w) (c .before .pre .0 .bits); among = omega arith; same = refl; so-far = refl }
 
-mul-component-at : tie.Need-mul-component-at Inv-loop μ-loop
-mul-component-at c =
-    let start = c .before .before .before in
-    let given = start .pre .0 in
-    record { fits = product (start .args .w) (c .before .loop .i) (length (start .args .numbers .now)) (given .bits) (omega (arith, c .before .loop .inv .count)) (given .of-column .count) }
+loop-again : tie.Need-loop-again Inv-loop μ-loop
+loop-again c =
+    turn (c .before .before .before .before .pre .0) (c .before .before .loop .inv) (c .before .loop-test .taken) _
+    (toZ-ofZ w32 _ (record { sfits = c .component-at .ok }) ∙ c .component-at .ensures)
 
 component-at-requires : tie.Need-component-at-requires Inv-loop μ-loop
 component-at-requires c κs =
     let pre = c .before .before .before .pre in
     (pre .0 .of-column, pre .1, place (pre .0) (c .before .loop .inv) (c .loop-test .taken))
 
-loop-again : tie.Need-loop-again Inv-loop μ-loop
-loop-again c =
-    turn (c .before .before .before .before .pre .0) (c .before .before .loop .inv) (c .before .loop-test .taken) _
-    (toZ-ofZ w32 _ (record { sfits = c .component-at .ok }) ∙ c .component-at .ensures)
+mul-component-at : tie.Need-mul-component-at Inv-loop μ-loop
+mul-component-at c =
+    let start = c .before .before .before in
+    let given = start .pre .0 in
+    record { fits = product (start .args .w) (c .before .loop .i) (length (start .args .numbers .now)) (given .bits) (omega (arith, c .before .loop .inv .count)) (given .of-column .count) }
 
 component-at-requires-2 : tie.Need-component-at-requires-2 Inv-loop μ-loop
 component-at-requires-2 c κs =
@@ -122,6 +120,7 @@ write-marks-spec =
     (tie.spec
     Inv-loop
     μ-loop
+    (λ c. omega (arith, c .before .pre .0 .some))
     (λ c. omega (arith, c .before .pre .0 .bits))
     loop-holds
     mul-component-at
@@ -132,7 +131,6 @@ write-marks-spec =
     (λ c. omega arith)
     (λ c. omega arith)
     loop-again
-    (λ c. omega (arith, c .before .before .before .pre .0 .some))
     component-at-requires-2
     next-requires
     (λ c. omega (arith, c .before .before .before .before .before .pre .0 .fits))

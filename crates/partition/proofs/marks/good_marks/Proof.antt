@@ -1,20 +1,15 @@
 -- `good_marks` meets its contract: the dimensions passed are good. Assumes nothing.
 use mathlib.Core.Path.{_≡_, refl, sym, ap, _∙_}
-use mathlib.Core.Bool.{Bool, true, false, not, _&&_}
+use mathlib.Core.Bool.{true}
 use mathlib.Core.List.{List}
-use Prim.Native.Nat.{ℕ, zero, suc, _+_, _-_, _≤_, _<_, zero-le}
-use native.Mathlib.Nat.{eq-or-lt-of-le, le-of-suc-le-suc}
-use mathlib.Core.Logic.{inl, inr}
+use Prim.Native.Nat.{ℕ, suc, _-_, _≤_, zero-le}
 use native.Mathlib.Numerals.{add-one}
 use native.Mathlib.Omega.{arith}
 use borrow.Author.Needs.{needs}
-use borrow.Author.Tests.{le-leb, not-true, not-false}
-use lib.Dec.{leb}
+use borrow.Author.Tests.{not-true, not-false}
 use lib.IntN.{ℤ}
-use Rattle.refusal.specs.declared.Refusal.the-variants.{Dimension}
-use Rattle.refusal.specs.declared.Verdict.the-variants.{Accepted}
-use Rattle.refusal.specs.First.{first, first-next}
-use Rattle.layout.specs.Stretch.{shapeCauses, dimensionCauses, shape}
+use Rattle.limits.specs.Tests.{All, all-next, all-fails}
+use Rattle.layout.specs.Stretch.{dimension-accepted}
 use Rattle.partition.specs.Marks.{dimensionMarks, goodDimension, goodFirst}
 use Rattle.partition.proofs.marks.good_marks.Statement.{statement}
 use Rattle.partition.proofs.marks.good_marks.Tie as tie
@@ -25,36 +20,14 @@ Inv-loop d b marks j₀ j = (j ≤ d) × (goodFirst d b marks j ≡ true)
 abbrev μ-loop : tie.MeasureT-loop
 μ-loop d b marks j₀ j = d - j
 
--- dimension j + 1 is one of the d
-counted : (d b j : ℕ) → first (shapeCauses d b) ≡ Accepted → j < d → first (dimensionCauses d b (j + 1)) ≡ Accepted
-counted d b j accepted below =
-    let in-range : not (leb 1 (j + 1) && leb (j + 1) d) ≡ false =
-    rw (le-leb 1 (j + 1) (omega arith), le-leb (j + 1) d (omega arith)) in
-    first-next Dimension (shapeCauses d b) in-range ∙ accepted
-
--- one dimension more
-next-good : (d b : ℕ) (marks : List ℤ) (j : ℕ) → goodFirst d b marks j ≡ true → goodFirst d b marks (suc j) ≡ goodDimension (dimensionMarks d b marks (suc j))
+first-good : (d b : ℕ) (marks : List ℤ) → All (goodFirst d b marks) (λ j. goodDimension (dimensionMarks d b marks (suc j)))
 unfolding goodFirst
-next-good d b marks j before = rw before
-
--- where one is not good, all together are not
-all-bad : (d b : ℕ) (marks : List ℤ) (n j : ℕ) → j < n → goodDimension (dimensionMarks d b marks (suc j)) ≡ false → goodFirst d b marks n ≡ false
-unfolding goodFirst
-all-bad d b marks zero j below bad = absurd (omega arith)
-all-bad d b marks (suc n) j below bad =
-    elim (eq-or-lt-of-le (le-of-suc-le-suc below)) [
-      | inl e ↦ rw (← e, bad) (and-no (goodFirst d b marks j))
-      | inr l ↦ rw (all-bad d b marks n j l bad)
-    ]
-  where
-    and-no : (t : Bool) → t && false ≡ false
-    and-no true = refl
-    and-no false = refl
+first-good d b marks = record { next = λ j. refl }
 
 part-requires : tie.Need-part-requires Inv-loop μ-loop
 part-requires c κs =
     let start = c .before .before in
-    (counted (start .args .d) (start .args .b) (c .before .loop .j) (start .pre .0) (c .loop-test .taken), start .pre .1)
+    (dimension-accepted (start .args .d) (start .args .b) (c .before .loop .j) (start .pre .0) (c .loop-test .taken), start .pre .1)
 
 -- what the dimension's test gave
 tested : (c : tie.After-good-dimension Inv-loop μ-loop)
@@ -68,14 +41,14 @@ tested c =
 returns : tie.Need-returns Inv-loop μ-loop
 returns c =
     let args = c .before .before .before .before .before .args in
-    sym (all-bad (args .d) (args .b) (args .marks .now) (args .d) (c .before .before .before .before .loop .j) (c .before .before .before .loop-test .taken)
+    sym (all-fails (first-good (args .d) (args .b) (args .marks .now)) (args .d) (c .before .before .before .before .loop .j) (c .before .before .before .loop-test .taken)
     (sym (tested (c .before)) ∙ not-true (c .before .good-dimension .result) (c .if1 .taken)))
 
 loop-again : tie.Need-loop-again Inv-loop μ-loop
 loop-again c =
     let args = c .before .before .before .before .before .args in
     let j = c .before .before .before .before .loop .j in
-    (omega arith, rw (add-one j) (next-good (args .d) (args .b) (args .marks .now) j (c .before .before .before .before .loop .inv .1) ∙ sym (tested (c .before)) ∙ not-false (c .before .good-dimension .result) (c .if1 .left)))
+    (omega arith, rw (add-one j) (all-next (first-good (args .d) (args .b) (args .marks .now)) j (c .before .before .before .before .loop .inv .1) ∙ sym (tested (c .before)) ∙ not-false (c .before .good-dimension .result) (c .if1 .left)))
 
 returns-2 : tie.Need-returns-2 Inv-loop μ-loop
 returns-2 c =

@@ -1,10 +1,8 @@
 -- `part` meets its contract: the stretch lies in the buffer. Assumes nothing.
 use mathlib.Core.Path.{_≡_, sym, ap, _∙_}
 use Prim.Native.Nat.{ℕ, _+_, _-_, _*_, _%_, _^_, _≤_, _<_}
-use native.Mathlib.Nat.{one-mul, mod-eq-of-lt}
 use native.Mathlib.Omega.{arith}
 use borrow.Author.Needs.{needs}
-use lib.Pow.{pow-mono}
 use lib.ListN.{length, take, drop}
 use lib.IntN.{ℤ}
 use mathlib.Core.List.{List}
@@ -12,14 +10,9 @@ use Rattle.layout.specs.declared.Stretch.{Stretch}
 use Rattle.layout.specs.Layout.{bitsOf, firstMarks}
 use Rattle.layout.specs.Stretch.{Stretches, stretches}
 use Rattle.partition.specs.Marks.{dimensionMarks}
+use Rattle.partition.proofs.Power.{shifted}
 use Rattle.partition.proofs.marks.part.Statement.{statement}
 use Rattle.partition.proofs.marks.part.Tie as tie
-
--- the shift loses nothing
-shifted : (w : ℕ) → w ≤ 6 → 1 * 2 ^ w % 2 ^ 64 ≡ 2 ^ w
-shifted w h =
-    let small : 2 ^ w ≤ 64 = pow-mono h in
-    rw (one-mul (2 ^ w)) (mod-eq-of-lt (omega arith))
 
 -- the stretch, with its end as the code computes it
 record Placed (d b j : ℕ) (s : Stretch) (size : ℕ) : Type 0 where

@@ -1,0 +1,5 @@
+-- What the proofs of several functions use.
+pub mod Read
+pub mod Sum
+pub mod Shift
+pub mod Entries

@@ -1,0 +1,15 @@
+-- `dimension_bits` meets its contract. Assumes nothing.
+use native.Mathlib.Nat.{add-zero}
+use borrow.Author.Needs.{needs}
+use borrow.Author.Tests.{lt-ltb, le-ltb}
+use Rattle.distance.proofs.table.dimension_bits.Statement.{statement}
+use Rattle.distance.proofs.table.dimension_bits.Tie as tie
+
+returns : tie.Need-returns
+returns c = rw (lt-ltb (c .before .args .t) (c .before .args .more) (c .if1 .taken))
+
+returns-2 : tie.Need-returns-2
+returns-2 c = rw (le-ltb (c .before .args .t) (c .before .args .more) (c .if1 .left), add-zero)
+
+pub dimension-bits-spec : {M : Type 1} → statement M
+dimension-bits-spec = tie.close (tie.spec (λ c. search needs) returns returns-2)

@@ -1,0 +1,77 @@
+// One dimension's steps. Differences are those of keys.
+use crate::Bound;
+ghost use mathlib.Core.Path.{_≡_};
+ghost use Prim.Native.Nat.{_+_, _-_, _%_, _^_, _≤_, _<_};
+ghost use lib.IntN.{predℤ};
+ghost use Rattle.distance.specs.Distance as Distance;
+ghost use Rattle.distance.specs.Bounds.{shortest, longest};
+ghost use Rattle.distance.specs.Table.{stepOf};
+
+// How far two numbers are apart.
+pub fn gap(a: i32, b: i32) -> u64
+    ensures { λ r. ⌜ (r ≡ Distance.gap a b) × (r < 2 ^ 32) ⌝ }
+{
+    difference(whole::key(a), whole::key(b))
+}
+
+// How far a number is from the last value before a mark.
+fn gap_to_last(q: i32, high: i32) -> u64
+    ensures { λ r. ⌜ (r ≡ Distance.gap q (predℤ high)) × (r ≤ 2 ^ 32) ⌝ }
+{
+    difference(whole::key(q) + 1, whole::key(high))
+}
+
+fn difference(k: u64, l: u64) -> u64
+    ensures { λ r. ⌜ r ≡ (k - l) + (l - k) ⌝ }
+{
+    if k < l {
+        return l - k;
+    }
+    k - l
+}
+
+// What the step to the region from low up to, and without, high adds to a bound, modulo 2^64.
+pub fn squared_step(bound: Bound, q: i32, low: i32, high: i32) -> u64
+    ensures { λ r. ⌜ r ≡ Distance.squared (stepOf bound q low high) % 2 ^ 64 ⌝ }
+{
+    match bound {
+        Bound::Lower => squared(shortest_step(q, low, high)),
+        Bound::Upper => squared(longest_step(q, low, high)),
+    }
+}
+
+// The shortest step to that region.
+fn shortest_step(q: i32, low: i32, high: i32) -> u64
+    ensures { λ r. ⌜ (r ≡ shortest q low high) × (r ≤ 2 ^ 32) ⌝ }
+{
+    if q < low {
+        return gap(low, q);
+    }
+    if high <= q {
+        return gap_to_last(q, high);
+    }
+    0
+}
+
+// The longest step to that region.
+fn longest_step(q: i32, low: i32, high: i32) -> u64
+    ensures { λ r. ⌜ (r ≡ longest q low high) × (r ≤ 2 ^ 32) ⌝ }
+{
+    let first = gap(q, low);
+    let last = gap_to_last(q, high);
+    if first < last {
+        return last;
+    }
+    first
+}
+
+// What a step adds to a distance, modulo 2^64.
+pub fn squared(step: u64) -> u64
+    requires { ⌜ step ≤ 2 ^ 32 ⌝ }
+    ensures { λ r. ⌜ r ≡ Distance.squared step % 2 ^ 64 ⌝ }
+{
+    if step == 0x1_0000_0000 {
+        return 0;
+    }
+    step * step
+}
