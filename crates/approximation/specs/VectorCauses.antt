@@ -1,12 +1,9 @@
 -- The causes for which the regions and the codes of vectors are not given (document 01, "When a call says no"), and what holds where they
 -- are. Assumes nothing.
-use mathlib.Core.Path.{_≡_, ap, _∙_}
-use mathlib.Core.Logic.{inl, inr}
+use mathlib.Core.Path.{_≡_, refl, ap, _∙_}
 use mathlib.Core.Bool.{true, not, _&&_, and-eq-true-iff}
 use mathlib.Core.List.{List, [], _∷_, _++_}
-use Prim.Native.Nat.{ℕ, zero, suc, _*_, _<_}
-use native.Mathlib.Nat.{eq-or-lt-of-le, le-of-suc-le-suc}
-use native.Mathlib.Omega.{arith}
+use Prim.Native.Nat.{ℕ, suc, _*_, _<_}
 use borrow.Author.Tests.{eqb-true, eq-eqb, not-false}
 use lib.Dec.{eqb}
 use lib.IntN.{ℤ}
@@ -15,6 +12,7 @@ use Rattle.refusal.specs.declared.Refusal.the-variants.{Count, Length, Componen
 use Rattle.refusal.specs.declared.Verdict.the-variants.{Accepted}
 use Rattle.refusal.specs.First.{Row, _⇒_, first, outcome-accepted, first-next, first-append, passed, accepted-behind}
 use Rattle.limits.specs.Limits.{isVectorCount}
+use Rattle.limits.specs.Tests.{all-each}
 use Rattle.whole.specs.Components.{areComponents}
 use Rattle.layout.specs.Layout.{firstMarks}
 use Rattle.layout.specs.Stretch.{shapeCauses, Shape, shape}
@@ -82,15 +80,9 @@ inside-marks d b vectors marks shaped accepted =
     }
 
 -- each dimension's marks are good
-pub good-each : (d b : ℕ) (marks : List ℤ) (n t : ℕ) → t < n → goodFirst d b marks n ≡ true → goodDimension (dimensionMarks d b marks (suc t)) ≡ true
+pub good-each : (d b : ℕ) (marks : List ℤ) (t : ℕ) → t < d → goodMarks d b marks ≡ true → goodDimension (dimensionMarks d b marks (suc t)) ≡ true
 unfolding goodFirst
-good-each d b marks zero t below good = absurd (omega arith)
-good-each d b marks (suc n) t below good =
-    let both = and-eq-true-iff (goodFirst d b marks n) (goodDimension (dimensionMarks d b marks (suc n))) .0 good in
-    elim (eq-or-lt-of-le (le-of-suc-le-suc below)) [
-      | inl e ↦ rw e (both .1)
-      | inr l ↦ good-each d b marks n t l (both .0)
-    ]
+good-each d b marks = all-each {all = goodFirst d b marks} {test = λ j. goodDimension (dimensionMarks d b marks (suc j))} (record { next = λ j. refl }) d
 
 -- where the shape and the length are right, only the marks themselves can be refused
 pub marks-row : (d b : ℕ) (marks : List ℤ) → first (shapeCauses d b) ≡ Accepted → length marks ≡ firstMarks d b d

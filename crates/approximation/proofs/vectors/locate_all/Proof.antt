@@ -46,7 +46,7 @@ module _ {d b : ℕ} {vectors marks : List ℤ} {room : ℕ} {regions : List ℕ
       let own = dimensionMarks d b marks (suc column) in
       let z = getD vectors i (pos 0) in
       let tests = and-eq-true-iff (inMarks own z) (insideFrom d b marks (nextColumn d column) (drop (i + 1) vectors)) .0 (rw (inside-next d b marks column vectors i more) at (at .inside)) in
-      let found : r ≡ regionOf own z = located-is (good-each d b marks d column (at .begins-at .inside) (given .good)) (tests .0) (rw (part-is marks exact (at .begins-at) wide is) at located) in
+      let found : r ≡ regionOf own z = located-is (good-each d b marks column (at .begins-at .inside) (given .good)) (tests .0) (rw (part-is marks exact (at .begins-at) wide is) at located) in
       record {
         begins-at = goes-on marks exact (at .begins-at) wide is;
         among = omega arith;
