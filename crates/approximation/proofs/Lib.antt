@@ -2,3 +2,4 @@
 mod Answers
 mod Columns
 mod Writing
+mod Stretches

@@ -7,3 +7,5 @@ pub mod Vectors
 pub mod Cells
 pub mod CellCauses
 pub mod CellLaws
+pub mod VectorCauses
+pub mod OwnCodes

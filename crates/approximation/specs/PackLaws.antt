@@ -74,7 +74,7 @@ module _ (d b : ℕ) (some : 0 < d) where
           let inside : suc r < d = omega (arith, eqb-false (suc r) d e) in
           rw (← add-suc (q * d) r, digits-mod q inside, digits-div q inside) (refl, omega arith)
 
-  next-column : (p : ℕ) → nextColumn d (p % d) ≡ suc p % d
+  pub next-column : (p : ℕ) → nextColumn d (p % d) ≡ suc p % d
   next-column p = next (p / d) (p % d) (mod-lt p some) .0 ∙ rw div-add-mod'
 
   next-before : (p : ℕ) → before d b p + bitsOf d b (suc (p % d)) ≡ before d b (suc p)

@@ -72,7 +72,7 @@ pub fn code_region(d: usize, b: usize, codes: &[u8], i: usize, j: usize) -> usiz
 }
 
 // Whether the numbers of dimensions, bits and vectors are within their limits, and the buffers' lengths the right ones.
-fn check_sizes(d: usize, b: usize, n: usize, regions: usize, codes: usize) -> Verdict
+pub(crate) fn check_sizes(d: usize, b: usize, n: usize, regions: usize, codes: usize) -> Verdict
     ensures { λ r. ⌜ r ≡ first (sizeCauses d b n regions codes) ⌝ }
 {
     match layout::check_shape(d, b) {
@@ -117,7 +117,7 @@ fn regions_fit(d: usize, b: usize, regions: &[u8]) -> bool
 }
 
 // Region numbers packed into as many bytes as hold their bits. Fewer than 8 bits wait for the next byte.
-fn put_all(d: usize, b: usize, regions: &[u8], codes: &mut [u8])
+pub(crate) fn put_all(d: usize, b: usize, regions: &[u8], codes: &mut [u8])
     requires { ⌜ Shape d b × (regionsFit d b 0 (now regions) ≡ true) × (length (now codes) ≡ (length (joined d b 0 (now regions)) + 7) / 8) ⌝ }
     ensures { λ _. ⌜ now (codes .exit) ≡ bytesOf (length (now (codes .entry))) (joined d b 0 (now (regions .entry))) ⌝ }
 {
@@ -168,7 +168,7 @@ fn take_all(d: usize, b: usize, codes: &[u8], regions: &mut [u8])
 }
 
 // The bits of a column's dimension, where each has the fewest and the first ones have one more.
-fn column_bits(fewest: usize, more: usize, column: usize) -> usize
+pub(crate) fn column_bits(fewest: usize, more: usize, column: usize) -> usize
     requires { ⌜ fewest ≤ maxDimensionBits ⌝ }
     ensures { λ r. ⌜ r ≡ fewest + cond (leb (suc column) more) 1 0 ⌝ }
 {
@@ -176,7 +176,7 @@ fn column_bits(fewest: usize, more: usize, column: usize) -> usize
 }
 
 // The column behind a column, the first behind the last.
-fn next_column(d: usize, column: usize) -> usize
+pub(crate) fn next_column(d: usize, column: usize) -> usize
     requires { ⌜ column < d ⌝ }
     ensures { λ r. ⌜ r ≡ nextColumn d column ⌝ }
 {

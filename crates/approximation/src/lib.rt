@@ -2,3 +2,4 @@
 pub mod bits;
 pub mod cells;
 pub mod codes;
+pub mod vectors;

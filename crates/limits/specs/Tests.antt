@@ -1,7 +1,7 @@
 -- Tests of order: two that agree, not below is at least, a number between two others, and tests that all hold. Assumes nothing.
 use mathlib.Core.Path.{_≡_, refl, sym, ap, _∙_}
 use mathlib.Core.Logic.{inl, inr}
-use mathlib.Core.Bool.{Bool, true, false, not, _&&_}
+use mathlib.Core.Bool.{Bool, true, false, not, _&&_, true≢false}
 use Prim.Native.Nat.{ℕ, zero, suc, _≤_, _<_}
 use native.Mathlib.Nat.{eq-or-lt-of-le, le-of-suc-le-suc}
 use native.Mathlib.Omega.{arith}
@@ -79,3 +79,11 @@ all-fails {all} {test} is (suc n) t below fails =
       | inl e ↦ rw (← e, fails) (and-no (all t))
       | inr l ↦ rw (all-fails is n t l fails)
     ]
+
+-- where all hold, each does
+pub all-each : {all test : ℕ → Bool} → All all test → (n t : ℕ) → t < n → all n ≡ true → test t ≡ true
+all-each {all} {test} is n t below holds = go (test t) refl
+  where
+    go : (value : Bool) → test t ≡ value → value ≡ true
+    go true e = refl
+    go false e = absurd (true≢false (sym holds ∙ all-fails is n t below e))

@@ -1,14 +1,14 @@
 -- `codes::pack` meets its contract: the causes in their order, and then the numbers' bits in bytes. Assumes nothing.
 use mathlib.Core.Path.{_≡_, sym, ap, _∙_}
 use mathlib.Core.Bool.{Bool, not}
-use mathlib.Core.List.{List}
+use mathlib.Core.List.{List, [], _∷_}
 use Prim.Native.Nat.{ℕ}
 use borrow.Author.Needs.{needs}
 use borrow.Author.Tests.{not-false}
 use lib.ListN.{length}
 use Rattle.refusal.specs.declared.Refusal.the-variants.{Code}
 use Rattle.refusal.specs.declared.Verdict.the-variants.{Accepted, Refused}
-use Rattle.refusal.specs.First.{Row, first}
+use Rattle.refusal.specs.First.{Row, _⇒_, first}
 use Rattle.approximation.specs.Codes.{regionsFit, packed}
 use Rattle.approximation.specs.PackLaws.{length-joined}
 use Rattle.approximation.specs.Pack.{sizeCauses, Sizes, sizes}
@@ -69,7 +69,7 @@ returns-3 : tie.Need-returns-3
 returns-3 c =
     let at = c .before .before .before in
     let refused : first (rows at) ≡ Refused (c .before .cause .given .0 .0) = rw (← at .check-sizes .ensures) (c .before .cause .given .1) in
-    refused-before (rows at) (past at) Code (at .before .before .before .args .codes .now) (bytes at) refused
+    refused-before (rows at) ((past at ⇒ Code) ∷ []) (at .before .before .before .args .codes .now) (bytes at) refused
 
 pub pack-spec : {M : Type 1} → statement M
 pack-spec =

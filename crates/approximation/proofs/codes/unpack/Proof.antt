@@ -1,7 +1,7 @@
 -- `codes::unpack` meets its contract: the causes in their order, and then the numbers that the bits name. Assumes nothing.
 use mathlib.Core.Path.{_≡_, sym, ap, _∙_}
 use mathlib.Core.Bool.{Bool, not}
-use mathlib.Core.List.{List}
+use mathlib.Core.List.{List, [], _∷_}
 use Prim.Native.Nat.{ℕ}
 use native.Mathlib.Omega.{arith}
 use borrow.Author.Needs.{needs}
@@ -10,7 +10,7 @@ use lib.Dec.{eqb}
 use lib.ListN.{length}
 use Rattle.refusal.specs.declared.Refusal.the-variants.{Code}
 use Rattle.refusal.specs.declared.Verdict.the-variants.{Accepted, Refused}
-use Rattle.refusal.specs.First.{Row, first}
+use Rattle.refusal.specs.First.{Row, _⇒_, first}
 use Rattle.approximation.specs.Codes.{spareZero, unpacked}
 use Rattle.approximation.specs.PackLaws.{spare-read}
 use Rattle.approximation.specs.Pack.{sizeCauses, Sizes, sizes, numbers-le, bits-le}
@@ -80,7 +80,7 @@ returns-3 : tie.Need-returns-3
 returns-3 c =
     let at = c .before .before .before in
     let refused : first (rows at) ≡ Refused (c .before .cause .given .0 .0) = rw (← at .check-sizes .ensures) (c .before .cause .given .1) in
-    refused-before (rows at) (spare-set at) Code (at .before .before .before .args .regions .now) (numbers at) refused
+    refused-before (rows at) ((spare-set at ⇒ Code) ∷ []) (at .before .before .before .args .regions .now) (numbers at) refused
 
 pub unpack-spec : {M : Type 1} → statement M
 unpack-spec =
