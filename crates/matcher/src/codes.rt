@@ -6,6 +6,8 @@ ghost use Rattle.refusal.specs.First.{first, outcome};
 ghost use Rattle.approximation.specs.Codes.{packed, unpacked};
 ghost use Rattle.approximation.specs.Pack.{packCauses, unpackCauses};
 ghost use Rattle.approximation.specs.CellCauses.{codeCauses};
+ghost use Rattle.approximation.specs.Vectors.{vectorRegions, vectorCodes};
+ghost use Rattle.approximation.specs.VectorCauses.{regionsCauses, packVectorsCauses};
 
 // n rows of region numbers packed into codes of b bits.
 #[no_mangle]
@@ -53,4 +55,40 @@ pub extern "C" fn matcher_check_codes(
     ensures { λ r. ⌜ r ≡ verdictNumber (first (codeCauses d b n (now (marks .entry)) (now (codes .entry)))) ⌝ }
 {
     approximation::cells::check_codes(d, b, n, marks, codes).number()
+}
+
+// The regions of n vectors under the marks.
+#[no_mangle]
+pub extern "C" fn matcher_regions(
+    d: usize,
+    b: usize,
+    n: usize,
+    vectors: &[i32],
+    marks: &[i32],
+    regions: &mut [u8],
+) -> u32
+    ensures { λ r. ⌜ r ≡ verdictNumber (first (regionsCauses d b n (now (vectors .entry)) (now (marks .entry)) (length (now (regions .entry))))) ⌝ }
+    ensures { λ _. ⌜ now (regions .exit)
+        ≡ outcome (first (regionsCauses d b n (now (vectors .entry)) (now (marks .entry)) (length (now (regions .entry)))))
+        (vectorRegions d b (now (marks .entry)) (now (vectors .entry))) (λ _. now (regions .entry)) ⌝ }
+{
+    approximation::vectors::regions(d, b, n, vectors, marks, regions).number()
+}
+
+// The codes of n vectors under the marks.
+#[no_mangle]
+pub extern "C" fn matcher_pack_vectors(
+    d: usize,
+    b: usize,
+    n: usize,
+    vectors: &[i32],
+    marks: &[i32],
+    codes: &mut [u8],
+) -> u32
+    ensures { λ r. ⌜ r ≡ verdictNumber (first (packVectorsCauses d b n (now (vectors .entry)) (now (marks .entry)) (length (now (codes .entry))))) ⌝ }
+    ensures { λ _. ⌜ now (codes .exit)
+        ≡ outcome (first (packVectorsCauses d b n (now (vectors .entry)) (now (marks .entry)) (length (now (codes .entry)))))
+        (vectorCodes d b n (now (marks .entry)) (now (vectors .entry))) (λ _. now (codes .entry)) ⌝ }
+{
+    approximation::vectors::pack_vectors(d, b, n, vectors, marks, codes).number()
 }
