@@ -5,6 +5,7 @@ use crate::{
     random::Random,
     reference,
 };
+use std::ops::Range;
 
 /// A component's least and greatest value.
 pub const LEAST: i32 = -32768;
@@ -91,7 +92,7 @@ pub fn library_of_p12() -> Input {
 /// Small libraries of every kind.
 pub fn small_inputs() -> Vec<Input> {
     let mut inputs = vec![library_a([12, 6], 2), library_of_p12()];
-    inputs.extend((0..12).map(|seed| random_input(seed, 6)));
+    inputs.extend((0..30).map(|seed| random_input(seed, 6)));
     inputs
 }
 
@@ -162,7 +163,7 @@ pub fn random_marks(random: &mut Random, d: usize, b: usize, vectors: &[i32]) ->
         return made;
     }
     let near = random.one_of(&[1, 5, 40_000]);
-    let dimension = |part: std::ops::Range<usize>| {
+    let dimension = |part: Range<usize>| {
         let (least, end) = (made[part.start], made[part.end - 1]);
         let (first, last) = match style {
             1 => (LEAST, GREATEST + 1),
@@ -198,4 +199,28 @@ pub fn random_query(random: &mut Random, d: usize, b: usize, vectors: &[i32], ma
         _ => random.between(0, 3),
     };
     (0..d).map(component).collect()
+}
+
+/// Up to three dimensions of up to four regions, each of up to three values, some of none, just above a number: cells whose
+/// vectors can all be tried.
+pub fn small_marks(random: &mut Random, above: i32) -> (usize, usize, Vec<i32>) {
+    let d = 1 + random.below(3);
+    let b = random.below(2 * d + 1);
+    let mut marks = vec![];
+    for part in reference::parts(d, b) {
+        let (regions, mut mark) = (part.len() - 1, above + random.between(0, 3));
+        let full = random.below(regions);
+        marks.push(mark);
+        for region in 0..regions {
+            mark += random.between(i32::from(region == full), 3);
+            marks.push(mark);
+        }
+    }
+    (d, b, marks)
+}
+
+/// A vector inside the marks.
+pub fn vector_inside(random: &mut Random, d: usize, b: usize, marks: &[i32]) -> Vec<i32> {
+    let mut component = |part: Range<usize>| random.between(marks[part.start], marks[part.end - 1] - 1);
+    reference::parts(d, b).into_iter().map(&mut component).collect()
 }

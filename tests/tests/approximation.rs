@@ -116,7 +116,7 @@ fn no_spare_bit_is_taken() {
 #[test]
 fn no_empty_region_is_taken() {
     let (mut taken, mut refused) = (0, 0);
-    for seed in 0..150 {
+    for seed in 0..40 {
         let input = random_input(seed, 6);
         let parts = reference::parts(input.d, input.b);
         for at in 0..input.regions.len() {

@@ -8,7 +8,8 @@ use tests::{
     random::Random,
     reference,
     samples::{
-        self, component, largest_input, library_a, random_input, random_of_shape, small_inputs, GREATEST, LEAST,
+        self, component, largest_input, library_a, random_input, random_of_shape, small_inputs, small_marks,
+        vector_inside, GREATEST, LEAST,
     },
 };
 
@@ -84,54 +85,27 @@ fn random_bounds() {
     }
 }
 
-/// The distances of all vectors of vector i's cell.
-fn cell_distances(input: &Input) -> Vec<i128> {
-    let parts = reference::parts(input.d, input.b);
-    let mut vectors = vec![vec![]];
-    for (dimension, part) in parts.into_iter().enumerate() {
-        let region = usize::from(input.regions[input.i * input.d + dimension]);
-        let (lower, upper) = (input.marks[part.start + region], input.marks[part.start + region + 1]);
-        let longer = |vector: Vec<i32>| (lower..upper).map(move |value| [vector.clone(), vec![value]].concat());
-        vectors = vectors.into_iter().flat_map(longer).collect();
-    }
-    vectors.iter().map(|vector| reference::distance_between(&input.query, vector)).collect()
-}
-
 /// The bounds are the least and the greatest distance of all vectors of the cell, by trying them all.
 #[test]
 fn no_bound_is_off_the_cell() {
     let mut random = Random::new(22);
     for case in 0..6000 {
-        let d = 1 + random.below(3);
-        let b = random.below(2 * d + 1);
-        let parts = reference::parts(d, b);
         let base = random.one_of(&[0, 0, LEAST, GREATEST - 30]);
-        let mut marks: Vec<i32> = vec![];
-        for part in parts {
-            let mut mark = base + random.between(0, 3);
-            marks.extend(part.map(|_| {
-                mark += random.between(0, 3);
-                mark
-            }));
-            let last = marks.len() - 1;
-            marks[last] = marks[last].max(marks[last - 1] + 1);
-        }
-        let vector: Vec<i32> = reference::parts(d, b).into_iter().map(|part| marks[part.end - 1] - 1).collect();
-        let first: Vec<i32> = reference::parts(d, b)
-            .into_iter()
-            .map(|part| random.between(marks[part.start], marks[part.end - 1] - 1))
-            .collect();
+        let (d, b, marks) = small_marks(&mut random, base);
+        let first = vector_inside(&mut random, d, b, &marks);
+        let second = vector_inside(&mut random, d, b, &marks);
         let near: Vec<i32> = (0..d).map(|_| (base + random.between(-3, 20)).clamp(LEAST, GREATEST)).collect();
         let far: Vec<i32> = (0..d).map(|_| random.one_of(&[LEAST, GREATEST])).collect();
         let query = if case % 4 == 0 { far } else { near };
-        let mut input = samples::input(d, b, &marks, &[first, vector].concat(), &query, 1).from(format!("case {case}"));
+        let mut input = samples::input(d, b, &marks, &[first, second].concat(), &query, 1).from(format!("case {case}"));
         for i in 0..2 {
             input.i = i;
             assert_eq!(BOUNDS.number(&input), 0, "case {case}, vector {i}");
-            let distances = cell_distances(&input);
-            let (least, greatest) = (distances.iter().min(), distances.iter().max());
+            let cell = reference::cell_vectors(&input, i);
+            let distances = cell.iter().map(|vector| reference::distance_between(&query, vector));
+            let (least, greatest) = (distances.clone().min(), distances.max());
             let Bounds { lower, upper } = interface::bounds(&input).expect("the library is right");
-            assert_eq!((Some(&lower.into()), Some(&upper.into())), (least, greatest), "case {case}, vector {i}");
+            assert_eq!((least, greatest), (Some(lower.into()), Some(upper.into())), "case {case}, vector {i}");
         }
     }
 }

@@ -31,6 +31,15 @@ pub fn cells(input: &Input) -> Vec<Cell> {
     regions.chunks(input.d).map(|regions| parts.iter().zip(regions).map(values).collect()).collect()
 }
 
+/// "A code's cell is every vector of d components that lie, each, in the region the code names for its dimension."
+pub fn cell_vectors(input: &Input, i: usize) -> Vec<Vec<i32>> {
+    let longer = |vectors: Vec<Vec<i32>>, region: &RangeInclusive<i32>| {
+        let with = |value: i32| vectors.iter().map(move |vector| [vector.as_slice(), &[value]].concat());
+        region.clone().flat_map(with).collect()
+    };
+    cells(input)[i].iter().fold(vec![vec![]], longer)
+}
+
 /// "sums over dimensions of the square of the shortest and longest step from query to region"
 pub fn cell_bounds(query: &[i32], cell: &Cell) -> (i128, i128) {
     let shortest = |(&q, region): (&i32, &RangeInclusive<i32>)| square(q, q.clamp(*region.start(), *region.end()));
