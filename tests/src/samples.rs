@@ -138,7 +138,7 @@ pub fn random_vectors(random: &mut Random, d: usize, n: usize) -> Vec<i32> {
     let centres: Vec<i32> = (0..rows * d).map(|_| component(random)).collect();
     let mut row = 0;
     let mut component = |place: usize| {
-        if place % d == 0 {
+        if place.is_multiple_of(d) {
             row = random.below(rows);
         }
         let centre = centres[row * d + place % d];

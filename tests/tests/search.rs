@@ -241,7 +241,7 @@ fn no_unread_vector_has_a_say() {
 #[test]
 fn no_read_vector_is_taken_outside_its_cell() {
     let mut random = Random::new(36);
-    for seed in 0..600 {
+    for seed in 0..200 {
         let input = random_input(seed, 12);
         let parts = reference::parts(input.d, input.b);
         for number in found(&input).reads {
@@ -271,8 +271,8 @@ fn no_wrong_code_leads_off_the_reading_order() {
         for _ in 0..wrong {
             let i = random.below(input.n);
             let another = random.below(input.n);
-            for dimension in 0..input.d {
-                let (at, part) = (i * input.d + dimension, parts[dimension].clone());
+            for (dimension, part) in parts.iter().enumerate() {
+                let at = i * input.d + dimension;
                 let region = random.below(part.len() - 1);
                 let empty = input.marks[part.start + region] == input.marks[part.start + region + 1];
                 let of_another = input.regions[another * input.d + dimension];

@@ -16,7 +16,7 @@ pub fn packed(d: usize, b: usize, regions: &[u8]) -> Vec<u8> {
         width => format!("{region:0width$b}"),
     };
     let mut text: String = regions.iter().enumerate().map(digits).collect();
-    while text.len() % 8 != 0 {
+    while !text.len().is_multiple_of(8) {
         text.push('0');
     }
     (0..text.len()).step_by(8).map(|start| number(&text[start..start + 8])).collect()
