@@ -1,7 +1,7 @@
 //! The calls on numbers: what each is given, and the causes that it can be refused for.
 
 use crate::{input::Input, interface, reference};
-use std::{fmt::Debug, thread};
+use std::fmt::Debug;
 
 /// One thing that calls are given.
 #[derive(Clone, Copy, PartialEq, Eq, Debug)]
@@ -52,30 +52,26 @@ impl Call {
     pub fn number(&self, input: &Input) -> u32 {
         (self.number)(input)
     }
-}
 
-/// Tells the call and its input if the test fails there.
-struct Told<'a>(&'a str, &'a Input);
-
-impl Drop for Told<'_> {
-    fn drop(&mut self) {
-        if thread::panicking() {
-            eprintln!("failed in {} on {:?}", self.0, self.1);
-        }
+    /// The call agrees with the reference, and this is its number.
+    #[track_caller]
+    pub fn gives(&self, number: u32, input: &Input) {
+        let _told = input.told();
+        assert_eq!(self.number(input), number, "{}: the number due is on the right", self.name);
     }
 }
 
-/// The outcome of both, which is the same.
+/// The number of the outcome of both, which is the same.
 fn agreed<T: PartialEq + Debug>(
     name: &str,
     input: &Input,
     interface: impl Fn(&Input) -> Result<T, u32>,
     reference: impl Fn(&Input) -> Result<T, u32>,
-) -> Result<T, u32> {
-    let _told = Told(name, input);
+) -> u32 {
+    let _told = input.told();
     let outcome = interface(input);
-    assert_eq!(outcome, reference(input), "{name}, {}: the interface is on the left", input.origin);
-    outcome
+    assert_eq!(outcome, reference(input), "{name}: the reference is on the right");
+    outcome.err().unwrap_or(0)
 }
 
 macro_rules! call {
@@ -84,7 +80,7 @@ macro_rules! call {
             name: stringify!($name),
             takes: &[$(Given::$given),*],
             causes: &[$($cause),*],
-            number: |input| agreed(stringify!($name), input, interface::$name, reference::$name).err().unwrap_or(0),
+            number: |input| agreed(stringify!($name), input, interface::$name, reference::$name),
         }
     };
 }

@@ -240,7 +240,7 @@ fn cell_faults(input: &Input, faults: &mut Faults) {
 
 /// The faults of an input that concern a call, in the order of their numbers.
 fn faults_for(call: &Call, input: &Input) -> Vec<Fault> {
-    assert_eq!(call.number(input), 0, "{} refuses {input:?}", call.name);
+    call.gives(0, input);
     let faults: Vec<Fault> = faults(input).into_iter().filter(|fault| fault.concerns(call)).collect();
     assert!(faults.is_sorted_by_key(|fault| fault.cause));
     faults
@@ -276,7 +276,7 @@ fn assert_refused(call: &Call, input: &Input, faults: &[&Fault]) {
         spoilt.origin += &format!("; {}", fault.name);
     }
     let cause = faults.iter().map(|fault| fault.cause).min();
-    assert_eq!(Some(call.number(&spoilt)), cause, "{}, {}", call.name, spoilt.origin);
+    call.gives(cause.expect("there is a fault"), &spoilt);
 }
 
 /// Each buffer that the call takes is refused with 5 at every other length.
@@ -287,7 +287,7 @@ pub fn assert_lengths(call: &Call, input: &Input) {
             let mut spoilt = input.clone();
             resize(&mut spoilt, buffer, length);
             spoilt.origin += &format!("; {buffer:?} of {length} for {exact}");
-            assert_eq!(call.number(&spoilt), 5, "{}, {}", call.name, spoilt.origin);
+            call.gives(5, &spoilt);
         }
     }
 }

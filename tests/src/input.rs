@@ -1,5 +1,7 @@
 //! What the calls are given: one record with everything, of which each call takes its part.
 
+use std::thread;
+
 /// Vectors stand in a row, n rows of d components. For each vector `codes` has its code and `regions` its region numbers.
 #[derive(Clone, PartialEq, Eq, Debug)]
 pub struct Input {
@@ -20,6 +22,24 @@ pub struct Input {
     pub codes: Vec<u8>,
     pub one: One,
     pub room: Room,
+}
+
+impl Input {
+    /// From here to the end of the block, a failing test tells the input.
+    pub fn told(&self) -> Told<'_> {
+        Told(self)
+    }
+}
+
+/// Tells the input if the test is failing when this goes.
+pub struct Told<'a>(&'a Input);
+
+impl Drop for Told<'_> {
+    fn drop(&mut self) {
+        if thread::panicking() {
+            eprintln!("failed on {:?}", self.0);
+        }
+    }
 }
 
 /// What calls on one vector or one dimension are given.

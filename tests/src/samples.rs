@@ -11,6 +11,11 @@ use std::ops::Range;
 pub const LEAST: i32 = -32768;
 pub const GREATEST: i32 = 32767;
 
+/// Every number of dimensions with every number of bits.
+pub fn shapes() -> impl Iterator<Item = (usize, usize)> {
+    (1..=32).flat_map(|d| (0..=6 * d).map(move |b| (d, b)))
+}
+
 /// Vectors inside these marks, with their own codes, and a query for the k nearest.
 pub fn input(d: usize, b: usize, marks: &[i32], vectors: &[i32], query: &[i32], k: usize) -> Input {
     let (n, parts) = (vectors.len() / d, reference::parts(d, b));

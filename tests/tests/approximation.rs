@@ -7,7 +7,7 @@ use tests::{
     interface,
     random::Random,
     reference,
-    samples::{largest_input, library_a, random_input, random_of_shape, small_inputs},
+    samples::{largest_input, library_a, random_input, random_of_shape, shapes, small_inputs},
 };
 
 const CALLS: [Call; 4] = [PACK, PACK_VECTORS, UNPACK, CHECK_CODES];
@@ -16,29 +16,25 @@ const CALLS: [Call; 4] = [PACK, PACK_VECTORS, UNPACK, CHECK_CODES];
 #[test]
 fn no_shape_is_left_out() {
     let mut random = Random::new(11);
-    for (d, b) in (1..=32).flat_map(|d| (0..=6 * d).map(move |b| (d, b))) {
+    for (d, b) in shapes() {
         let n = 1 + random.below(4);
         let mut input = random_of_shape(&mut random, d, b, n).from(format!("d {d}, b {b}"));
-        for call in &CALLS {
-            assert_eq!(call.number(&input), 0, "{}: d {d}, b {b}", call.name);
-        }
+        CALLS.iter().for_each(|call| call.gives(0, &input));
         let widths = reference::bits_of(d, b);
         let region = |place: usize| random.below(1 << widths[place % d]) as u8;
         input.regions = (0..n * d).map(region).collect();
-        assert_eq!(PACK.number(&input), 0, "d {d}, b {b}");
+        PACK.gives(0, &input);
         input.codes = interface::pack(&input).expect("the region numbers are right");
-        assert_eq!(UNPACK.number(&input), 0, "d {d}, b {b}");
+        UNPACK.gives(0, &input);
         assert_eq!(interface::unpack(&input), Ok(input.regions), "d {d}, b {b}");
     }
 }
 
 #[test]
-fn random_libraries() {
+fn no_random_library_goes_wrong() {
     for seed in 0..3000 {
         let input = random_input(seed, if seed % 8 == 0 { 512 } else { 60 });
-        for call in &CALLS {
-            assert_eq!(call.number(&input), 0, "{}, seed {seed}", call.name);
-        }
+        CALLS.iter().for_each(|call| call.gives(0, &input));
     }
 }
 
@@ -89,7 +85,7 @@ fn no_region_past_the_last_is_packed() {
             for region in 0..=255 {
                 other.regions[at] = region;
                 let past = usize::from(region) >> widths[at % input.d] != 0;
-                assert_eq!(PACK.number(&other), if past { 9 } else { 0 }, "seed {seed}: region {region} at {at}");
+                PACK.gives(if past { 9 } else { 0 }, &other);
             }
         }
     }
@@ -106,7 +102,8 @@ fn no_spare_bit_is_taken() {
         for bits in 1..1 << spare {
             let mut other = input.clone();
             *other.codes.last_mut().expect("there are spare bits") |= bits;
-            assert_eq!([UNPACK.number(&other), CHECK_CODES.number(&other)], [9, 9], "seed {seed}: bits {bits}");
+            UNPACK.gives(9, &other);
+            CHECK_CODES.gives(9, &other);
         }
     }
     assert_eq!(tried, [true; 8], "the numbers of spare bits that were tried");
@@ -126,8 +123,7 @@ fn no_empty_region_is_taken() {
                 other.regions[at] = region as u8;
                 other.codes = reference::packed(input.d, input.b, &other.regions);
                 let empty = marks[region] == marks[region + 1];
-                let number = CHECK_CODES.number(&other);
-                assert_eq!(number, if empty { 9 } else { 0 }, "seed {seed}: region {region} at {at}");
+                CHECK_CODES.gives(if empty { 9 } else { 0 }, &other);
                 (taken, refused) = (taken + i32::from(!empty), refused + i32::from(empty));
             }
         }
@@ -187,7 +183,7 @@ fn case_p9_codes_of_library_a() {
 fn case_b_12_with_d_2_is_taken_and_13_is_2() {
     let input = random_of_shape(&mut Random::new(6), 2, 12, 5);
     for call in &CALLS {
-        assert_eq!(call.number(&input), 0, "{}", call.name);
-        assert_eq!(call.number(&Input { b: 13, ..input.clone() }), 2, "{}", call.name);
+        call.gives(0, &input);
+        call.gives(2, &Input { b: 13, ..input.clone() });
     }
 }

@@ -24,7 +24,7 @@ fn pair(query: &[i32], vector: &[i32]) -> Input {
 
 /// Random components, of the full range and close together, in every number of dimensions.
 #[test]
-fn random_distances() {
+fn no_random_distance_is_wrong() {
     let mut random = Random::new(21);
     for case in 0..20_000 {
         let d = 1 + case % 32;
@@ -32,7 +32,7 @@ fn random_distances() {
         let far: Vec<i32> = (0..d).map(|_| component(&mut random)).collect();
         let near: Vec<i32> = query.iter().map(|q| (q + random.between(-3, 3)).clamp(LEAST, GREATEST)).collect();
         for vector in [&far, &near, &query] {
-            assert_eq!(DISTANCE.number(&pair(&query, vector)), 0, "case {case}");
+            DISTANCE.gives(0, &pair(&query, vector));
         }
     }
 }
@@ -66,21 +66,24 @@ fn no_difference_is_squared_wrong() {
 fn no_other_length_of_a_pair_is_taken() {
     for query in 0..=40 {
         for vector in 0..=40 {
-            let number = DISTANCE.number(&pair(&vec![1; query], &vec![2; vector]));
-            let expected = if !(1..=32).contains(&query) { 1 } else { 5 * u32::from(vector != query) };
-            assert_eq!(number, expected, "a query of {query}, a vector of {vector}");
+            let number = match (1..=32).contains(&query) {
+                false => 1,
+                true if query == vector => 0,
+                true => 5,
+            };
+            DISTANCE.gives(number, &pair(&vec![1; query], &vec![2; vector]));
         }
     }
 }
 
 /// Every vector of random libraries.
 #[test]
-fn random_bounds() {
+fn no_random_bound_is_wrong() {
     for seed in 0..2000 {
         let mut input = random_input(seed, if seed % 50 == 0 { 512 } else { 12 });
         for i in (0..input.n).step_by(1 + input.n / 20) {
             input.i = i;
-            assert_eq!(BOUNDS.number(&input), 0, "seed {seed}, vector {i}");
+            BOUNDS.gives(0, &input);
         }
     }
 }
@@ -100,7 +103,7 @@ fn no_bound_is_off_the_cell() {
         let mut input = samples::input(d, b, &marks, &[first, second].concat(), &query, 1).from(format!("case {case}"));
         for i in 0..2 {
             input.i = i;
-            assert_eq!(BOUNDS.number(&input), 0, "case {case}, vector {i}");
+            BOUNDS.gives(0, &input);
             let cell = reference::cell_vectors(&input, i);
             let distances = cell.iter().map(|vector| reference::distance_between(&query, vector));
             let (least, greatest) = (distances.clone().min(), distances.max());
@@ -198,6 +201,6 @@ fn no_refusal_is_missed_in_the_largest_shape() {
 #[test]
 fn case_b_12_with_d_2_is_taken_and_13_is_2() {
     let input = random_of_shape(&mut Random::new(6), 2, 12, 5);
-    assert_eq!(BOUNDS.number(&input), 0);
-    assert_eq!(BOUNDS.number(&Input { b: 13, ..input }), 2);
+    BOUNDS.gives(0, &input);
+    BOUNDS.gives(2, &Input { b: 13, ..input });
 }

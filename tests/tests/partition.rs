@@ -7,7 +7,7 @@ use tests::{
     interface,
     random::Random,
     reference,
-    samples::{self, largest_input, library_a, random_input, random_of_shape, small_inputs, GREATEST, LEAST},
+    samples::{self, largest_input, library_a, random_input, random_of_shape, shapes, small_inputs, GREATEST, LEAST},
 };
 
 const CALLS: [Call; 6] = [STRETCH, CHECK_MARKS, PART, REGION, MAKE_MARKS, REGIONS];
@@ -23,12 +23,10 @@ fn one(marks: &[i32], value: i32) -> Input {
 #[test]
 fn no_stretch_is_out_of_place() {
     let mut input = library_a([0, 0], 1);
-    for d in 1..=32 {
-        for b in 0..=6 * d {
-            for j in 1..=d {
-                (input.d, input.b, input.j) = (d, b, j);
-                assert_eq!(STRETCH.number(&input), 0, "d {d}, b {b}, j {j}");
-            }
+    for (d, b) in shapes() {
+        for j in 1..=d {
+            (input.d, input.b, input.j) = (d, b, j);
+            STRETCH.gives(0, &input);
         }
     }
 }
@@ -37,7 +35,7 @@ fn no_stretch_is_out_of_place() {
 #[test]
 fn no_bit_is_lost() {
     let mut input = library_a([0, 0], 1);
-    for (d, b) in (1..=32).flat_map(|d| (0..=6 * d).map(move |b| (d, b))) {
+    for (d, b) in shapes() {
         let (mut bits, mut offset) = (0, 0);
         for j in 1..=d {
             (input.d, input.b, input.j) = (d, b, j);
@@ -63,9 +61,8 @@ fn no_value_is_in_a_wrong_region() {
             let mut input = one(marks, 0);
             for value in (LEAST - 3..=GREATEST + 3).chain([i32::MIN, i32::MAX]) {
                 input.one.value = value;
-                let number = REGION.number(&input);
                 let inside = marks[0] <= value && value < marks[marks.len() - 1];
-                assert_eq!(number, if inside { 0 } else { 8 }, "{value} in {marks:?}");
+                REGION.gives(if inside { 0 } else { 8 }, &input);
             }
         }
     }
@@ -92,7 +89,7 @@ fn no_other_number_of_regions_is_taken() {
         let mut input = one(&vec![0; regions.min(300) + 1], -1);
         (input.one.regions, input.one.marks[0]) = (regions, -1);
         let good = [1, 2, 4, 8, 16, 32, 64].contains(&regions);
-        assert_eq!(REGION.number(&input), if good { 0 } else { 2 }, "{regions} regions");
+        REGION.gives(if good { 0 } else { 2 }, &input);
     }
 }
 
@@ -101,13 +98,13 @@ fn no_other_number_of_regions_is_taken() {
 fn no_bad_mark_is_taken_at_any_place() {
     for seed in 0..60 {
         let input = random_input(seed, 8);
-        assert_eq!(CHECK_MARKS.number(&input), 0);
+        CHECK_MARKS.gives(0, &input);
         for part in reference::parts(input.d, input.b) {
             for at in part.clone() {
                 let mut spoilt = input.clone();
                 let mut refused = |mark: i32| {
                     spoilt.marks[at] = mark;
-                    assert_eq!(CHECK_MARKS.number(&spoilt), 7, "seed {seed}: {mark} at {at}");
+                    CHECK_MARKS.gives(7, &spoilt);
                 };
                 [LEAST - 1, GREATEST + 2, i32::MIN, i32::MAX, LEAST - 65536].into_iter().for_each(&mut refused);
                 if at > part.start && input.marks[at - 1] > LEAST {
@@ -128,13 +125,10 @@ fn no_good_marks_are_refused() {
         for b in [0, 1, d, 3 * d + 1, 6 * d] {
             let mut input = random_of_shape(&mut Random::new(3), d, b, 2);
             for (first, last) in [(LEAST, GREATEST + 1), (LEAST, LEAST), (0, 0), (GREATEST + 1, GREATEST + 1)] {
-                let marks = |part: std::ops::Range<usize>| {
-                    part.clone().map(move |at| if at == part.start { first } else { last })
-                };
-                input.marks = reference::parts(d, b).into_iter().flat_map(marks).collect();
-                for call in [CHECK_MARKS, PART] {
-                    assert_eq!(call.number(&input), 0, "{}: d {d}, b {b}, marks {first} to {last}", call.name);
-                }
+                input.marks.fill(last);
+                reference::parts(d, b).iter().for_each(|part| input.marks[part.start] = first);
+                CHECK_MARKS.gives(0, &input);
+                PART.gives(0, &input);
             }
         }
     }
@@ -149,7 +143,7 @@ fn no_part_is_another_dimensions() {
             let mut input = random_of_shape(&mut random, d, b, 3);
             for j in 1..=d {
                 input.j = j;
-                assert_eq!(PART.number(&input), 0, "d {d}, b {b}, j {j}");
+                PART.gives(0, &input);
             }
         }
     }
@@ -164,7 +158,7 @@ fn no_mark_is_made_from_a_wrong_place() {
             for b in 0..=6 {
                 let marks = reference::made_marks(1, b, &vectors);
                 let input = samples::input(1, b, &marks, &vectors, &[0], 1);
-                assert_eq!(MAKE_MARKS.number(&input), 0, "b {b}, {vectors:?}");
+                MAKE_MARKS.gives(0, &input);
             }
         }
     }
@@ -176,7 +170,8 @@ fn no_made_marks_leave_a_vector_outside() {
     for seed in 0..1500 {
         let mut input = random_input(seed, 512);
         input.marks = interface::make_marks(&input).expect("the vectors are right");
-        assert_eq!([CHECK_MARKS.number(&input), REGIONS.number(&input)], [0, 0], "seed {seed}");
+        CHECK_MARKS.gives(0, &input);
+        REGIONS.gives(0, &input);
     }
 }
 
@@ -184,22 +179,18 @@ fn no_made_marks_leave_a_vector_outside() {
 #[test]
 fn no_shape_is_left_out() {
     let mut random = Random::new(5);
-    for (d, b) in (1..=32).flat_map(|d| (0..=6 * d).map(move |b| (d, b))) {
+    for (d, b) in shapes() {
         let n = 1 + random.below(4);
         let input = random_of_shape(&mut random, d, b, n).from(format!("d {d}, b {b}"));
-        for call in &CALLS {
-            assert_eq!(call.number(&input), 0, "{}: d {d}, b {b}", call.name);
-        }
+        CALLS.iter().for_each(|call| call.gives(0, &input));
     }
 }
 
 #[test]
-fn random_libraries() {
+fn no_random_library_goes_wrong() {
     for seed in 0..3000 {
         let input = random_input(seed, if seed % 8 == 0 { 512 } else { 60 });
-        for call in &CALLS {
-            assert_eq!(call.number(&input), 0, "{}, seed {seed}", call.name);
-        }
+        CALLS.iter().for_each(|call| call.gives(0, &input));
     }
 }
 
@@ -246,7 +237,7 @@ fn no_refusal_is_missed_in_the_largest_shape() {
     CALLS.iter().for_each(|call| assert_each_refusal(call, &largest_input()));
 }
 
-/// A component far from its place: each vector's each component out of range, and just outside the marks.
+/// Each component of each vector out of range, and just outside the marks.
 #[test]
 fn no_vector_is_taken_outside_the_range_or_the_marks() {
     for seed in 0..40 {
@@ -256,15 +247,15 @@ fn no_vector_is_taken_outside_the_range_or_the_marks() {
             let mut spoilt = input.clone();
             for value in [LEAST - 1, GREATEST + 1, i32::MIN, i32::MAX, input.vectors[at] ^ 1 << 16] {
                 spoilt.vectors[at] = value;
-                let numbers = [MAKE_MARKS.number(&spoilt), REGIONS.number(&spoilt)];
-                assert_eq!(numbers, [6, 6], "seed {seed}: {value} at {at}");
+                MAKE_MARKS.gives(6, &spoilt);
+                REGIONS.gives(6, &spoilt);
             }
             let part = parts[at % input.d].clone();
             for value in [input.marks[part.start] - 1, input.marks[part.end - 1]] {
                 if (LEAST..=GREATEST).contains(&value) {
                     spoilt.vectors[at] = value;
-                    let numbers = [MAKE_MARKS.number(&spoilt), REGIONS.number(&spoilt)];
-                    assert_eq!(numbers, [0, 8], "seed {seed}: {value} at {at}");
+                    MAKE_MARKS.gives(0, &spoilt);
+                    REGIONS.gives(8, &spoilt);
                 }
             }
         }
@@ -284,7 +275,7 @@ fn case_p10_marks_made_from_library_a() {
 fn case_b_12_with_d_2_is_taken_and_13_is_2() {
     let input = random_of_shape(&mut Random::new(6), 2, 12, 5);
     for call in [STRETCH, CHECK_MARKS, PART, MAKE_MARKS, REGIONS] {
-        assert_eq!(call.number(&input), 0, "{}", call.name);
-        assert_eq!(call.number(&Input { b: 13, ..input.clone() }), 2, "{}", call.name);
+        call.gives(0, &input);
+        call.gives(2, &Input { b: 13, ..input.clone() });
     }
 }

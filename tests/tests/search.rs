@@ -8,7 +8,7 @@ use tests::{
     random::Random,
     reference,
     samples::{
-        self, component, largest_input, library_a, library_of_p12, random_input, random_of_shape, small_inputs,
+        self, component, largest_input, library_a, library_of_p12, random_input, random_of_shape, shapes, small_inputs,
         GREATEST, LEAST,
     },
 };
@@ -22,12 +22,13 @@ fn found(input: &Input) -> Found {
 
 /// The search is right by the reference, and its answer is the full scan's.
 fn assert_found(input: &Input) {
-    assert_eq!([SCAN.number(input), SEARCH.number(input)], [0, 0], "{}", input.origin);
-    assert_eq!(Ok(found(input).entries), interface::scan(input), "{}", input.origin);
+    let _told = input.told();
+    CALLS.iter().for_each(|call| call.gives(0, input));
+    assert_eq!(Ok(found(input).entries), interface::scan(input), "the search, the scan");
 }
 
 #[test]
-fn random_libraries() {
+fn no_random_library_goes_wrong() {
     for seed in 0..12_000 {
         assert_found(&random_input(seed, if seed % 100 == 0 { 512 } else { 50 }));
     }
@@ -37,7 +38,7 @@ fn random_libraries() {
 #[test]
 fn no_shape_is_left_out() {
     let mut random = Random::new(31);
-    for (d, b) in (1..=32).flat_map(|d| (0..=6 * d).map(move |b| (d, b))) {
+    for (d, b) in shapes() {
         let n = 1 + random.below(6);
         assert_found(&random_of_shape(&mut random, d, b, n).from(format!("d {d}, b {b}")));
     }
@@ -75,9 +76,8 @@ fn no_k_is_taken_for_another() {
     for seed in 0..200 {
         let input = random_input(seed, 30);
         for k in 0..=input.n + 2 {
-            let numbers = CALLS.map(|call| call.number(&input.clone().with_k(k)));
-            let expected = if (1..=input.n).contains(&k) { 0 } else { 4 };
-            assert_eq!(numbers, [expected; 2], "seed {seed}, k {k}");
+            let number = if (1..=input.n).contains(&k) { 0 } else { 4 };
+            CALLS.iter().for_each(|call| call.gives(number, &input.clone().with_k(k)));
         }
     }
 }
@@ -231,7 +231,7 @@ fn no_unread_vector_has_a_say() {
                 unread += 1;
             }
         }
-        assert_eq!(SEARCH.number(&other), 0, "seed {seed}");
+        SEARCH.gives(0, &other);
         assert_eq!(interface::search(&other), Ok(found), "seed {seed}");
     }
     assert!(unread > 5000, "{unread} unread vectors");
@@ -251,7 +251,7 @@ fn no_read_vector_is_taken_outside_its_cell() {
                 let mut other = input.clone();
                 for value in [marks[0] - 1, marks[1], random.one_of(&[i32::MIN, i32::MAX, marks[1] + (1 << 16)])] {
                     other.vectors[at] = value;
-                    assert_eq!(SEARCH.number(&other), 10, "seed {seed}: {value} at {at}");
+                    SEARCH.gives(10, &other);
                 }
             }
         }
@@ -379,12 +379,12 @@ fn case_p12_an_equal_bound_is_read() {
 #[test]
 fn case_k_5_with_library_a_reads_all_and_6_is_4() {
     let input = library_a([12, 6], 5);
-    assert_eq!(SEARCH.number(&input), 0);
+    SEARCH.gives(0, &input);
     let mut reads = found(&input).reads;
     reads.sort();
     assert_eq!(reads, [0, 1, 2, 3, 4]);
     for k in [0, 6] {
-        assert_eq!(CALLS.map(|call| call.number(&input.clone().with_k(k))), [4, 4], "k {k}");
+        CALLS.iter().for_each(|call| call.gives(4, &input.clone().with_k(k)));
     }
 }
 
@@ -392,6 +392,6 @@ fn case_k_5_with_library_a_reads_all_and_6_is_4() {
 #[test]
 fn case_b_12_with_d_2_is_taken_and_13_is_2() {
     let input = random_of_shape(&mut Random::new(6), 2, 12, 5);
-    assert_eq!(SEARCH.number(&input), 0);
-    assert_eq!(SEARCH.number(&Input { b: 13, ..input }), 2);
+    SEARCH.gives(0, &input);
+    SEARCH.gives(2, &Input { b: 13, ..input });
 }
