@@ -133,7 +133,7 @@ fn ends(count: usize) -> Vec<usize> {
     ends
 }
 
-/// Faults of an input that is right: each has its cause by itself, whatever faults of a higher number there are besides.
+/// Faults of an input that is right: each has its cause, whatever faults of a higher number there are besides.
 fn faults(input: &Input) -> Vec<Fault> {
     const WIDE: usize = 1 << 32;
     let mut faults = Faults(vec![]);
@@ -251,8 +251,8 @@ pub fn assert_each_refusal(call: &Call, input: &Input) {
     faults_for(call, input).iter().for_each(|fault| assert_refused(call, input, &[fault]));
 }
 
-/// Each fault is refused with its number, and of any two faults the one with the lower number decides. Each cause of the
-/// call is there.
+/// Each fault is refused with its number, and of any two faults the one with the lower number decides. Each cause of
+/// the call is there.
 pub fn assert_refusals(call: &Call, inputs: &[Input]) {
     let mut causes = vec![];
     for input in inputs {

@@ -2,7 +2,7 @@
 
 use std::thread;
 
-/// Vectors stand in a row, n rows of d components. For each vector `codes` has its code and `regions` its region numbers.
+/// Vectors stand in a row, n rows of d components; `codes` has each vector's code, `regions` its region numbers.
 #[derive(Clone, PartialEq, Eq, Debug)]
 pub struct Input {
     /// where the input comes from

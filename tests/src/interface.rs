@@ -1,5 +1,5 @@
 //! The matcher's C interface. Each call is wrapped in a function that gives what the call answers, or the number of the
-//! refusal, and that holds the call to leaving as it was what it has no right to change, most of all where it is refused.
+//! refusal, and that holds the call to leaving as it was what it has no right to change, refused or not.
 
 mod approximation;
 mod distance;

@@ -1,5 +1,5 @@
-//! Document 01 in Rust, written from the document alone: what the matcher's answers are held to. Where there is an obvious
-//! method, this is another one. A call's outcome is what it answers, or the number of the refusal.
+//! Document 01 in Rust, written from the document alone: what the matcher's answers are held to. Where there is an
+//! obvious method, this is another one. A call's outcome is what it answers, or the number of the refusal.
 
 mod approximation;
 mod causes;

@@ -134,8 +134,8 @@ pub fn component(random: &mut Random) -> i32 {
     random.between(LEAST, GREATEST)
 }
 
-/// n rows of d components: all equal, of two values, of the full range, in clusters, with equal rows, of a few values (so
-/// that distances tie), at the ends of the range.
+/// n rows of d components: all equal, of two values, of the full range, in clusters, with equal rows, of a few values
+/// (so that distances tie), at the ends of the range.
 pub fn random_vectors(random: &mut Random, d: usize, n: usize) -> Vec<i32> {
     let style = random.below(7);
     let (x, y) = (component(random), component(random));
@@ -187,7 +187,7 @@ pub fn random_marks(random: &mut Random, d: usize, b: usize, vectors: &[i32]) ->
     reference::parts(d, b).into_iter().flat_map(dimension).collect()
 }
 
-/// A query anywhere, at the ends of the scale, at a vector, beside one, at marks and just below them, or of a few values.
+/// A query anywhere, at the ends of the scale, at a vector, beside one, at marks or just below, or of a few values.
 pub fn random_query(random: &mut Random, d: usize, b: usize, vectors: &[i32], marks: &[i32]) -> Vec<i32> {
     let style = random.below(6);
     let vector = vectors.chunks(d).nth(random.below(vectors.len() / d)).expect("there is such a vector");
@@ -206,8 +206,8 @@ pub fn random_query(random: &mut Random, d: usize, b: usize, vectors: &[i32], ma
     (0..d).map(component).collect()
 }
 
-/// Up to three dimensions of up to four regions, each of up to three values, some of none, just above a number: cells whose
-/// vectors can all be tried.
+/// Up to three dimensions of up to four regions, each of up to three values, some of none, just above a number: cells
+/// whose vectors can all be tried.
 pub fn small_marks(random: &mut Random, above: i32) -> (usize, usize, Vec<i32>) {
     let d = 1 + random.below(3);
     let b = random.below(2 * d + 1);

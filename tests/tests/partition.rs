@@ -81,7 +81,7 @@ fn no_list_of_small_marks_goes_wrong() {
     }
 }
 
-/// Numbers of regions from 0 on, and powers of two up to the largest, with as many marks as they ask for where that can be.
+/// Numbers of regions from 0 on and about each power of two, with as many marks as they ask for, up to 301.
 #[test]
 fn no_other_number_of_regions_is_taken() {
     let powers = (0..64).flat_map(|bits| [1usize << bits, (1 << bits) + 1, (1usize << bits).wrapping_sub(1)]);
@@ -118,7 +118,7 @@ fn no_bad_mark_is_taken_at_any_place() {
     }
 }
 
-/// Marks from end to end of the scale, all marks equal, and a fall from one dimension to the next: none of them is a fault.
+/// Marks from end to end of the scale, all equal, falling from one dimension to the next: none of these is a fault.
 #[test]
 fn no_good_marks_are_refused() {
     for d in 1..=32 {

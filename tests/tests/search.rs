@@ -1,4 +1,4 @@
-//! The full scan and the search (document 01, "Distance, bounds, reading order"): the C interface against the reference.
+//! Scan and search (document 01, "Distance, bounds, reading order"): the C interface against the reference.
 
 use tests::{
     calls::{Call, SCAN, SEARCH},
@@ -101,8 +101,8 @@ fn no_tie_is_lost() {
     }
 }
 
-/// All vectors equal: the lowest numbers are the answer. In one cell of more than a point all is read while the bound is
-/// below the distance, and in a cell of one point no more than k.
+/// All vectors equal: the lowest numbers are the answer. Where the cell's least distance is theirs, no more than k are
+/// read, and where it is below, all.
 #[test]
 fn no_equal_vectors_are_put_out_of_order() {
     for n in [1usize, 2, 7, 512] {
@@ -118,7 +118,7 @@ fn no_equal_vectors_are_put_out_of_order() {
     }
 }
 
-/// Every library of up to three vectors in one dimension of two regions with marks from 0 to 3, every query from -1 to 4.
+/// Every library of up to three vectors in one dimension of two regions, marks from 0 to 3, every query from -1 to 4.
 #[test]
 fn no_tiny_library_goes_wrong() {
     let mut libraries = 0;
@@ -165,8 +165,8 @@ fn no_vector_is_read_without_need() {
 }
 
 /// Holds a search to document 01: "A set of pattern numbers settles the answer if, whatever vectors of their own cells
-/// stand at all the other numbers, with all else that the search is given kept, a full scan gives the answer's k numbers
-/// and distances." Sets of numbers are bits here.
+/// stand at all the other numbers, with all else that the search is given kept, a full scan gives the answer's k
+/// numbers and distances." Sets of numbers are bits here.
 fn assert_settled(input: &Input) {
     let Input { n, k, query, .. } = input;
     let told = &input.origin;

@@ -45,7 +45,7 @@ pub fn check_marks(input: &Input) -> Result<(), u32> {
     outcome(number, ())
 }
 
-/// The part that is handed back, element by element. It has no element past its end, and none at all where it is refused.
+/// The part that is handed back, element by element: none past its end, and none at all where it is refused.
 pub fn part(input: &Input) -> Result<Vec<i32>, u32> {
     let &Input { d, b, j, .. } = input;
     let mut marks = Lent::given(&input.marks);

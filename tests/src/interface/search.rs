@@ -1,4 +1,4 @@
-//! The full scan and the search. Safe for each call: a pointer leads to as many elements as are named with it, or to one.
+//! Scan and search. Safe for each call: a pointer leads to as many elements as are named with it, or to one.
 
 use super::lent::{counted, Lent};
 use crate::input::{Entry, Found, Input};

@@ -4,8 +4,8 @@ use super::causes;
 use crate::input::{Input, Stretch};
 use std::{collections::BTreeMap, ops::Range};
 
-/// "Dimension j, from 1, has b div d bits, and one more if j ≤ b mod d": the bits are dealt out one at a time, to dimension
-/// 1 first. The dimensions stand from 0 here.
+/// "Dimension j, from 1, has b div d bits, and one more if j ≤ b mod d": the bits are dealt out one at a time, to
+/// dimension 1 first. The dimensions stand from 0 here.
 pub fn bits_of(d: usize, b: usize) -> Vec<usize> {
     let mut bits = vec![0; d];
     (0..b).for_each(|bit| bits[bit % d] += 1);

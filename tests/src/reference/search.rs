@@ -36,8 +36,8 @@ pub fn scan(input: &Input) -> Result<Vec<Entry>, u32> {
     Ok(entries(best(&pairs, *k)))
 }
 
-/// "The search reads patterns in order of (L, number). It reads the next while fewer than k have been read, or while its
-/// pair is below the pair (distance, number) of the k-th best read so far."
+/// "The search reads patterns in order of (L, number). It reads the next while fewer than k have been read, or while
+/// its pair is below the pair (distance, number) of the k-th best read so far."
 pub fn search(input: &Input) -> Result<Found, u32> {
     let Input { d, b, n, k, query, marks, codes, vectors, room, .. } = input;
     causes::shape(*d, *b)?;
