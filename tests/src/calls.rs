@@ -56,8 +56,9 @@ impl Call {
     /// The call agrees with the reference, and this is its number.
     #[track_caller]
     pub fn gives(&self, number: u32, input: &Input) {
+        let given = self.number(input);
         let _told = input.told();
-        assert_eq!(self.number(input), number, "{}: the number due is on the right", self.name);
+        assert_eq!(given, number, "{}: the number due is on the right", self.name);
     }
 }
 

@@ -135,6 +135,7 @@ fn ends(count: usize) -> Vec<usize> {
 
 /// Faults of an input that is right: each has its cause, whatever faults of a higher number there are besides.
 fn faults(input: &Input) -> Vec<Fault> {
+    // not seen in a count's low 32 bits
     const WIDE: usize = 1 << 32;
     let mut faults = Faults(vec![]);
     let Input { d, b, n, k, j, i, .. } = *input;

@@ -22,8 +22,8 @@ fn found(input: &Input) -> Found {
 
 /// The search is right by the reference, and its answer is the full scan's.
 fn assert_found(input: &Input) {
-    let _told = input.told();
     CALLS.iter().for_each(|call| call.gives(0, input));
+    let _told = input.told();
     assert_eq!(Ok(found(input).entries), interface::scan(input), "the search, the scan");
 }
 
@@ -164,55 +164,55 @@ fn no_vector_is_read_without_need() {
     assert!(tried > 2000 && spared > 1000, "{tried} libraries, {spared} with unread vectors");
 }
 
+/// Every row of vectors of their own cells, with the set of the numbers at which it differs from the library's. Sets of
+/// numbers are bits.
+fn rows(input: &Input) -> Vec<(usize, Vec<i32>)> {
+    let mut rows = vec![(0, vec![])];
+    for (i, own) in input.vectors.chunks(input.d).enumerate() {
+        let cell = reference::cell_vectors(input, i);
+        let longer = |(set, row): &(usize, Vec<i32>)| {
+            let (set, row) = (*set, row.clone());
+            cell.iter().map(move |vector| (set | usize::from(vector != own) << i, [&row[..], vector].concat()))
+        };
+        rows = rows.iter().flat_map(longer).collect();
+    }
+    rows
+}
+
 /// Holds a search to document 01: "A set of pattern numbers settles the answer if, whatever vectors of their own cells
 /// stand at all the other numbers, with all else that the search is given kept, a full scan gives the answer's k
-/// numbers and distances." Sets of numbers are bits here.
+/// numbers and distances." What is read settles the answer; each number that is read, and whose cell has two distances,
+/// can change it alone; and every set that settles it holds all of these.
 fn assert_settled(input: &Input) {
-    let Input { n, k, query, .. } = input;
-    let told = &input.origin;
+    let _told = input.told();
     let found = found(input);
-    let cells: Vec<Vec<Vec<i32>>> = (0..*n).map(|i| reference::cell_vectors(input, i)).collect();
-    let own: Vec<&[i32]> = input.vectors.chunks(input.d).collect();
-    let answer: Vec<(i128, usize)> =
-        found.entries.iter().map(|&(number, distance)| (distance.into(), number as usize)).collect();
-    let reads: u32 = found.reads.iter().map(|&number| 1 << number).sum();
-
-    // the sets at which all vectors can be replaced by others of their cells so that the answer is another
-    let mut changing = vec![false; 1 << n];
-    let mut searches = 0;
-    for choice in 0..cells.iter().map(Vec::len).product() {
-        let (mut rest, mut replaced, mut vectors) = (choice, 0u32, vec![]);
-        for (i, cell) in cells.iter().enumerate() {
-            let vector = &cell[rest % cell.len()];
-            rest /= cell.len();
-            replaced |= u32::from(vector != own[i]) << i;
-            vectors.push(vector);
-        }
-        let pairs: Vec<(i128, usize)> =
-            vectors.iter().enumerate().map(|(i, vector)| (reference::distance_between(query, vector), i)).collect();
-        changing[replaced as usize] |= reference::best(&pairs, *k) != answer;
-        if replaced & reads == 0 && searches < 20 {
-            searches += 1;
-            let vectors = vectors.into_iter().flatten().copied().collect();
-            let other = Input { vectors, ..input.clone() };
-            assert_eq!(interface::search(&other), Ok(found.clone()), "{told}: with others unread, {other:?}");
-        }
-    }
-    let sets = || 0..1u32 << n;
-    let settles = |set: u32| !sets().any(|replaced| replaced & set == 0 && changing[replaced as usize]);
-
-    assert!(settles(reads), "{told}: what is read settles nothing, {input:?}");
-    let has_two_bounds = |&number: &u32| {
+    let has_two = |&number: &u32| {
         let bounds = interface::bounds(&Input { i: number as usize, ..input.clone() }).expect("the library is right");
         bounds.lower != bounds.upper
     };
-    let two_bounds: u32 = found.reads.iter().filter(|number| has_two_bounds(number)).map(|&number| 1 << number).sum();
-    for number in 0..*n {
-        let needed = two_bounds >> number & 1 == 1;
-        assert!(!needed || changing[1 << number], "{told}: {number} is read and changes nothing, {input:?}");
+    let reads: usize = found.reads.iter().map(|number| 1 << number).sum();
+    let two: usize = found.reads.iter().filter(|number| has_two(number)).map(|number| 1 << number).sum();
+
+    let (rows, mut other) = (rows(input), input.clone());
+    // the sets whose vectors can all be replaced by others of their cells so that the answer is another
+    let mut changing = vec![false; 1 << input.n];
+    for (set, row) in &rows {
+        other.vectors.clone_from(row);
+        changing[*set] |= reference::scan(&other).as_ref() != Ok(&found.entries);
     }
-    for set in sets().filter(|&set| settles(set)) {
-        assert_eq!(set & two_bounds, two_bounds, "{told}: the set {set:b} settles the answer with less, {input:?}");
+    let sets = 0..1 << input.n;
+    let settles = |set: usize| !sets.clone().any(|replaced| replaced & set == 0 && changing[replaced]);
+    assert!(settles(reads), "what is read does not settle the answer");
+    for number in (0..input.n).filter(|number| two >> number & 1 == 1) {
+        assert!(changing[1 << number], "{number} is read, and can change nothing");
+    }
+    for set in sets.clone().filter(|&set| settles(set)) {
+        assert_eq!(set & two, two, "the set {set:b} settles the answer without one of {two:b}");
+    }
+
+    for (_, row) in rows.into_iter().filter(|(set, _)| set & reads == 0).take(20) {
+        let other = Input { vectors: row, ..input.clone() };
+        assert_eq!(interface::search(&other).as_ref(), Ok(&found), "with {:?}", other.vectors);
     }
 }
 
