@@ -1,61 +1,15 @@
-//! The matcher's C interface. Each call is wrapped in a function that gives the component, or the number of the refusal,
-//! and that holds a refusal to leaving the component as it was.
+//! The matcher's C interface. Each call is wrapped in a function that gives what the call answers, or the number of the
+//! refusal, and that holds the call to leaving as it was what it has no right to change, refused or not.
 
-use crate::reference::Reading;
+mod approximation;
+mod distance;
+mod intake;
+mod lent;
+mod partition;
+mod search;
 
-extern "C" {
-    fn matcher_fresh(bits: u32, component: *mut i32) -> u32;
-    fn matcher_held(bits: u32, age: u8, component: *mut i32) -> u32;
-    fn matcher_lost(component: *mut i32) -> u32;
-    fn matcher_fresh_value(value: f32, component: *mut i32) -> u32;
-}
-
-/// What the component's place holds before a call: no component.
-const UNTOUCHED: i32 = 0x5AC3_69B7;
-
-/// Safe for each call above: it does no more than write an i32 through the pointer, which leads to one.
-#[inline]
-fn outcome(call: impl FnOnce(*mut i32) -> u32) -> Result<i32, u32> {
-    let mut component = UNTOUCHED;
-    match call(&mut component) {
-        0 => Ok(component),
-        number => {
-            assert_eq!(component, UNTOUCHED, "refused with {number}, and the component was written");
-            Err(number)
-        }
-    }
-}
-
-/// A fresh reading of the value with these bits.
-#[inline]
-pub fn fresh(bits: u32) -> Result<i32, u32> {
-    outcome(|component| unsafe { matcher_fresh(bits, component) })
-}
-
-/// A held reading of the value with these bits.
-#[inline]
-pub fn held(bits: u32, age: u8) -> Result<i32, u32> {
-    outcome(|component| unsafe { matcher_held(bits, age, component) })
-}
-
-/// A lost reading.
-#[inline]
-pub fn lost() -> Result<i32, u32> {
-    outcome(|component| unsafe { matcher_lost(component) })
-}
-
-/// A fresh reading of a float itself.
-#[inline]
-pub fn fresh_value(value: f32) -> Result<i32, u32> {
-    outcome(|component| unsafe { matcher_fresh_value(value, component) })
-}
-
-/// The call for a reading.
-#[inline]
-pub fn intake(reading: Reading) -> Result<i32, u32> {
-    match reading {
-        Reading::Fresh(bits) => fresh(bits),
-        Reading::Held(bits, age) => held(bits, age),
-        Reading::Lost => lost(),
-    }
-}
+pub use approximation::{check_codes, pack, pack_vectors, unpack};
+pub use distance::{bounds, distance};
+pub use intake::{fresh, fresh_value, held, intake, lost};
+pub use partition::{check_marks, make_marks, part, region, regions, stretch};
+pub use search::{scan, search};

@@ -18,6 +18,20 @@ impl Random {
     pub fn next_u32(&mut self) -> u32 {
         (self.next_u64() >> 32) as u32
     }
+
+    /// A number from 0 to `end` minus 1.
+    pub fn below(&mut self, end: usize) -> usize {
+        (self.next_u64() % end as u64) as usize
+    }
+
+    /// A number from `first` to `last`.
+    pub fn between(&mut self, first: i32, last: i32) -> i32 {
+        first + self.below((last - first) as usize + 1) as i32
+    }
+
+    pub fn one_of<T: Copy>(&mut self, choices: &[T]) -> T {
+        choices[self.below(choices.len())]
+    }
 }
 
 #[cfg(test)]

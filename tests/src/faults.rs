@@ -1,0 +1,294 @@
+//! What can be wrong with an input, each fault with its cause's number, and the calls held to the order of the causes.
+
+use crate::{
+    calls::{Call, Given},
+    input::Input,
+    reference,
+    samples::{GREATEST, LEAST},
+};
+use Given::*;
+
+/// A fault of an input that was right.
+pub struct Fault {
+    cause: u32,
+    name: String,
+    /// a call has this cause if it is given all of these
+    of: &'static [Given],
+    spoil: Box<dyn Fn(&mut Input)>,
+}
+
+impl Fault {
+    fn concerns(&self, call: &Call) -> bool {
+        self.of.iter().all(|given| call.takes.contains(given))
+    }
+}
+
+/// Buffers whose length is fixed by the other numbers.
+const BUFFERS: [Given; 12] = [
+    Query,
+    Marks,
+    DimensionMarks,
+    Codes,
+    Regions,
+    Vectors,
+    RoomMarks,
+    RoomRegions,
+    RoomCodes,
+    RoomNumbers,
+    RoomDistances,
+    RoomReads,
+];
+
+fn length(input: &Input, buffer: Given) -> usize {
+    match buffer {
+        Query => input.query.len(),
+        Marks => input.marks.len(),
+        DimensionMarks => input.one.marks.len(),
+        Codes => input.codes.len(),
+        Regions => input.regions.len(),
+        Vectors => input.vectors.len(),
+        RoomMarks => input.room.marks,
+        RoomRegions => input.room.regions,
+        RoomCodes => input.room.codes,
+        RoomNumbers => input.room.numbers,
+        RoomDistances => input.room.distances,
+        RoomReads => input.room.reads,
+        Pair => input.one.vector.len(),
+        other => panic!("{other:?} is no buffer"),
+    }
+}
+
+/// Cuts a buffer, or adds elements that are right by themselves.
+fn resize(input: &mut Input, buffer: Given, length: usize) {
+    let last = |marks: &[i32]| marks.last().copied().unwrap_or_default();
+    match buffer {
+        Query => input.query.resize(length, 0),
+        Marks => input.marks.resize(length, last(&input.marks)),
+        DimensionMarks => input.one.marks.resize(length, last(&input.one.marks)),
+        Codes => input.codes.resize(length, 0),
+        Regions => input.regions.resize(length, 0),
+        Vectors => input.vectors.resize(length, last(&input.vectors)),
+        RoomMarks => input.room.marks = length,
+        RoomRegions => input.room.regions = length,
+        RoomCodes => input.room.codes = length,
+        RoomNumbers => input.room.numbers = length,
+        RoomDistances => input.room.distances = length,
+        RoomReads => input.room.reads = length,
+        Pair => input.one.vector.resize(length, 0),
+        other => panic!("{other:?} is no buffer"),
+    }
+}
+
+struct Faults(Vec<Fault>);
+
+impl Faults {
+    fn add(&mut self, cause: u32, of: &'static [Given], name: String, spoil: impl Fn(&mut Input) + 'static) {
+        self.0.push(Fault { cause, name, of, spoil: Box::new(spoil) });
+    }
+
+    /// A count put in its place, each of these.
+    fn counts(&mut self, cause: u32, of: &'static [Given], counts: &[usize], place: fn(&mut Input) -> &mut usize) {
+        for &count in counts {
+            self.add(cause, of, format!("{of:?} {count}"), move |input| *place(input) = count);
+        }
+    }
+
+    /// A number put at an index, each of these.
+    fn numbers(
+        &mut self,
+        cause: u32,
+        of: &'static [Given],
+        at: usize,
+        numbers: &[i32],
+        place: fn(&mut Input) -> &mut Vec<i32>,
+    ) {
+        for &number in numbers {
+            self.add(cause, of, format!("{number} at {at} of {of:?}"), move |input| place(input)[at] = number);
+        }
+    }
+
+    /// One dimension's marks out of range, each by itself, or falling. They begin at an index.
+    fn marks(&mut self, of: &'static [Given], start: usize, marks: &[i32], place: fn(&mut Input) -> &mut Vec<i32>) {
+        let last = marks.len() - 1;
+        self.numbers(7, of, start, &[LEAST - 1, i32::MIN], place);
+        self.numbers(7, of, start + last, &[GREATEST + 2, i32::MAX], place);
+        for at in [0, last - 1] {
+            if marks[at] > LEAST {
+                self.numbers(7, of, start + at + 1, &[marks[at] - 1], place);
+            }
+            if marks[at + 1] <= GREATEST {
+                self.numbers(7, of, start + at, &[marks[at + 1] + 1], place);
+            }
+        }
+    }
+}
+
+/// Numbers that are no components.
+const NO_COMPONENTS: [i32; 4] = [LEAST - 1, GREATEST + 1, i32::MIN, i32::MAX];
+
+/// The first and the last of so many.
+fn ends(count: usize) -> Vec<usize> {
+    let mut ends = vec![0, count - 1];
+    ends.dedup();
+    ends
+}
+
+/// Faults of an input that is right: each has its cause, whatever faults of a higher number there are besides.
+fn faults(input: &Input) -> Vec<Fault> {
+    // not seen in a count's low 32 bits
+    const WIDE: usize = 1 << 32;
+    let mut faults = Faults(vec![]);
+    let Input { d, b, n, k, j, i, .. } = *input;
+
+    faults.counts(1, &[D], &[0, 33, 64, d + WIDE, 1 << 63, usize::MAX], |input| &mut input.d);
+    faults.counts(1, &[J], &[0, d + 1, 33, j + WIDE, usize::MAX], |input| &mut input.j);
+    for length in [0, 33, 64] {
+        faults.add(1, &[Pair], format!("query of {length}"), move |input| resize(input, Query, length));
+    }
+    faults.counts(2, &[B], &[6 * d + 1, 6 * d + 2, b + WIDE, 1 << 63, usize::MAX], |input| &mut input.b);
+    let none = [0, 3, 5, 6, 63, 65, 96, 128, WIDE, WIDE + input.one.regions, 1 << 63, usize::MAX];
+    faults.counts(2, &[DimensionMarks], &none, |input| &mut input.one.regions);
+    faults.counts(3, &[N], &[0, 513, 1024, n + WIDE, n + (1 << 61), usize::MAX], |input| &mut input.n);
+    faults.counts(3, &[I], &[n, n + 1, 512, i + WIDE, usize::MAX], |input| &mut input.i);
+    faults.counts(4, &[K], &[0, n + 1, 513, k + WIDE, usize::MAX], |input| &mut input.k);
+
+    for (at, buffer) in BUFFERS.into_iter().enumerate() {
+        let exact = length(input, buffer);
+        for length in [0, exact.saturating_sub(1), exact + 1, 2 * exact + 1].into_iter().filter(|&l| l != exact) {
+            let name = format!("{buffer:?} of {length} for {exact}");
+            faults.add(5, &BUFFERS[at..at + 1], name, move |input| resize(input, buffer, length));
+        }
+    }
+    for length in [0, d - 1, d + 1, 2 * d].into_iter().filter(|&l| l != d) {
+        faults.add(5, &[Pair], format!("vector of {length} for {d}"), move |input| resize(input, Pair, length));
+    }
+
+    for at in ends(d) {
+        faults.numbers(6, &[Query], at, &NO_COMPONENTS, |input| &mut input.query);
+        faults.numbers(6, &[Pair], at, &NO_COMPONENTS, |input| &mut input.query);
+        faults.numbers(6, &[Pair], at, &NO_COMPONENTS, |input| &mut input.one.vector);
+    }
+    for at in ends(n * d) {
+        faults.numbers(6, &[Components], at, &NO_COMPONENTS, |input| &mut input.vectors);
+    }
+
+    let parts = reference::parts(d, b);
+    for dimension in ends(d) {
+        let part = parts[dimension].clone();
+        faults.marks(&[Marks], part.start, &input.marks[part], |input| &mut input.marks);
+    }
+    faults.marks(&[DimensionMarks], 0, &input.one.marks, |input| &mut input.one.marks);
+
+    for at in ends(n * d) {
+        let marks = &input.marks[parts[at % d].clone()];
+        let outside: Vec<i32> =
+            [marks[0] - 1, marks[marks.len() - 1]].into_iter().filter(|v| (LEAST..=GREATEST).contains(v)).collect();
+        faults.numbers(8, &[Components, Marks], at, &outside, |input| &mut input.vectors);
+    }
+    let marks = &input.one.marks;
+    for value in [marks[0] - 1, marks[marks.len() - 1], LEAST - 1, GREATEST + 1, i32::MIN, i32::MAX] {
+        let spoil = move |input: &mut Input| input.one.value = value;
+        faults.add(8, &[DimensionMarks, Value], format!("value {value}"), spoil);
+    }
+
+    code_faults(input, &mut faults);
+    cell_faults(input, &mut faults);
+    faults.0
+}
+
+/// 9: region numbers past the last, spare bits set, empty regions named.
+fn code_faults(input: &Input, faults: &mut Faults) {
+    let Input { d, b, n, .. } = *input;
+    let parts = reference::parts(d, b);
+    for at in ends(n * d) {
+        let regions = parts[at % d].len() as u8 - 1;
+        for region in [regions, regions + 1, 255] {
+            let spoil = move |input: &mut Input| input.regions[at] = region;
+            faults.add(9, &[Regions], format!("region {region} of {regions} at {at}"), spoil);
+        }
+    }
+    for bit in 0..8 * input.codes.len() - n * b {
+        let spoil = move |input: &mut Input| *input.codes.last_mut().expect("there are spare bits") |= 1 << bit;
+        faults.add(9, &[Codes], format!("spare bit {bit} set"), spoil);
+    }
+    for at in ends(n * d) {
+        let marks = &input.marks[parts[at % d].clone()];
+        let empty = (0..marks.len() - 1).filter(|&r| marks[r] == marks[r + 1]);
+        for region in empty.take(2) {
+            let mut regions = input.regions.clone();
+            regions[at] = region as u8;
+            let codes = reference::packed(d, b, &regions);
+            let name = format!("empty region {region} named at {at}");
+            faults.add(9, &[Codes, Marks], name, move |input| input.codes.clone_from(&codes));
+        }
+    }
+}
+
+/// 10: a vector that is read, put outside its code's cell.
+fn cell_faults(input: &Input, faults: &mut Faults) {
+    let Input { d, b, .. } = *input;
+    let parts = reference::parts(d, b);
+    let reads = reference::search(input).expect("the input is right").reads;
+    for read in ends(reads.len()) {
+        for dimension in ends(d) {
+            let at = reads[read] as usize * d + dimension;
+            let (marks, region) = (&input.marks[parts[dimension].clone()], usize::from(input.regions[at]));
+            let outside = [marks[region] - 1, marks[region + 1], i32::MIN, i32::MAX];
+            faults.numbers(10, &[Cells], at, &outside, |input| &mut input.vectors);
+        }
+    }
+}
+
+/// The faults of an input that concern a call, in the order of their numbers.
+fn faults_for(call: &Call, input: &Input) -> Vec<Fault> {
+    call.gives(0, input);
+    let faults: Vec<Fault> = faults(input).into_iter().filter(|fault| fault.concerns(call)).collect();
+    assert!(faults.is_sorted_by_key(|fault| fault.cause));
+    faults
+}
+
+/// Each fault by itself is refused with its number.
+pub fn assert_each_refusal(call: &Call, input: &Input) {
+    faults_for(call, input).iter().for_each(|fault| assert_refused(call, input, &[fault]));
+}
+
+/// Each fault is refused with its number, and of any two faults the one with the lower number decides. Each cause of
+/// the call is there.
+pub fn assert_refusals(call: &Call, inputs: &[Input]) {
+    let mut causes = vec![];
+    for input in inputs {
+        let faults = faults_for(call, input);
+        for (place, second) in faults.iter().enumerate() {
+            assert_refused(call, input, &[second]);
+            faults[..place].iter().for_each(|first| assert_refused(call, input, &[second, first]));
+        }
+        causes.extend(faults.iter().map(|fault| fault.cause));
+    }
+    causes.sort();
+    causes.dedup();
+    assert_eq!(causes, call.causes, "the causes of {} that were tried", call.name);
+}
+
+/// The faults stand with the higher number first, so that a length is changed after the contents.
+fn assert_refused(call: &Call, input: &Input, faults: &[&Fault]) {
+    let mut spoilt = input.clone();
+    for fault in faults {
+        (fault.spoil)(&mut spoilt);
+        spoilt.origin += &format!("; {}", fault.name);
+    }
+    let cause = faults.iter().map(|fault| fault.cause).min();
+    call.gives(cause.expect("there is a fault"), &spoilt);
+}
+
+/// Each buffer that the call takes is refused with 5 at every other length.
+pub fn assert_lengths(call: &Call, input: &Input) {
+    for buffer in BUFFERS.into_iter().filter(|buffer| call.takes.contains(buffer)) {
+        let exact = length(input, buffer);
+        for length in (0..exact + 10).chain([2 * exact, 8 * exact, 16_384]).filter(|&length| length != exact) {
+            let mut spoilt = input.clone();
+            resize(&mut spoilt, buffer, length);
+            spoilt.origin += &format!("; {buffer:?} of {length} for {exact}");
+            call.gives(5, &spoilt);
+        }
+    }
+}

@@ -1,0 +1,87 @@
+//! What the calls are given: one record with everything, of which each call takes its part.
+
+use std::thread;
+
+/// Vectors stand in a row, n rows of d components; `codes` has each vector's code, `regions` its region numbers.
+#[derive(Clone, PartialEq, Eq, Debug)]
+pub struct Input {
+    /// where the input comes from
+    pub origin: String,
+    pub d: usize,
+    pub b: usize,
+    pub n: usize,
+    pub k: usize,
+    /// a dimension, from 1
+    pub j: usize,
+    /// the number of a vector
+    pub i: usize,
+    pub query: Vec<i32>,
+    pub marks: Vec<i32>,
+    pub vectors: Vec<i32>,
+    pub regions: Vec<u8>,
+    pub codes: Vec<u8>,
+    pub one: One,
+    pub room: Room,
+}
+
+impl Input {
+    /// From here to the end of the block, a failing test tells the input.
+    pub fn told(&self) -> Told<'_> {
+        Told(self)
+    }
+}
+
+/// Tells the input if the test is failing when this goes.
+pub struct Told<'a>(&'a Input);
+
+impl Drop for Told<'_> {
+    fn drop(&mut self) {
+        if thread::panicking() {
+            eprintln!("failed on {:?}", self.0);
+        }
+    }
+}
+
+/// What calls on one vector or one dimension are given.
+#[derive(Clone, PartialEq, Eq, Debug)]
+pub struct One {
+    pub vector: Vec<i32>,
+    pub marks: Vec<i32>,
+    pub regions: usize,
+    pub value: i32,
+}
+
+/// The lengths of the buffers that calls fill.
+#[derive(Clone, PartialEq, Eq, Debug)]
+pub struct Room {
+    pub marks: usize,
+    pub regions: usize,
+    pub codes: usize,
+    pub numbers: usize,
+    pub distances: usize,
+    pub reads: usize,
+}
+
+/// Where a dimension's marks begin in the marks buffer, and how many bits it has.
+#[derive(Clone, Copy, PartialEq, Eq, Debug)]
+pub struct Stretch {
+    pub offset: usize,
+    pub bits: usize,
+}
+
+/// A cell's least and greatest distance.
+#[derive(Clone, Copy, PartialEq, Eq, Debug)]
+pub struct Bounds {
+    pub lower: u64,
+    pub upper: u64,
+}
+
+/// A vector's number and its distance.
+pub type Entry = (u32, u64);
+
+/// A search's answer, and the numbers read, in reading order.
+#[derive(Clone, PartialEq, Eq, Debug)]
+pub struct Found {
+    pub entries: Vec<Entry>,
+    pub reads: Vec<u32>,
+}

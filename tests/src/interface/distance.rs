@@ -1,0 +1,65 @@
+//! Distances and bounds. Safe for each call: a pointer leads to as many elements as are named with it, or to one.
+
+use super::lent::Lent;
+use crate::input::{Bounds, Input};
+
+extern "C" {
+    fn matcher_distance(
+        query: *const i32,
+        query_len: usize,
+        vector: *const i32,
+        vector_len: usize,
+        distance: *mut u64,
+    ) -> u32;
+    fn matcher_bounds(
+        d: usize,
+        b: usize,
+        n: usize,
+        query: *const i32,
+        query_len: usize,
+        marks: *const i32,
+        marks_len: usize,
+        codes: *const u8,
+        codes_len: usize,
+        i: usize,
+        lower: *mut u64,
+        upper: *mut u64,
+    ) -> u32;
+}
+
+pub fn distance(input: &Input) -> Result<u64, u32> {
+    let (mut query, mut vector) = (Lent::given(&input.query), Lent::given(&input.one.vector));
+    let mut distance = Lent::room(1);
+    let number =
+        unsafe { matcher_distance(query.pointer(), query.len(), vector.pointer(), vector.len(), distance.pointer()) };
+    query.kept();
+    vector.kept();
+    Ok(distance.filled(number)?[0])
+}
+
+pub fn bounds(input: &Input) -> Result<Bounds, u32> {
+    let (mut query, mut marks) = (Lent::given(&input.query), Lent::given(&input.marks));
+    let mut codes = Lent::given(&input.codes);
+    let (mut lower, mut upper) = (Lent::room(1), Lent::room(1));
+    let number = unsafe {
+        matcher_bounds(
+            input.d,
+            input.b,
+            input.n,
+            query.pointer(),
+            query.len(),
+            marks.pointer(),
+            marks.len(),
+            codes.pointer(),
+            codes.len(),
+            input.i,
+            lower.pointer(),
+            upper.pointer(),
+        )
+    };
+    query.kept();
+    marks.kept();
+    codes.kept();
+    let (lower, upper) = (lower.filled(number), upper.filled(number));
+    Ok(Bounds { lower: lower?[0], upper: upper?[0] })
+}

@@ -1,0 +1,60 @@
+//! Readings. A refusal leaves the component as it was.
+
+use crate::reference::Reading;
+
+extern "C" {
+    fn matcher_fresh(bits: u32, component: *mut i32) -> u32;
+    fn matcher_held(bits: u32, age: u8, component: *mut i32) -> u32;
+    fn matcher_lost(component: *mut i32) -> u32;
+    fn matcher_fresh_value(value: f32, component: *mut i32) -> u32;
+}
+
+/// What the component's place holds before a call: no component.
+const UNTOUCHED: i32 = 0x5AC3_69B7;
+
+/// Safe for each call above: it does no more than write an i32 through the pointer, which leads to one.
+#[inline]
+fn outcome(call: impl FnOnce(*mut i32) -> u32) -> Result<i32, u32> {
+    let mut component = UNTOUCHED;
+    match call(&mut component) {
+        0 => Ok(component),
+        number => {
+            assert_eq!(component, UNTOUCHED, "refused with {number}, and the component was written");
+            Err(number)
+        }
+    }
+}
+
+/// A fresh reading of the value with these bits.
+#[inline]
+pub fn fresh(bits: u32) -> Result<i32, u32> {
+    outcome(|component| unsafe { matcher_fresh(bits, component) })
+}
+
+/// A held reading of the value with these bits.
+#[inline]
+pub fn held(bits: u32, age: u8) -> Result<i32, u32> {
+    outcome(|component| unsafe { matcher_held(bits, age, component) })
+}
+
+/// A lost reading.
+#[inline]
+pub fn lost() -> Result<i32, u32> {
+    outcome(|component| unsafe { matcher_lost(component) })
+}
+
+/// A fresh reading of a float itself.
+#[inline]
+pub fn fresh_value(value: f32) -> Result<i32, u32> {
+    outcome(|component| unsafe { matcher_fresh_value(value, component) })
+}
+
+/// The call for a reading.
+#[inline]
+pub fn intake(reading: Reading) -> Result<i32, u32> {
+    match reading {
+        Reading::Fresh(bits) => fresh(bits),
+        Reading::Held(bits, age) => held(bits, age),
+        Reading::Lost => lost(),
+    }
+}

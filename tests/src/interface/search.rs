@@ -1,0 +1,106 @@
+//! Scan and search. Safe for each call: a pointer leads to as many elements as are named with it, or to one.
+
+use super::lent::{counted, Lent};
+use crate::input::{Entry, Found, Input};
+
+extern "C" {
+    fn matcher_scan(
+        d: usize,
+        n: usize,
+        k: usize,
+        query: *const i32,
+        query_len: usize,
+        vectors: *const i32,
+        vectors_len: usize,
+        numbers: *mut u32,
+        numbers_len: usize,
+        distances: *mut u64,
+        distances_len: usize,
+    ) -> u32;
+    fn matcher_search(
+        d: usize,
+        b: usize,
+        n: usize,
+        k: usize,
+        query: *const i32,
+        query_len: usize,
+        marks: *const i32,
+        marks_len: usize,
+        codes: *const u8,
+        codes_len: usize,
+        vectors: *const i32,
+        vectors_len: usize,
+        numbers: *mut u32,
+        numbers_len: usize,
+        distances: *mut u64,
+        distances_len: usize,
+        reads: *mut u32,
+        reads_len: usize,
+        count: *mut usize,
+    ) -> u32;
+}
+
+fn entries(numbers: Result<Vec<u32>, u32>, distances: Result<Vec<u64>, u32>) -> Result<Vec<Entry>, u32> {
+    Ok(numbers?.into_iter().zip(distances?).collect())
+}
+
+pub fn scan(input: &Input) -> Result<Vec<Entry>, u32> {
+    let (mut query, mut vectors) = (Lent::given(&input.query), Lent::given(&input.vectors));
+    let (mut numbers, mut distances) = (Lent::room(input.room.numbers), Lent::room(input.room.distances));
+    let number = unsafe {
+        matcher_scan(
+            input.d,
+            input.n,
+            input.k,
+            query.pointer(),
+            query.len(),
+            vectors.pointer(),
+            vectors.len(),
+            numbers.pointer(),
+            numbers.len(),
+            distances.pointer(),
+            distances.len(),
+        )
+    };
+    query.kept();
+    vectors.kept();
+    entries(numbers.filled(number), distances.filled(number))
+}
+
+/// The read list is cut to its count; the elements past it are as they were.
+pub fn search(input: &Input) -> Result<Found, u32> {
+    let (mut query, mut marks) = (Lent::given(&input.query), Lent::given(&input.marks));
+    let (mut codes, mut vectors) = (Lent::given(&input.codes), Lent::given(&input.vectors));
+    let (mut numbers, mut distances) = (Lent::room(input.room.numbers), Lent::room(input.room.distances));
+    let (mut reads, mut count) = (Lent::room(input.room.reads), Lent::room(1));
+    let number = unsafe {
+        matcher_search(
+            input.d,
+            input.b,
+            input.n,
+            input.k,
+            query.pointer(),
+            query.len(),
+            marks.pointer(),
+            marks.len(),
+            codes.pointer(),
+            codes.len(),
+            vectors.pointer(),
+            vectors.len(),
+            numbers.pointer(),
+            numbers.len(),
+            distances.pointer(),
+            distances.len(),
+            reads.pointer(),
+            reads.len(),
+            count.pointer(),
+        )
+    };
+    query.kept();
+    marks.kept();
+    codes.kept();
+    vectors.kept();
+    let reads = reads.filled_to(counted(&count, number), number);
+    let entries = entries(numbers.filled(number), distances.filled(number));
+    Ok(Found { entries: entries?, reads: reads? })
+}

@@ -1,0 +1,88 @@
+//! The causes of document 01's table, "When a call says no", each with its number.
+
+use super::partition::parts;
+
+/// The number of the cause that holds, if one does.
+pub type Checked = Result<(), u32>;
+
+fn refused_unless(good: bool, number: u32) -> Checked {
+    good.then_some(()).ok_or(number)
+}
+
+/// 1: "d not 1 to 32".
+pub fn dimensions(d: usize) -> Checked {
+    refused_unless((1..=32).contains(&d), 1)
+}
+
+/// 1: "or a dimension number not 1 to d".
+pub fn dimension(d: usize, j: usize) -> Checked {
+    refused_unless((1..=d).contains(&j), 1)
+}
+
+/// 2: "b above 6·d", for a d that is none of 1.
+pub fn bits(d: usize, b: usize) -> Checked {
+    refused_unless(b <= 6 * d, 2)
+}
+
+/// 2: "or a number of regions other than 2^w with w 0 to 6".
+pub fn region_count(regions: usize) -> Checked {
+    refused_unless([1, 2, 4, 8, 16, 32, 64].contains(&regions), 2)
+}
+
+/// 1, then 2.
+pub fn shape(d: usize, b: usize) -> Checked {
+    dimensions(d)?;
+    bits(d, b)
+}
+
+/// 3: "n not 1 to 512".
+pub fn count(n: usize) -> Checked {
+    refused_unless((1..=512).contains(&n), 3)
+}
+
+/// 3, for the number of a vector: there are more vectors than that.
+pub fn number(n: usize, i: usize) -> Checked {
+    refused_unless(i < n, 3)
+}
+
+/// 4: "k is 0 or above n".
+pub fn neighbours(n: usize, k: usize) -> Checked {
+    refused_unless((1..=n).contains(&k), 4)
+}
+
+/// 5: "a lent buffer's length is not the exact one"; each length stands with the exact one.
+pub fn lengths(lengths: &[(usize, usize)]) -> Checked {
+    refused_unless(lengths.iter().all(|(length, exact)| length == exact), 5)
+}
+
+/// 6: "component out of range".
+pub fn components(numbers: &[i32]) -> Checked {
+    refused_unless(numbers.iter().all(|number| (-32768..=32767).contains(number)), 6)
+}
+
+/// 7: "a mark out of range or below the one before it in its dimension", for one dimension.
+pub fn dimension_marks(marks: &[i32]) -> Checked {
+    let in_range = marks.iter().all(|mark| (-32768..=32768).contains(mark));
+    let falls = marks.windows(2).any(|pair| pair[1] < pair[0]);
+    refused_unless(in_range && !falls, 7)
+}
+
+/// 7, for every dimension.
+pub fn marks(d: usize, b: usize, marks: &[i32]) -> Checked {
+    parts(d, b).into_iter().try_for_each(|part| dimension_marks(&marks[part]))
+}
+
+/// 8: "a pattern, or a value whose region is sought, outside the marks"; the region is not there.
+pub fn inside<R>(region: Option<R>) -> Result<R, u32> {
+    region.ok_or(8)
+}
+
+/// 9: "a code naming an empty region, a region number past the last, or a spare bit set".
+pub fn code(good: bool) -> Checked {
+    refused_unless(good, 9)
+}
+
+/// 10: "the search reads a pattern that is not in its code's cell".
+pub fn in_cell(inside: bool) -> Checked {
+    refused_unless(inside, 10)
+}

@@ -1,0 +1,123 @@
+//! Bits, marks and regions (document 01, "Marks, regions, codes").
+
+use super::causes;
+use crate::input::{Input, Stretch};
+use std::{collections::BTreeMap, ops::Range};
+
+/// "Dimension j, from 1, has b div d bits, and one more if j ≤ b mod d": the bits are dealt out one at a time, to
+/// dimension 1 first. The dimensions stand from 0 here.
+pub fn bits_of(d: usize, b: usize) -> Vec<usize> {
+    let mut bits = vec![0; d];
+    (0..b).for_each(|bit| bits[bit % d] += 1);
+    bits
+}
+
+/// Each dimension's part of the marks buffer: "With w bits it has 2^w regions and 2^w + 1 marks."
+pub fn parts(d: usize, b: usize) -> Vec<Range<usize>> {
+    let mut end = 0;
+    let part = |bits: usize| {
+        let start = end;
+        end += 2usize.pow(bits as u32) + 1;
+        start..end
+    };
+    bits_of(d, b).into_iter().map(part).collect()
+}
+
+pub fn marks_length(d: usize, b: usize) -> usize {
+    parts(d, b).last().map_or(0, |part| part.end)
+}
+
+/// "Value v is in region r exactly if mark r ≤ v < mark r+1": every region is tried.
+pub fn region_of(marks: &[i32], value: i32) -> Option<usize> {
+    let mut regions = (0..marks.len() - 1).filter(|&r| marks[r] <= value && value < marks[r + 1]);
+    let region = regions.next();
+    assert_eq!(regions.next(), None, "{value} has two regions in {marks:?}");
+    region
+}
+
+/// "Marks made from patterns": the component at a place is the first one with more components up to it than the place.
+pub fn made_marks(d: usize, b: usize, vectors: &[i32]) -> Vec<i32> {
+    let n = vectors.len() / d;
+    let dimension_marks = |(dimension, part): (usize, Range<usize>)| {
+        let mut counts = BTreeMap::new();
+        vectors.chunks(d).for_each(|vector| *counts.entry(vector[dimension]).or_insert(0) += 1);
+        let at = |place: usize| {
+            let mut up_to = 0;
+            let reached = counts.iter().find(|(_, &count)| {
+                up_to += count;
+                up_to > place
+            });
+            *reached.expect("the place is below n").0
+        };
+        let regions = part.len() - 1;
+        let mut marks = vec![*counts.keys().min().expect("there is a vector")];
+        marks.extend((1..regions).map(|i| at(i * n / regions)));
+        marks.push(counts.keys().max().expect("there is a vector") + 1);
+        marks
+    };
+    parts(d, b).into_iter().enumerate().flat_map(dimension_marks).collect()
+}
+
+/// The region numbers of all vectors, in the vectors' order.
+fn located(d: usize, b: usize, vectors: &[i32], marks: &[i32]) -> Option<Vec<u8>> {
+    let parts = parts(d, b);
+    let region = |(place, &value): (usize, &i32)| Some(region_of(&marks[parts[place % d].clone()], value)? as u8);
+    vectors.iter().enumerate().map(region).collect()
+}
+
+// ---- the calls
+
+pub fn stretch(input: &Input) -> Result<Stretch, u32> {
+    let &Input { d, b, j, .. } = input;
+    causes::dimensions(d)?;
+    causes::dimension(d, j)?;
+    causes::bits(d, b)?;
+    Ok(Stretch { offset: parts(d, b)[j - 1].start, bits: bits_of(d, b)[j - 1] })
+}
+
+pub fn check_marks(input: &Input) -> Result<(), u32> {
+    let Input { d, b, marks, .. } = input;
+    causes::shape(*d, *b)?;
+    causes::lengths(&[(marks.len(), marks_length(*d, *b))])?;
+    causes::marks(*d, *b, marks)
+}
+
+/// "a call given a dimension hands back its part of the marks buffer"
+pub fn part(input: &Input) -> Result<Vec<i32>, u32> {
+    causes::dimensions(input.d)?;
+    causes::dimension(input.d, input.j)?;
+    check_marks(input)?;
+    Ok(input.marks[parts(input.d, input.b)[input.j - 1].clone()].to_vec())
+}
+
+pub fn region(input: &Input) -> Result<usize, u32> {
+    let one = &input.one;
+    causes::region_count(one.regions)?;
+    causes::lengths(&[(one.marks.len(), one.regions + 1)])?;
+    causes::dimension_marks(&one.marks)?;
+    causes::inside(region_of(&one.marks, one.value))
+}
+
+pub fn make_marks(input: &Input) -> Result<Vec<i32>, u32> {
+    let Input { d, b, n, vectors, room, .. } = input;
+    causes::shape(*d, *b)?;
+    causes::count(*n)?;
+    causes::lengths(&[(vectors.len(), n * d), (room.marks, marks_length(*d, *b))])?;
+    causes::components(vectors)?;
+    Ok(made_marks(*d, *b, vectors))
+}
+
+pub fn regions(input: &Input) -> Result<Vec<u8>, u32> {
+    regions_into(input, || (input.room.regions, input.n * input.d))
+}
+
+/// The regions, where what is made of them has a buffer of this length and this exact length.
+pub fn regions_into(input: &Input, buffer: impl Fn() -> (usize, usize)) -> Result<Vec<u8>, u32> {
+    let Input { d, b, n, vectors, marks, .. } = input;
+    causes::shape(*d, *b)?;
+    causes::count(*n)?;
+    causes::lengths(&[(vectors.len(), n * d), (marks.len(), marks_length(*d, *b)), buffer()])?;
+    causes::components(vectors)?;
+    causes::marks(*d, *b, marks)?;
+    causes::inside(located(*d, *b, vectors, marks))
+}

@@ -1,0 +1,231 @@
+//! Inputs that no call refuses: document 01's own, and random ones.
+
+use crate::{
+    input::{Input, One, Room},
+    random::Random,
+    reference,
+};
+use std::ops::Range;
+
+/// A component's least and greatest value.
+pub const LEAST: i32 = -32768;
+pub const GREATEST: i32 = 32767;
+
+/// Every number of dimensions with every number of bits.
+pub fn shapes() -> impl Iterator<Item = (usize, usize)> {
+    (1..=32).flat_map(|d| (0..=6 * d).map(move |b| (d, b)))
+}
+
+/// Vectors inside these marks, with their own codes, and a query for the k nearest.
+pub fn input(d: usize, b: usize, marks: &[i32], vectors: &[i32], query: &[i32], k: usize) -> Input {
+    let (n, parts) = (vectors.len() / d, reference::parts(d, b));
+    let region = |(place, &value): (usize, &i32)| {
+        let marks = &marks[parts[place % d].clone()];
+        reference::region_of(marks, value).expect("the vectors are inside the marks") as u8
+    };
+    let regions: Vec<u8> = vectors.iter().enumerate().map(region).collect();
+    let codes = reference::packed(d, b, &regions);
+    let one = One {
+        vector: vectors[..d].to_vec(),
+        marks: marks[parts[0].clone()].to_vec(),
+        regions: parts[0].len() - 1,
+        value: vectors[0],
+    };
+    let room =
+        Room { marks: marks.len(), regions: regions.len(), codes: codes.len(), numbers: k, distances: k, reads: n };
+    Input {
+        origin: String::new(),
+        d,
+        b,
+        n,
+        k,
+        j: 1,
+        i: 0,
+        query: query.to_vec(),
+        marks: marks.to_vec(),
+        vectors: vectors.to_vec(),
+        regions,
+        codes,
+        one,
+        room,
+    }
+}
+
+impl Input {
+    /// The same for the k nearest.
+    pub fn with_k(mut self, k: usize) -> Input {
+        (self.k, self.room.numbers, self.room.distances) = (k, k, k);
+        self
+    }
+
+    /// The same for another query.
+    pub fn with_query(mut self, query: &[i32]) -> Input {
+        self.query = query.to_vec();
+        self
+    }
+
+    /// The same for another dimension, the value being a vector's component there.
+    fn with_dimension(mut self, j: usize, i: usize) -> Input {
+        let part = reference::parts(self.d, self.b)[j - 1].clone();
+        self.one = One {
+            vector: self.vectors[i * self.d..(i + 1) * self.d].to_vec(),
+            regions: part.len() - 1,
+            marks: self.marks[part].to_vec(),
+            value: self.vectors[i * self.d + j - 1],
+        };
+        (self.j, self.i) = (j, i);
+        self
+    }
+
+    pub fn from(mut self, origin: String) -> Input {
+        self.origin = origin;
+        self
+    }
+}
+
+/// Library A of document 01, with a query.
+pub fn library_a(query: [i32; 2], k: usize) -> Input {
+    let vectors = [1, 3, 2, 3, 4, 10, 13, 6, 18, 1];
+    input(2, 3, &[0, 3, 9, 16, 21, 0, 5, 11], &vectors, &query, k).from("library A".to_string())
+}
+
+/// The library of case P12, with its query.
+pub fn library_of_p12() -> Input {
+    input(1, 1, &[0, 4, 10], &[3, 7], &[5], 1).from("the library of P12".to_string())
+}
+
+/// Small libraries of every kind.
+pub fn small_inputs() -> Vec<Input> {
+    let mut inputs = vec![library_a([12, 6], 2), library_of_p12()];
+    inputs.extend((0..30).map(|seed| random_input(seed, 6)));
+    inputs
+}
+
+/// As many dimensions, bits and vectors as there can be.
+pub fn largest_input() -> Input {
+    random_of_shape(&mut Random::new(0), 32, 192, 512).from("the largest shape".to_string())
+}
+
+/// A random library of at most this many vectors, with a query.
+pub fn random_input(seed: u64, most: usize) -> Input {
+    let mut random = Random::new(seed);
+    let random = &mut random;
+    let (few, any) = (1 + random.below(5), 1 + random.below(32));
+    let d = random.one_of(&[few, few, any]);
+    let b = random.below(6 * d + 1);
+    let b = random.one_of(&[b, b, b, 0, 6 * d]);
+    let (few, more, any) = (1 + random.below(8), 1 + random.below(40), 1 + random.below(512));
+    let n = random.one_of(&[few, more, any]).min(most);
+    random_of_shape(random, d, b, n).from(format!("seed {seed}, at most {most} vectors"))
+}
+
+/// A random library of this shape, with a query.
+pub fn random_of_shape(random: &mut Random, d: usize, b: usize, n: usize) -> Input {
+    let vectors = random_vectors(random, d, n);
+    let marks = random_marks(random, d, b, &vectors);
+    let query = random_query(random, d, b, &vectors, &marks);
+    let any = 1 + random.below(n);
+    let k = random.one_of(&[1, n, any, any]);
+    let (j, i) = (1 + random.below(d), random.below(n));
+    input(d, b, &marks, &vectors, &query, k).with_dimension(j, i)
+}
+
+pub fn component(random: &mut Random) -> i32 {
+    random.between(LEAST, GREATEST)
+}
+
+/// n rows of d components: all equal, of two values, of the full range, in clusters, with equal rows, of a few values
+/// (so that distances tie), at the ends of the range.
+pub fn random_vectors(random: &mut Random, d: usize, n: usize) -> Vec<i32> {
+    let style = random.below(7);
+    let (x, y) = (component(random), component(random));
+    let rows = 1 + random.below(4);
+    let centres: Vec<i32> = (0..rows * d).map(|_| component(random)).collect();
+    let mut row = 0;
+    let mut component = |place: usize| {
+        if place.is_multiple_of(d) {
+            row = random.below(rows);
+        }
+        let centre = centres[row * d + place % d];
+        match style {
+            0 => x,
+            1 => random.one_of(&[x, y]),
+            2 => random.between(LEAST, GREATEST),
+            3 => (centre + random.between(-5, 5)).clamp(LEAST, GREATEST),
+            4 => centre,
+            5 => random.between(0, 3),
+            _ => random.one_of(&[LEAST, LEAST + 1, -1, 0, 1, GREATEST - 1, GREATEST]),
+        }
+    };
+    (0..n * d).map(&mut component).collect()
+}
+
+/// Marks around the vectors: made from them, from end to end of the scale, or drawn anyhow, with equal neighbours.
+pub fn random_marks(random: &mut Random, d: usize, b: usize, vectors: &[i32]) -> Vec<i32> {
+    let made = reference::made_marks(d, b, vectors);
+    let style = random.below(4);
+    if style == 0 {
+        return made;
+    }
+    let near = random.one_of(&[1, 5, 40_000]);
+    let dimension = |part: Range<usize>| {
+        let (least, end) = (made[part.start], made[part.end - 1]);
+        let (first, last) = match style {
+            1 => (LEAST, GREATEST + 1),
+            _ => ((least - random.between(0, near)).max(LEAST), (end + random.between(0, near)).min(GREATEST + 1)),
+        };
+        let inner = |place: usize| match random.below(3) {
+            0 => made[place],
+            1 => (made[place] + random.between(-near, near)).clamp(first, last),
+            _ => random.between(first, last),
+        };
+        let mut marks: Vec<i32> = (part.start + 1..part.end - 1).map(inner).collect();
+        marks.extend([first, last]);
+        marks.sort();
+        marks
+    };
+    reference::parts(d, b).into_iter().flat_map(dimension).collect()
+}
+
+/// A query anywhere, at the ends of the scale, at a vector, beside one, at marks or just below, or of a few values.
+pub fn random_query(random: &mut Random, d: usize, b: usize, vectors: &[i32], marks: &[i32]) -> Vec<i32> {
+    let style = random.below(6);
+    let vector = vectors.chunks(d).nth(random.below(vectors.len() / d)).expect("there is such a vector");
+    let parts = reference::parts(d, b);
+    let component = |dimension: usize| match style {
+        0 => random.between(LEAST, GREATEST),
+        1 => random.one_of(&[LEAST, GREATEST]),
+        2 => vector[dimension],
+        3 => (vector[dimension] + random.between(-2, 2)).clamp(LEAST, GREATEST),
+        4 => {
+            let mark = marks[parts[dimension].start + random.below(parts[dimension].len())];
+            (mark - random.between(0, 1)).clamp(LEAST, GREATEST)
+        }
+        _ => random.between(0, 3),
+    };
+    (0..d).map(component).collect()
+}
+
+/// Up to three dimensions of up to four regions, each of up to three values, some of none, just above a number: cells
+/// whose vectors can all be tried.
+pub fn small_marks(random: &mut Random, above: i32) -> (usize, usize, Vec<i32>) {
+    let d = 1 + random.below(3);
+    let b = random.below(2 * d + 1);
+    let mut marks = vec![];
+    for part in reference::parts(d, b) {
+        let (regions, mut mark) = (part.len() - 1, above + random.between(0, 3));
+        let full = random.below(regions);
+        marks.push(mark);
+        for region in 0..regions {
+            mark += random.between(i32::from(region == full), 3);
+            marks.push(mark);
+        }
+    }
+    (d, b, marks)
+}
+
+/// A vector inside the marks.
+pub fn vector_inside(random: &mut Random, d: usize, b: usize, marks: &[i32]) -> Vec<i32> {
+    let mut component = |part: Range<usize>| random.between(marks[part.start], marks[part.end - 1] - 1);
+    reference::parts(d, b).into_iter().map(&mut component).collect()
+}
