@@ -68,13 +68,35 @@ fn check_scan(
     if !limits::is_between(1, k, n) {
         return Verdict::Refused(Refusal::Neighbours);
     }
-    if !(query.len() == d && vectors.len() == n * d && numbers == k && distances == k) {
+    if !exact_lengths(d, n, k, query.len(), vectors.len(), numbers, distances) {
         return Verdict::Refused(Refusal::Length);
     }
     if !all_components(query, vectors) {
         return Verdict::Refused(Refusal::Component);
     }
     Verdict::Accepted
+}
+
+// Whether the lengths of the query, the vectors and the buffers are the exact ones.
+fn exact_lengths(
+    d: usize,
+    n: usize,
+    k: usize,
+    query: usize,
+    vectors: usize,
+    numbers: usize,
+    distances: usize,
+) -> bool
+    requires { ⌜ n * d < 2 ^ 64 ⌝ }
+    ensures { λ r. ⌜ r ≡ eqb query d && (eqb vectors (n * d) && (eqb numbers k && eqb distances k)) ⌝ }
+{
+    if query != d {
+        return false;
+    }
+    if vectors != n * d {
+        return false;
+    }
+    numbers == k && distances == k
 }
 
 // Whether the query's and the vectors' numbers are components.
@@ -130,7 +152,7 @@ fn write_least(keys: &[u64], numbers: &mut [u32], least: &mut [u64])
 
 // As many numbers from the front of the ranking as there is room for, and their keys.
 fn copy_first(keys: &[u64], order: &[u32], numbers: &mut [u32], least: &mut [u64])
-    requires { ⌜ (now order ≡ ranking (now keys)) × (length (now numbers) ≤ length (now keys)) × (length (now least) ≡ length (now numbers)) ⌝ }
+    requires { ⌜ (now order ≡ ranking (now keys)) × (length (now keys) ≤ maxVectors) × (length (now numbers) ≤ length (now keys)) × (length (now least) ≡ length (now numbers)) ⌝ }
     ensures { λ _. ⌜ now (numbers .exit) ≡ take (length (now (numbers .entry))) (now (order .entry)) ⌝ }
     ensures { λ _. ⌜ now (least .exit) ≡ map (keyAt (now (keys .entry))) (take (length (now (numbers .entry))) (now (order .entry))) ⌝ }
 {
