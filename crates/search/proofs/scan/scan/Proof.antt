@@ -42,14 +42,14 @@ returns c =
     let a = told .before .before .before .before .before .args in
     let none = accepted told in
     let room = passes told .numbers-room in
-    (sym none,
+    (sym none, (
       all .scan-all .ensures .0 ∙ ap (λ (k : ℕ). numbersOf (scanAnswer (a .d) (a .n) k (a .query .now) (a .vectors .now))) room ∙ sym (outcome-accepted _ _ none),
-      all .scan-all .ensures .1 ∙ ap (λ (k : ℕ). keysOf (scanAnswer (a .d) (a .n) k (a .query .now) (a .vectors .now))) room ∙ sym (outcome-accepted _ _ none))
+      all .scan-all .ensures .1 ∙ ap (λ (k : ℕ). keysOf (scanAnswer (a .d) (a .n) k (a .query .now) (a .vectors .now))) room ∙ sym (outcome-accepted _ _ none)))
 
 returns-2 : tie.Need-returns-2
 returns-2 c =
     let some = refused (c .before) in
-    (sym some, sym (outcome-refused _ _ some), sym (outcome-refused _ _ some))
+    (sym some, (sym (outcome-refused _ _ some), sym (outcome-refused _ _ some)))
 
 pub scan-spec : {M : Type 1} → statement M
 scan-spec =
