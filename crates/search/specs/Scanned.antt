@@ -1,27 +1,27 @@
 -- What holds where a scan is accepted, and its answer as the first numbers of a ranking with their keys. Assumes nothing.
 use mathlib.Core.Path.{_≡_, refl, sym, ap, _∙_}
-use mathlib.Core.Bool.{true, not, _&&_, and-eq-true-iff}
+use mathlib.Core.Bool.{true, _&&_, and-eq-true-iff}
 use mathlib.Core.List.{List, [], _∷_, map}
 use Prim.Native.Nat.{ℕ, zero, suc, _+_, _*_, _^_, _≤_, _<_}
 use native.Mathlib.Omega.{arith}
 use borrow.Author.Tests.{not-false, eqb-true}
 use lib.Dec.{leb, eqb}
 use lib.IntN.{ℤ, pos}
-use lib.ListN.{length, take, drop, getD, length-take}
+use lib.ListN.{length, take, drop, length-take}
 use lib.Seq.{getD-take, getD-drop}
 use Rattle.refusal.specs.declared.Verdict.the-variants.{Accepted}
 use Rattle.refusal.specs.First.{first, passed}
 use Rattle.limits.specs.Limits.{maxDimensions, maxVectors, isDimensionCount, isVectorCount}
 use Rattle.limits.specs.Tests.{between}
 use Rattle.whole.specs.Components.{areComponents, component-at, all-components}
-use Rattle.order.specs.Pair.{Pair, keyed, ranked, numbersOf, countFrom}
+use Rattle.order.specs.Pair.{keyed, ranked, numbersOf, countFrom}
 use Rattle.order.specs.Merge.{keyed-ranked}
 use Rattle.order.specs.Rank.{keyAt, ranking}
 use Rattle.selection.specs.Reading.{scan}
 use Rattle.selection.specs.Kept.{keysOf}
 use Rattle.approximation.specs.Cells.{vectorAt}
 use Rattle.distance.specs.Small.{distance-small}
-use Rattle.search.specs.Scanning.{distancesOf, scanAnswer, scanCauses}
+use Rattle.search.specs.Scanning.{distancesOf, scanCauses}
 use Rattle.search.specs.Values.{valuesFrom, values-length, values-ranked}
 
 -- n vectors of d components in a row, and a query

@@ -51,9 +51,13 @@ module _ (keys order : List ℕ) (is : order ≡ ranking keys) where
 loop-holds : tie.Need-loop-holds Inv-loop μ-loop
 loop-holds c =
     let a = c .args in
-    let k = length (a .numbers .now) in
-    (omega arith, refl, refl, filling-start _ _ (sym (numbers-length (a .keys .now) (a .order .now) (c .pre .0) k (c .pre .2))),
-      filling-start _ _ (c .pre .3 ∙ sym (least-length (a .keys .now) (a .order .now) (c .pre .0) k (c .pre .2))))
+    let k = length (a .numbers .now) in (
+      omega arith,
+      refl,
+      refl,
+      filling-start _ _ (sym (numbers-length (a .keys .now) (a .order .now) (c .pre .0) k (c .pre .2))),
+      filling-start _ _ (c .pre .3 ∙ sym (least-length (a .keys .now) (a .order .now) (c .pre .0) k (c .pre .2))),
+    )
 
 below : (c : tie.In-loop Inv-loop μ-loop) → let start = c .before .before in getD (start .args .order .now) (c .before .loop .i) 0 < length (start .args .keys .now)
 below c =
@@ -71,10 +75,13 @@ loop-again c =
     let start = c .before .before .before .before in
     let a = start .args in
     let k = length (a .numbers .now) in
-    let more : at .i < k = omega arith in
-    (omega arith, simp length-set (at .inv .1), simp length-set (at .inv .2),
+    let more : at .i < k = omega arith in (
+      omega arith,
+      simp length-set (at .inv .1),
+      simp length-set (at .inv .2),
       next-number (a .keys .now) (a .order .now) (start .pre .0) k (start .pre .2) (at .numbers) (at .i) more (at .inv .3),
-      next-key (a .keys .now) (a .order .now) (start .pre .0) k (start .pre .2) (at .least) (at .i) more (at .inv .4))
+      next-key (a .keys .now) (a .order .now) (start .pre .0) k (start .pre .2) (at .least) (at .i) more (at .inv .4),
+    )
 
 returns : tie.Need-returns Inv-loop μ-loop
 returns c =
@@ -82,9 +89,10 @@ returns c =
     let start = c .before .before in
     let a = start .args in
     let k = length (a .numbers .now) in
-    let all : at .i ≡ k = omega arith in
-    (filling-end _ (at .numbers) (at .i) (all ∙ sym (numbers-length (a .keys .now) (a .order .now) (start .pre .0) k (start .pre .2))) (at .inv .3),
-      filling-end _ (at .least) (at .i) (all ∙ sym (least-length (a .keys .now) (a .order .now) (start .pre .0) k (start .pre .2))) (at .inv .4))
+    let all : at .i ≡ k = omega arith in (
+      filling-end _ (at .numbers) (at .i) (all ∙ sym (numbers-length (a .keys .now) (a .order .now) (start .pre .0) k (start .pre .2))) (at .inv .3),
+      filling-end _ (at .least) (at .i) (all ∙ sym (least-length (a .keys .now) (a .order .now) (start .pre .0) k (start .pre .2))) (at .inv .4),
+    )
 
 pub copy-first-spec : {M : Type 1} → statement M
 copy-first-spec =

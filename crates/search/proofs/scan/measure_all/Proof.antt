@@ -50,11 +50,13 @@ loop-again c =
     let more : at .i < n = omega arith in
     let size : at .i * a .d + a .d - at .i * a .d ≡ a .d = omega arith in
     let key =
-      c .squared-distance .ensures
-      ∙ ap (λ (m : ℕ). distanceOf (a .d) (a .query .now) (take m (drop (at .i * a .d) (a .vectors .now))) % 2 ^ 64) size
-      ∙ mod-eq-of-lt (scanned-small (start .pre) (at .i)) ∙ sym (value-at f n (at .i) more) in
-    (omega arith, simp length-set (at .inv .1),
-      filling-next (valuesFrom f 0 n) (at .keys) (at .i) (c .squared-distance .result) 0 (omega (arith, values-length f 0 n)) key (at .inv .2))
+    c .squared-distance .ensures
+    ∙ ap (λ (m : ℕ). distanceOf (a .d) (a .query .now) (take m (drop (at .i * a .d) (a .vectors .now))) % 2 ^ 64) size
+    ∙ mod-eq-of-lt (scanned-small (start .pre) (at .i)) ∙ sym (value-at f n (at .i) more) in (
+      omega arith,
+      simp length-set (at .inv .1),
+      filling-next (valuesFrom f 0 n) (at .keys) (at .i) (c .squared-distance .result) 0 (omega (arith, values-length f 0 n)) key (at .inv .2),
+    )
 
 returns : tie.Need-returns Inv-loop μ-loop
 returns c =

@@ -1,8 +1,7 @@
 -- `scan_all` meets its contract: the least of the distances are the scan's answer. Assumes nothing.
-use mathlib.Core.Path.{_≡_, sym, ap, _∙_, subst⁻¹}
+use mathlib.Core.Path.{sym, ap, _∙_, subst⁻¹}
 use mathlib.Core.List.{List, map}
-use Prim.Native.Nat.{ℕ, _≤_}
-use native.Mathlib.Omega.{arith}
+use Prim.Native.Nat.{ℕ}
 use lib.ListN.{length, take}
 use lib.Seq.{length-take-le}
 use borrow.Author.Needs.{needs}
@@ -44,10 +43,11 @@ returns c =
     let k = length (a .numbers .now) in
     let f = distancesOf (a .d) (a .query .now) (a .vectors .now) in
     let are =
-      shared-is _ _ (measured .measure-all .last .1 .1 .1 .0) (keys-hold known) (measured .measure-all .kept .1 .1 .1 .0)
-      ∙ measured .measure-all .ensures ∙ ap (valuesFrom f 0) (length-take-le _ _ (keys-hold known)) in
-    (wrote .write-least .ensures .0 ∙ ap (λ (keys : List ℕ). take k (ranking keys)) are ∙ scan-numbers f (a .n) k,
-      wrote .write-least .ensures .1 ∙ ap (λ (keys : List ℕ). map (keyAt keys) (take k (ranking keys))) are ∙ scan-keys f (a .n) k)
+    shared-is _ _ (measured .measure-all .last .1 .1 .1 .0) (keys-hold known) (measured .measure-all .kept .1 .1 .1 .0)
+    ∙ measured .measure-all .ensures ∙ ap (valuesFrom f 0) (length-take-le _ _ (keys-hold known)) in (
+      wrote .write-least .ensures .0 ∙ ap (λ (keys : List ℕ). take k (ranking keys)) are ∙ scan-numbers f (a .n) k,
+      wrote .write-least .ensures .1 ∙ ap (λ (keys : List ℕ). map (keyAt keys) (take k (ranking keys))) are ∙ scan-keys f (a .n) k,
+    )
 
 pub scan-all-spec : {M : Type 1} → statement M
 scan-all-spec =

@@ -1,5 +1,5 @@
 -- `write_least` meets its contract: the ranking is accepted, and its front is copied. Assumes nothing.
-use mathlib.Core.Path.{_≡_, refl, sym, ap, _∙_}
+use mathlib.Core.Path.{_≡_, sym, ap, _∙_}
 use mathlib.Core.List.{List, map, _++_}
 use Prim.Native.Nat.{ℕ, _≤_}
 use lib.ListN.{length, take, drop}
@@ -39,9 +39,12 @@ copy-first-requires : tie.Need-copy-first-requires
 copy-first-requires c κs =
     let rank = c .before .before .before .before in
     let known = rank .before .before in
-    let start = known .before .before .before in
-    (ranked-is (start .args .keys .now) _ (rank .rank .last .1 .0) (order-holds known) (start .pre .0) (start .pre .1) (rank .rank .kept .1 .0) (rank .rank .ensures .1),
-      start .pre .1, start .pre .2, start .pre .3)
+    let start = known .before .before .before in (
+      ranked-is (start .args .keys .now) _ (rank .rank .last .1 .0) (order-holds known) (start .pre .0) (start .pre .1) (rank .rank .kept .1 .0) (rank .rank .ensures .1),
+      start .pre .1,
+      start .pre .2,
+      start .pre .3,
+    )
 
 returns : tie.Need-returns
 returns c =
