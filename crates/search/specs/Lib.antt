@@ -2,6 +2,7 @@ pub mod Search
 pub mod Accepted
 pub mod Scanning
 pub mod Values
+pub mod Scanned
 pub mod Settled
 pub mod Rows
 pub mod Instance
