@@ -2,6 +2,7 @@
 pub mod codes;
 pub mod distances;
 pub mod marks;
+pub mod nearest;
 
 use reading::Intake;
 use reading::Reading;

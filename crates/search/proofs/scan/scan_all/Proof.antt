@@ -9,7 +9,7 @@ use Rattle.order.specs.Rank.{keyAt, ranking}
 use Rattle.search.specs.Scanning.{distancesOf}
 use Rattle.search.specs.Values.{valuesFrom}
 use Rattle.search.specs.Scanned.{Vectors, scan-numbers, scan-keys}
-use Rattle.search.proofs.Prefix.{back-within, shared-is, shared-length}
+use Rattle.partition.proofs.Prefix.{back-within, shared-is, shared-length}
 use Rattle.search.proofs.scan.scan_all.Statement.{statement}
 use Rattle.search.proofs.scan.scan_all.Tie as tie
 

@@ -10,7 +10,7 @@ use Rattle.refusal.specs.declared.Verdict.the-variants.{Accepted}
 use Rattle.refusal.specs.First.{first, outcome, outcome-accepted}
 use Rattle.limits.specs.Limits.{maxVectors}
 use Rattle.order.specs.Rank.{rankCauses, keyAt, ranking}
-use Rattle.search.proofs.Prefix.{back-within, shared-is}
+use Rattle.partition.proofs.Prefix.{back-within, shared-is}
 use Rattle.search.proofs.scan.write_least.Statement.{statement}
 use Rattle.search.proofs.scan.write_least.Tie as tie
 
