@@ -6,3 +6,5 @@ pub mod Settled
 pub mod Rows
 pub mod Instance
 pub mod Theorems
+pub mod Ready
+pub mod Answered

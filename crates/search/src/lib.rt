@@ -1,1 +1,2 @@
 // The full scan and the near-optimal search.
+pub mod reading;
