@@ -18,8 +18,8 @@ use Rattle.selection.specs.Kept.{keysOf}
 use Rattle.approximation.specs.Cells.{vectorAt, InCell}
 use Rattle.distance.specs.Small.{distance-small}
 use Rattle.distance.specs.CellComponents.{cell-components}
-use Rattle.search.specs.declared.reading.Searched.{Searched}
-use Rattle.search.specs.declared.reading.Searched.the-variants.{Read, Refused}
+use Rattle.search.specs.declared.search.Searched.{Searched}
+use Rattle.search.specs.declared.search.Searched.the-variants.{Read, Refused}
 use Rattle.search.specs.Search.{Library, Room, numbersIn, distanceIn, lowIn, inOwnCell, inOwnCells, searched}
 use Rattle.search.specs.Ready.{Ready, place}
 

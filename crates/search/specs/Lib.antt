@@ -8,3 +8,6 @@ pub mod Instance
 pub mod Theorems
 pub mod Ready
 pub mod Answered
+pub mod Searching
+pub mod Buffers
+pub mod Entry

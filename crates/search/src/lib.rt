@@ -1,2 +1,4 @@
 // The full scan and the near-optimal search.
-pub mod reading;
+mod entry;
+mod reading;
+pub mod search;

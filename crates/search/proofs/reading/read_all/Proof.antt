@@ -20,7 +20,7 @@ use Rattle.selection.specs.Loop.{Reached, after, reached-start, reached-next, r
 use Rattle.selection.specs.Kept.{pair, pairsOf, keysOf, Keeps}
 use Rattle.selection.specs.Holds.{Holds, holds-keys, holds-numbers, arrays-start, arrays-goes-on, arrays-next}
 use Rattle.selection.specs.Theorems.{best-length}
-use Rattle.search.specs.declared.reading.Searched.the-variants.{Read, Refused}
+use Rattle.search.specs.declared.search.Searched.the-variants.{Read, Refused}
 use Rattle.search.specs.Search.{Library, Room, numbersIn, distanceIn, lowIn, inOwnCell, inOwnCells, searched}
 use Rattle.search.specs.Values.{valuesFrom, value-at}
 use Rattle.search.specs.Ready.{library, Ready, Place, place, ordered-below}
