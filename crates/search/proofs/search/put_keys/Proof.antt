@@ -1,53 +1,35 @@
+-- `put_keys` meets its contract: the first i are written, and the rest is as it was. Assumes nothing.
+use mathlib.Core.Path.{_≡_, refl, sym, ap, _∙_}
+use mathlib.Core.List.{List, _++_}
+use Prim.Native.Nat.{ℕ, _+_, _-_, _≤_}
+use native.Mathlib.Omega.{arith}
+use lib.ListN.{length, take, drop, getD, set}
+use Rattle.search.specs.Buffers.{put-one, put-all, put-length}
 use Rattle.search.proofs.search.put_keys.Statement.{statement}
 use Rattle.search.proofs.search.put_keys.Tie as tie
-use Rattle.search.proofs.search.put_keys.Reads as reads
-use Rattle.search.proofs.search.put_keys.Lts as lts
 
 abbrev Inv-loop : tie.InvT-loop
-Inv-loop keys out₀ i₀ out i = ?
+Inv-loop keys out₀ i₀ out i = (i ≤ length out₀) × (length out ≡ length out₀) × (out ≡ take i keys ++ drop i out₀)
 
 abbrev μ-loop : tie.MeasureT-loop
-μ-loop keys out₀ i₀ out i = ?
+μ-loop keys out₀ i₀ out i = length out₀ - i
 
--- src/search.rt:257:5
-loop-holds : tie.Need-loop-holds Inv-loop μ-loop
-loop-holds c = ?
-
--- src/search.rt:258:18
-mul-out : tie.Need-mul-out Inv-loop μ-loop
-mul-out c = ?
-
--- src/search.rt:258:18
-shared-slice-read-out : tie.Need-shared-slice-read-out Inv-loop μ-loop
-shared-slice-read-out c = ?
-
--- src/search.rt:258:9
-mul-out-2 : tie.Need-mul-out-2 Inv-loop μ-loop
-mul-out-2 c = ?
-
--- src/search.rt:258:9
-slice-write-out : tie.Need-slice-write-out Inv-loop μ-loop
-slice-write-out c = ?
-
--- src/search.rt:259:9
-add-i : tie.Need-add-i Inv-loop μ-loop
-add-i c = ?
-
--- src/search.rt:257:5
-loop-less : tie.Need-loop-less Inv-loop μ-loop
-loop-less c = ?
-
--- src/search.rt:257:5
 loop-again : tie.Need-loop-again Inv-loop μ-loop
-loop-again c = ?
+loop-again c =
+    let at = c .before .before .loop in
+    let start = c .before .before .before in
+    let a = start .args in
+    let written = ap (λ (l : List ℕ). set l (at .i) (getD (a .keys .now) (at .i) 0)) (at .inv .2) ∙ put-one (at .i) (a .keys .now) (a .out .now) (omega (arith, start .pre)) (omega (arith, start .pre)) in (
+      omega arith,
+      ap length written ∙ put-length (at .i + 1) (a .keys .now) (a .out .now) (omega (arith, start .pre)) (omega (arith, start .pre)),
+      written,
+    )
 
--- src/search.rt:252:1
-same-length : tie.Need-same-length Inv-loop μ-loop
-same-length c = ?
-
--- src/search.rt:252:1
 returns : tie.Need-returns Inv-loop μ-loop
-returns c = ?
+returns c =
+    let at = c .before .loop in
+    let a = c .before .before .args in
+    at .inv .2 ∙ put-all (at .i) (a .keys .now) (a .out .now) (omega (arith, c .before .before .pre)) (omega arith)
 
 pub put-keys-spec : {M : Type 1} → statement M
 put-keys-spec =
@@ -55,13 +37,13 @@ put-keys-spec =
     (tie.spec
     Inv-loop
     μ-loop
-    loop-holds
-    mul-out
-    shared-slice-read-out
-    mul-out-2
-    slice-write-out
-    add-i
-    loop-less
+    (λ c. (omega arith, refl, refl))
+    (λ c. omega (arith, c .before .before .pre))
+    (λ c. omega (arith, c .before .before .before .pre))
+    (λ c. omega (arith, c .before .before .before .pre))
+    (λ c. omega (arith, c .before .before .before .pre, c .before .before .loop .inv .1))
+    (λ c. omega arith)
+    (λ c. omega arith)
     loop-again
-    same-length
+    (λ c. c .before .loop .inv .1)
     returns)
