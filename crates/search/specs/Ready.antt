@@ -65,6 +65,30 @@ ready l query k room accepts =
       marks = not-false (goodMarks (l .d) (l .b) (l .marks)) (marks .fails);
     }
 
+-- the same with other room for the answer
+pub ready-room : {l : Library} {query : List ℤ} {k : ℕ} {room : Room} → Ready l query k room → (numbers distances reads : ℕ) → numbers ≡ k → distances ≡ k → reads ≡ l .n
+    → Ready l query k (roomOf numbers distances reads)
+ready-room is numbers distances reads of-numbers of-distances of-reads =
+    let n = is .lengths in
+    record {
+      shaped = is .shaped;
+      dimensions = is .dimensions;
+      count = is .count;
+      some = is .some;
+      enough = is .enough;
+      lengths = record {
+        of-query = n .of-query;
+        of-marks = n .of-marks;
+        of-codes = n .of-codes;
+        of-vectors = n .of-vectors;
+        of-numbers = of-numbers;
+        of-distances = of-distances;
+        of-reads = of-reads;
+      };
+      components = is .components;
+      marks = is .marks;
+    }
+
 -- ---- a vector's place among the vectors
 
 pub record Place (d : ℕ) (vectors : List ℤ) (i : ℕ) : Type 0 where
