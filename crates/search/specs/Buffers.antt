@@ -37,6 +37,9 @@ module _ (n : ℕ) (array back : List ℕ) (within : n ≤ length array) (kept :
   pub shared-length : length (take n (back ++ drop n array)) ≡ n
   shared-length = ap length shared-is ∙ back-length
 
+  pub shared-enough : n ≤ length (take n (back ++ drop n array))
+  shared-enough = omega (arith, shared-length)
+
 -- functions that agree have the same values
 pub values-agree : (f g : ℕ → ℕ) (i n : ℕ) → ((j : ℕ) → j < i + n → f j ≡ g j) → valuesFrom f i n ≡ valuesFrom g i n
 unfolding valuesFrom

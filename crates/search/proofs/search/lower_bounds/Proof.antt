@@ -33,11 +33,11 @@ module _ {l : Library} {query : List ℤ} {k : ℕ} {room : Room} (is : Ready l 
       ∙ outcome-accepted _ _ (is .shaped)
       ∙ rw (eq-eqb _ _ (is .lengths .of-query), eq-eqb _ _ exact, eq-eqb _ _ (same ∙ exact))
 
-  bounds : (old back shared : List ℕ) → length old ≡ length (l .marks) → shared ≡ back
-      → back ≡ outcome (first (tableCauses (l .d) (l .b) (length (l .marks)) (length query) (length old))) (tableOf (stepOf Lower) (l .d) (l .b) (l .marks) query) (λ _. old)
-      → (n : ℕ) → n ≡ l .n → valuesFrom (boundSum (l .d) (l .b) shared (l .codes)) 0 n ≡ valuesFrom (lowIn l query) 0 (l .n)
-  bounds old back shared size same filled n count =
-      let table = same ∙ filled ∙ outcome-accepted _ _ (accepted (length old) size) in
+  bounds : (old back shared : List ℕ) (size : ℕ)
+      → back ≡ outcome (first (tableCauses (l .d) (l .b) (length (l .marks)) (length query) size)) (tableOf (stepOf Lower) (l .d) (l .b) (l .marks) query) (λ _. old)
+      → size ≡ length (l .marks) → shared ≡ back → (n : ℕ) → n ≡ l .n → valuesFrom (boundSum (l .d) (l .b) shared (l .codes)) 0 n ≡ valuesFrom (lowIn l query) 0 (l .n)
+  bounds old back shared size filled exact same n count =
+      let table = same ∙ filled ∙ outcome-accepted _ _ (accepted size exact) in
       rw (table, count)
       (values-agree (boundSum (l .d) (l .b) (tableOf (stepOf Lower) (l .d) (l .b) (l .marks) query) (l .codes)) (lowIn l query) 0 (l .n)
       (λ j below. bound-sum (l .d) (l .b) (l .marks) query (l .codes) j Lower (omega (arith, is .count)) (is .shaped) (is .components) (is .marks)))
@@ -56,8 +56,8 @@ returns c =
     let filled = c .before .before .before .before .before .before in
     let hold = table-hold (filled .before .before) in
     c .before .before .sum-bounds .ensures
-    ∙ bounds (start .pre .0) _ (filled .fill-table .last .1 .1 .1 .1 .1 .0) _ (length-take-le _ _ hold)
-    (shared-is _ _ (filled .fill-table .last .1 .1 .1 .1 .1 .0) hold (filled .fill-table .kept .1 .1 .1 .1 .1 .0)) (filled .fill-table .ensures .1) _ (start .pre .1)
+    ∙ bounds (start .pre .0) _ (filled .fill-table .last .1 .1 .1 .1 .1 .0) _ _ (filled .fill-table .ensures .1) (length-take-le _ _ hold)
+    (shared-is _ _ (filled .fill-table .last .1 .1 .1 .1 .1 .0) hold (filled .fill-table .kept .1 .1 .1 .1 .1 .0)) _ (start .pre .1)
 
 pub lower-bounds-spec : {M : Type 1} → statement M
 lower-bounds-spec =

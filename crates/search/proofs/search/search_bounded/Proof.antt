@@ -22,9 +22,9 @@ accepted : (n : ℕ) → 1 ≤ n → n ≤ maxVectors → first (rankCauses n n)
 unfolding first
 accepted n some few = rw (le-ltb n 1 some, le-ltb maxVectors n few, eq-eqb n n refl)
 
-ranks : (low : ℕ → ℕ) (n : ℕ) (lows old back : List ℕ) → 1 ≤ n → n ≤ maxVectors → lows ≡ valuesFrom low 0 n → length old ≡ n
-    → back ≡ outcome (first (rankCauses (length lows) (length old))) (ranking lows) (λ _. old) → back ≡ readingOrder low (countFrom 0 n)
-ranks low n lows old back some few are size is =
+ranks : (low : ℕ → ℕ) (n : ℕ) (lows old back : List ℕ) (room : ℕ) → 1 ≤ n → n ≤ maxVectors → lows ≡ valuesFrom low 0 n
+    → back ≡ outcome (first (rankCauses (length lows) room)) (ranking lows) (λ _. old) → room ≡ n → back ≡ readingOrder low (countFrom 0 n)
+ranks low n lows old back room some few are is size =
     let count : length lows ≡ n = ap length are ∙ values-length low 0 n in
     (rw (count, size) at is) ∙ outcome-accepted (ranking lows) (λ _. old) (accepted n some few) ∙ ap ranking are ∙ values-ranking low n
 
@@ -39,8 +39,8 @@ search-ordered-requires c κs =
     let pre = c .before .before .before .before .before .before .before .before .before .before .before .before .pre in
     let ranked = c .before .before .before .before .before in
     let hold = order-hold (ranked .before .before) in
-    (pre .0, pre .1, shared-is _ _ (ranked .rank .last .1 .0) hold (ranked .rank .kept .1 .0)
-    ∙ ranks _ _ _ _ (ranked .rank .last .1 .0) (omega (arith, pre .0 .some, pre .0 .enough)) (pre .0 .count) (pre .1) (length-take-le _ _ hold) (ranked .rank .ensures .1))
+    (pre .0, (pre .1, shared-is _ _ (ranked .rank .last .1 .0) hold (ranked .rank .kept .1 .0)
+    ∙ ranks _ _ _ _ (ranked .rank .last .1 .0) _ (omega (arith, pre .0 .some, pre .0 .enough)) (pre .0 .count) (pre .1) (ranked .rank .ensures .1) (length-take-le _ _ hold)))
 
 pub search-bounded-spec : {M : Type 1} → statement M
 search-bounded-spec =

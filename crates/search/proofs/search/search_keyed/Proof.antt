@@ -1,6 +1,6 @@
 -- `search_keyed` meets its contract: what was read is copied out where each vector read lies in its cell. Assumes nothing.
 use mathlib.Core.Path.{_≡_, refl, sym, ap, _∙_}
-use mathlib.Core.Bool.{true}
+use mathlib.Core.Bool.{Bool, cond}
 use mathlib.Core.List.{List, _++_}
 use Prim.Native.Nat.{ℕ, _≤_}
 use native.Mathlib.Omega.{arith}
@@ -8,7 +8,9 @@ use lib.IntN.{ℤ}
 use lib.ListN.{length, take, drop}
 use lib.Seq.{length-take-le}
 use borrow.Author.Needs.{needs}
-use Rattle.refusal.specs.First.{first, outcome-accepted}
+use Rattle.refusal.specs.declared.Refusal.{Refusal}
+use Rattle.refusal.specs.declared.Refusal.the-variants.{Cell}
+use Rattle.refusal.specs.First.{first, outcome-accepted, outcome-refused}
 use Rattle.order.specs.Counted.{counted-length}
 use Rattle.order.specs.Ranking.{ranked-count}
 use Rattle.selection.specs.Reading.{readingOrder}
@@ -19,7 +21,7 @@ use Rattle.search.specs.Search.{Library, numbersIn, distanceIn, lowIn, i
 use Rattle.search.specs.Theorems.{reads-are-the-order}
 use Rattle.search.specs.Ready.{roomOf, Ready, ready-room}
 use Rattle.search.specs.Answered.{Reads}
-use Rattle.search.specs.Buffers.{back-length, back-within, shared-is, shared-length, put-all}
+use Rattle.search.specs.Buffers.{back-within, shared-is, shared-enough, put-all}
 use Rattle.search.specs.Searching.{Searches, cellCauses, TellsRead, tells-read, tells-refused, cells-accepted, cells-refused}
 use Rattle.search.proofs.search.search_keyed.Statement.{statement}
 use Rattle.search.proofs.search.search_keyed.Tie as tie
@@ -54,6 +56,17 @@ module _ {l : Library} {query : List ℤ} {k : ℕ} {r : Searched} {keys best : 
               ∙ sym (outcome-accepted _ _ accepted);
         }
 
+    not-found : {cause : Refusal} → r ≡ Refused cause → Searches (first (cellCauses l query k)) l query k (Refused cause) numbers distances reads numbers distances reads
+    not-found is =
+        let out = tells-refused _ _ _ (sym (read .answer) ∙ is) in
+        let refused = cells-refused l query k out in
+        record {
+          answer = sym is ∙ read .answer ∙ ap (λ (cells : Bool). cond cells (Read (length (searched l query k .reads))) (Refused Cell)) out ∙ sym (outcome-refused _ _ refused);
+          numbers-are = sym (outcome-refused _ _ refused);
+          distances-are = sym (outcome-refused _ _ refused);
+          reads-are = sym (outcome-refused _ _ refused);
+        }
+
 best-hold : tie.Need-array-borrow-prefix-best
 best-hold c = search needs
 
@@ -61,7 +74,7 @@ read-all-requires : tie.Need-read-all-requires
 read-all-requires c κs =
     let start = c .before .before .before .before .before .before .before .before .before in
     let pre = start .pre in
-    (ready-room (pre .0 .0) _ _ _ (length-take-le _ _ (best-hold (c .before))) (pre .0 .1) refl, pre .1 .0, pre .1 .1)
+    (ready-room (pre .0 .0) _ _ _ (length-take-le _ _ (best-hold (c .before))) (pre .0 .1) refl, (pre .1 .0, pre .1 .1))
 
 best-within : tie.Need-array-share-prefix-best
 best-within c =
@@ -69,19 +82,33 @@ best-within c =
     back-within _ _ (read .read-all .last .1 .1 .1 .1 .1 .1 .1 .1 .1 .1 .1 .0) (best-hold (read .before .before)) (read .read-all .kept .1 .1 .1 .1 .1 .1 .1 .1 .1 .1 .1 .0)
 
 put-numbers-requires : tie.Need-put-numbers-requires
-put-numbers-requires c κs = ?
+put-numbers-requires c κs =
+    let read = c .before .before .before .before .before .before .before .before in
+    (shared-enough _ _ (read .read-all .last .1 .1 .1 .1 .1 .1 .1 .1 .1 .1 .1 .0) (best-hold (read .before .before)) (read .read-all .kept .1 .1 .1 .1 .1 .1 .1 .1 .1 .1 .1 .0), omega (arith, c .before .before .before .before .before .before .before .before .before .before .before .before .before .before .before .before .before .before .pre .0 .0 .lengths .of-numbers))
 
 put-keys-requires : tie.Need-put-keys-requires
-put-keys-requires c κs = ?
+put-keys-requires c κs =
+    let pre = c .before .before .before .before .before .before .before .before .before .before .before .before .before .before .before .before .before .before .before .before .before .before .before .pre in
+    c .before .before .before .before .before .before .before .before .before .before .before .before .before .read-all .kept .1 .1 .1 .1 .1 .1 .1 .1 .1 .1 .0 ∙ pre .0 .1 ∙ sym (pre .0 .0 .lengths .of-distances)
 
 put-numbers-requires-2 : tie.Need-put-numbers-requires-2
-put-numbers-requires-2 c κs = ?
+put-numbers-requires-2 c κs =
+    let start = c .before .before .before .before .before .before .before .before .before .before .before .before .before .before .before .before .before .before .before .before .before .before .before .before .before .before .before in
+    let pre = start .pre in
+    let within = count-within (c .before .before .before .before .before .before .before .before .before .before .before .before .before .before .before .before .before .read-all .ensures) (c .before .before .before .before .before .before .before .before .before .before .before .before .answer .given .1) in
+    let size = ap length (pre .1 .1) ∙ ranked-count _ _ ∙ counted-length 0 (start .args .n) in
+    (omega (arith, within, size), omega (arith, within, pre .0 .0 .lengths .of-reads))
 
 returns : tie.Need-returns
-returns c = ?
+returns c =
+    let pre = c .before .before .before .before .before .before .before .before .before .before .before .before .before .before .before .before .before .before .before .before .before .before .before .before .before .before .before .before .before .before .pre in
+    let read = c .before .before .before .before .before .before .before .before .before .before .before .before .before .before .before .before .before .before .before .before in
+    let hold = best-hold (read .before .before) in
+    found (read .read-all .ensures) (pre .0 .0) (c .before .before .before .before .before .before .before .before .before .before .before .before .before .before .before .answer .given .1) (read .read-all .kept .1 .1 .1 .1 .1 .1 .1 .1 .1 .1 .1 .0 ∙ length-take-le _ _ hold) _ _ _ _ _ (pre .1 .1)
+    (shared-is _ _ (read .read-all .last .1 .1 .1 .1 .1 .1 .1 .1 .1 .1 .1 .0) hold (read .read-all .kept .1 .1 .1 .1 .1 .1 .1 .1 .1 .1 .1 .0)) (c .before .before .before .before .before .before .before .before .before .before .before .put-numbers .ensures) (c .before .before .before .before .before .before .put-keys .ensures) (c .before .before .put-numbers2 .ensures)
 
 returns-2 : tie.Need-returns-2
-returns-2 c = ?
+returns-2 c = not-found (c .before .before .before .before .before .before .read-all .ensures) (c .before .before .before .before .before .before .before .before .before .before .before .before .before .before .before .before .pre .0 .0) (c .before .answer2 .given .1)
 
 pub search-keyed-spec : {M : Type 1} → statement M
 search-keyed-spec =

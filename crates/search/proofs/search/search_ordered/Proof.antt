@@ -11,7 +11,7 @@ keys-hold c = search needs
 search-keyed-requires : tie.Need-search-keyed-requires
 search-keyed-requires c κs =
     let pre = c .before .before .before .before .before .before .before .before .before .before .pre in
-    ((pre .0, length-take-le _ _ (keys-hold (c .before .before .before .before))), pre .1 .0, pre .1 .1)
+    ((pre .0, length-take-le _ _ (keys-hold (c .before .before .before .before))), (pre .1 .0, pre .1 .1))
 
 pub search-ordered-spec : {M : Type 1} → statement M
 search-ordered-spec =
