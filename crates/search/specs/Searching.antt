@@ -3,7 +3,6 @@ use mathlib.Core.Path.{_≡_, refl, sym, _∙_}
 use mathlib.Core.Bool.{Bool, true, false, not, cond}
 use mathlib.Core.List.{List, [], _∷_, _++_}
 use Prim.Native.Nat.{ℕ}
-use native.Mathlib.Omega.{arith}
 use lib.IntN.{ℤ}
 use lib.ListN.{length, drop}
 use Rattle.refusal.specs.declared.Refusal.{Refusal}
@@ -37,6 +36,12 @@ entered l query k room accepted = first-append (entryCauses l query k room) (cel
 pub not-entered : (l : Library) (query : List ℤ) (k : ℕ) (room : Room) {cause : Refusal} → first (entryCauses l query k room) ≡ verdict.Refused cause
     → first (searchCauses l query k room) ≡ verdict.Refused cause
 not-entered l query k room refused = first-append (entryCauses l query k room) (cellCauses l query k) ∙ outcome-refused _ _ refused
+
+-- the outcome of an equal verdict
+pub searches-by : {v w : Verdict} {l : Library} {query : List ℤ} {k : ℕ} {r : Searched} {numbers distances reads numbers-then distances-then reads-then : List ℕ} → w ≡ v
+    → Searches v l query k r numbers distances reads numbers-then distances-then reads-then
+    → Searches w l query k r numbers distances reads numbers-then distances-then reads-then
+searches-by e s = rw e s
 
 -- what a refusal leaves
 pub searches-refused : {v : Verdict} (l : Library) (query : List ℤ) (k : ℕ) (cause : Refusal) (numbers distances reads : List ℕ) → v ≡ verdict.Refused cause

@@ -1,4 +1,5 @@
 // The search that reads least.
+use crate::entry::check_entry;
 use crate::reading::read_all;
 use distance::Bound;
 use distance::table::MAX_TABLE;
@@ -6,6 +7,7 @@ use distance::table::code_bound;
 use distance::table::fill_table;
 use limits::MAX_VECTORS;
 use refusal::Refusal;
+use refusal::Verdict;
 ghost use mathlib.Core.Path.{_≡_};
 ghost use mathlib.Core.List.{_++_};
 ghost use Prim.Native.Nat.{_≤_};
@@ -13,7 +15,7 @@ ghost use lib.ListN.{length, take, drop};
 ghost use Rattle.refusal.specs.First.{first};
 ghost use Rattle.distance.specs.Table.{boundSum};
 ghost use Rattle.selection.specs.Reading.{readingOrder};
-ghost use Rattle.search.specs.Search.{numbersIn, lowIn};
+ghost use Rattle.search.specs.Search.{numbersIn, lowIn, searchCauses};
 ghost use Rattle.search.specs.Values.{valuesFrom};
 ghost use Rattle.search.specs.Ready.{library, roomOf, Ready};
 ghost use Rattle.search.specs.Searching.{Searches, cellCauses};
@@ -22,6 +24,58 @@ ghost use Rattle.search.specs.Searching.{Searches, cellCauses};
 pub enum Searched {
     Read(usize),
     Refused(Refusal),
+}
+
+// The k nearest of n vectors, by number and distance, and the numbers of the vectors that were read, in reading order; the answer is how
+// many those are. What is not written of `reads` keeps its content, and a refusal changes nothing.
+pub fn search(
+    d: usize,
+    b: usize,
+    n: usize,
+    k: usize,
+    query: &[i32],
+    marks: &[i32],
+    codes: &[u8],
+    vectors: &[i32],
+    numbers: &mut [u32],
+    distances: &mut [u64],
+    reads: &mut [u32],
+) -> Searched
+    ensures { λ r. let l = library d b n (now (marks .entry)) (now (codes .entry)) (now (vectors .entry)) in
+        let room = roomOf (length (now (numbers .entry))) (length (now (distances .entry))) (length (now (reads .entry))) in
+        ⌜ Searches (first (searchCauses l (now (query .entry)) k room)) l (now (query .entry)) k r
+        (now (numbers .entry)) (now (distances .entry)) (now (reads .entry))
+        (now (numbers .exit)) (now (distances .exit)) (now (reads .exit)) ⌝ }
+{
+    let verdict = check_entry(
+        d,
+        b,
+        n,
+        k,
+        query,
+        marks,
+        codes,
+        vectors,
+        numbers.len(),
+        distances.len(),
+        reads.len(),
+    );
+    match verdict {
+        Verdict::Accepted => search_ready(
+            d,
+            b,
+            n,
+            k,
+            query,
+            marks,
+            codes,
+            vectors,
+            numbers,
+            distances,
+            reads,
+        ),
+        Verdict::Refused(cause) => Searched::Refused(cause),
+    }
 }
 
 // The search where nothing refuses at its entry.

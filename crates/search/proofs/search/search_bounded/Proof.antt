@@ -38,9 +38,14 @@ search-ordered-requires : tie.Need-search-ordered-requires
 search-ordered-requires c κs =
     let pre = c .before .before .before .before .before .before .before .before .before .before .before .before .pre in
     let ranked = c .before .before .before .before .before in
-    let hold = order-hold (ranked .before .before) in
-    (pre .0, (pre .1, shared-is _ _ (ranked .rank .last .1 .0) hold (ranked .rank .kept .1 .0)
-    ∙ ranks _ _ _ _ (ranked .rank .last .1 .0) _ (omega (arith, pre .0 .some, pre .0 .enough)) (pre .0 .count) (pre .1) (ranked .rank .ensures .1) (length-take-le _ _ hold)))
+    let hold = order-hold (ranked .before .before) in (
+      pre .0,
+      (
+        pre .1,
+        shared-is _ _ (ranked .rank .last .1 .0) hold (ranked .rank .kept .1 .0)
+            ∙ ranks _ _ _ _ (ranked .rank .last .1 .0) _ (omega (arith, pre .0 .some, pre .0 .enough)) (pre .0 .count) (pre .1) (ranked .rank .ensures .1) (length-take-le _ _ hold),
+      ),
+    )
 
 pub search-bounded-spec : {M : Type 1} → statement M
 search-bounded-spec =
