@@ -7,3 +7,9 @@ pub mod Settled
 pub mod Rows
 pub mod Instance
 pub mod Theorems
+pub mod Ready
+pub mod Answered
+pub mod Searching
+pub mod Buffers
+pub mod Entry
+pub mod Answer

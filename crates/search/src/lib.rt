@@ -1,2 +1,5 @@
 // The full scan and the near-optimal search.
+mod entry;
+mod reading;
 pub mod scan;
+pub mod search;
