@@ -66,7 +66,19 @@ pub extern "C" fn matcher_search(
         ⌜ now (reads .exit)
         ≡ outcome (first (searchCauses l (now (query .entry)) k room)) (searched l (now (query .entry)) k .reads ++ drop (length (searched l (now (query .entry)) k .reads)) (now (reads .entry))) (λ _. now (reads .entry)) ⌝ }
 {
-    match search::search::search(d, b, n, k, query, marks, codes, vectors, numbers, distances, reads) {
+    match search::search::search(
+        d,
+        b,
+        n,
+        k,
+        query,
+        marks,
+        codes,
+        vectors,
+        numbers,
+        distances,
+        reads,
+    ) {
         Searched::Read(read) => {
             *count = read;
             0

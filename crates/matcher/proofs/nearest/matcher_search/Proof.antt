@@ -18,10 +18,38 @@ verdict c =
     (roomOf (length (a .numbers .now)) (length (a .distances .now)) (length (a .reads .now))))
 
 returns : tie.Need-returns
-returns c = ?
+returns c =
+    let asked = c .before .before .before .before .before .before .before .before .before in
+    let start = asked .before .before .before .before .before .before .before .before in
+    let outcome = asked .search .ensures in
+    let is = sym (c .before .read .given .1) ∙ outcome .answer in (
+      told-number searchedNumber _ _ refl (λ cause. refl) (verdict start) is,
+      (told-value searchedCount _ _ (verdict start) is, (outcome .numbers-are, (outcome .distances-are, outcome .reads-are))),
+    )
 
 returns-2 : tie.Need-returns-2
-returns-2 c = ?
+returns-2 c =
+    let asked = c .before .before .before .before .before .before .before .before .before .before in
+    let start = asked .before .before .before .before .before .before .before .before in
+    let outcome = asked .search .ensures in
+    let is = sym (c .before .before .cause .given .1) ∙ outcome .answer in (
+      c .number .ensures ∙ told-number searchedNumber _ _ refl (λ cause. refl) (verdict start) is,
+      (told-value searchedCount _ _ (verdict start) is, (outcome .numbers-are, (outcome .distances-are, outcome .reads-are))),
+    )
 
 pub matcher-search-spec : {M : Type 1} → statement M
-matcher-search-spec = tie.close (tie.spec (λ c κs. search needs) (λ c. search needs) (λ c. search needs) (λ c κs. search needs) returns returns-2)
+matcher-search-spec =
+    tie.close
+    (tie.spec
+    (λ c κs. search needs)
+    (λ c. search needs)
+    (λ c. search needs)
+    (λ c κs. search needs)
+    (λ c. search needs)
+    (λ c. search needs)
+    (λ c. search needs)
+    returns
+    (λ c. search needs)
+    (λ c. search needs)
+    (λ c. search needs)
+    returns-2)
