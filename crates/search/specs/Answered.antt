@@ -1,6 +1,6 @@
 -- What reading gives: the best where each vector read lies in its cell, and a refusal otherwise. Assumes nothing.
-use mathlib.Core.Path.{_≡_, refl, sym, ap, _∙_}
-use mathlib.Core.Bool.{Bool, true, false, cond, _&&_, and-eq-true-iff, and-true}
+use mathlib.Core.Path.{_≡_, refl, sym, _∙_}
+use mathlib.Core.Bool.{Bool, true, false, cond, and-eq-true-iff}
 use mathlib.Core.List.{List, [], _∷_, _++_, List·Memᴰ·head, List·Memᴰ·tail}
 use Prim.Native.Nat.{ℕ, suc, _%_, _^_, _<_}
 use native.Mathlib.Nat.{mod-eq-of-lt}
@@ -8,10 +8,10 @@ use native.Mathlib.Omega.{arith}
 use lib.IntN.{ℤ}
 use lib.ListN.{length, getD}
 use Rattle.refusal.specs.declared.Refusal.the-variants.{Cell}
-use Rattle.order.specs.Pair.{numbersOf, keyed, pairOf}
+use Rattle.order.specs.Pair.{numbersOf, pairOf}
 use Rattle.order.specs.Members.{_∈_}
 use Rattle.order.specs.Counted.{counted-length}
-use Rattle.selection.specs.Reading.{Reading, readNext, goesOn, readingOrder, read}
+use Rattle.selection.specs.Reading.{readNext, goesOn, readingOrder}
 use Rattle.selection.specs.Loop.{Reached, after, after-next, reached-next}
 use Rattle.selection.specs.Steps.{next-read}
 use Rattle.selection.specs.Kept.{keysOf}
@@ -62,9 +62,6 @@ measured {l} {query} is i below inside =
 -- ---- the loop
 
 module _ (l : Library) (query : List ℤ) (k done : ℕ) (more : done < l .n) where
-  abbrev next : ℕ
-  next = getD (readingOrder (lowIn l query) (numbersIn l)) done 0
-
   within : done < length (numbersIn l)
   within = omega (arith, counted-length 0 (l .n))
 

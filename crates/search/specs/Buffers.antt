@@ -9,7 +9,7 @@ use lib.Seq.{length-take-le, take-at, take-all}
 use Rattle.search.specs.Values.{valuesFrom}
 
 -- the first i elements of a buffer are another list's: one more of them, all of them
-pub put-one : (i : ℕ) (new old : List ℕ) → i < length new → i < length old → set (take i new ++ drop i old) i (getD new i 0) ≡ take (i + 1) new ++ drop (i + 1) old
+put-one : (i : ℕ) (new old : List ℕ) → i < length new → i < length old → set (take i new ++ drop i old) i (getD new i 0) ≡ take (i + 1) new ++ drop (i + 1) old
 put-one i new old more room = rw add-one (go i new old more room)
   where
     go : (i : ℕ) (new old : List ℕ) → i < length new → i < length old → set (take i new ++ drop i old) i (getD new i 0) ≡ take (suc i) new ++ drop (suc i) old
@@ -21,8 +21,15 @@ put-one i new old more room = rw add-one (go i new old more room)
 pub put-all : (n : ℕ) (new old : List ℕ) → length new ≤ n → length old ≤ n → take n new ++ drop n old ≡ new
 put-all n new old new-all old-all = rw (take-all n new new-all, drop-of-length-le old {i = n} old-all, append-nil)
 
-pub put-length : (i : ℕ) (new old : List ℕ) → i ≤ length new → i ≤ length old → length (take i new ++ drop i old) ≡ length old
+put-length : (i : ℕ) (new old : List ℕ) → i ≤ length new → i ≤ length old → length (take i new ++ drop i old) ≡ length old
 put-length i new old more room = omega (arith, length-append (take i new) (drop i old), length-take-le i new more, length-drop i old)
+
+-- a turn that writes x, the next of them
+pub put-next : (i : ℕ) (new old out : List ℕ) (x : ℕ) → i < length new → i < length old → out ≡ take i new ++ drop i old → x ≡ getD new i 0
+    → (length (set out i x) ≡ length old) × (set out i x ≡ take (i + 1) new ++ drop (i + 1) old)
+put-next i new old out x more room so-far next =
+    let written : set out i x ≡ take (i + 1) new ++ drop (i + 1) old = rw (so-far, next) (put-one i new old more room) in
+    (ap length written ∙ put-length (i + 1) new old (omega arith) (omega arith), written)
 
 module _ (n : ℕ) (array back : List ℕ) (within : n ≤ length array) (kept : length back ≡ length (take n array)) where
   pub back-length : length back ≡ n

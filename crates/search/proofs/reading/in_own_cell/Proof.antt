@@ -1,6 +1,5 @@
 -- `in_own_cell` meets its contract: the part that is lent is the vector, and the cell is there. Assumes nothing.
 use mathlib.Core.Path.{_≡_, ap, _∙_}
-use mathlib.Core.List.{List}
 use Prim.Native.Nat.{ℕ, _+_, _-_, _*_, _^_, _<_}
 use native.Mathlib.Omega.{arith}
 use lib.ListN.{take, drop}
@@ -8,7 +7,6 @@ use borrow.Author.Needs.{needs}
 use borrow.Author.Tests.{lt-ltb}
 use Rattle.refusal.specs.First.{outcome-accepted}
 use Rattle.limits.specs.Limits.{maxVectors}
-use Rattle.approximation.specs.Cells.{inFirst}
 use Rattle.approximation.specs.CellCauses.{cellHolds}
 use Rattle.search.proofs.reading.in_own_cell.Statement.{statement}
 use Rattle.search.proofs.reading.in_own_cell.Tie as tie

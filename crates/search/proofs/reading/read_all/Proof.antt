@@ -1,8 +1,8 @@
 -- `read_all` meets its contract: the laws of a loop that reads, and of the cells of the vectors read. Assumes nothing.
 use mathlib.Core.Path.{_≡_, refl, sym, ap, _∙_}
-use mathlib.Core.Bool.{Bool, true, false, cond}
+use mathlib.Core.Bool.{Bool, true, false}
 use mathlib.Core.List.{List}
-use Prim.Native.Nat.{ℕ, suc, _+_, _-_, _%_, _^_, _≤_, _<_}
+use Prim.Native.Nat.{ℕ, _+_, _-_, _%_, _^_, _≤_, _<_}
 use native.Mathlib.Numerals.{add-one}
 use native.Mathlib.Omega.{arith}
 use lib.IntN.{ℤ}
@@ -11,13 +11,13 @@ use lib.Seq.{length-take-le, take-all}
 use borrow.Author.Needs.{needs}
 use borrow.Author.Tests.{not-true, not-false}
 use Rattle.refusal.specs.declared.Refusal.the-variants.{Cell}
-use Rattle.order.specs.Pair.{numbersOf, pairOf}
+use Rattle.order.specs.Pair.{pairOf}
 use Rattle.order.specs.Rank.{keyAt}
 use Rattle.order.specs.Counted.{counted-length}
 use Rattle.order.specs.Ranking.{ranked-count}
 use Rattle.selection.specs.Reading.{Reading, readingOrder, goesOn}
 use Rattle.selection.specs.Loop.{Reached, after, reached-start, reached-next, reached-stop, reached-end}
-use Rattle.selection.specs.Kept.{pair, pairsOf, keysOf, Keeps}
+use Rattle.selection.specs.Kept.{pair, pairsOf, Keeps}
 use Rattle.selection.specs.Holds.{Holds, holds-keys, holds-numbers, arrays-start, arrays-goes-on, arrays-next}
 use Rattle.selection.specs.Theorems.{best-length}
 use Rattle.search.specs.declared.search.Searched.the-variants.{Read, Refused}

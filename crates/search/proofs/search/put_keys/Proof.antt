@@ -1,10 +1,10 @@
 -- `put_keys` meets its contract: the first i are written, and the rest is as it was. Assumes nothing.
-use mathlib.Core.Path.{_≡_, refl, sym, ap, _∙_}
-use mathlib.Core.List.{List, _++_}
-use Prim.Native.Nat.{ℕ, _+_, _-_, _≤_}
+use mathlib.Core.Path.{_≡_, refl, _∙_}
+use mathlib.Core.List.{_++_}
+use Prim.Native.Nat.{_+_, _-_, _≤_}
 use native.Mathlib.Omega.{arith}
-use lib.ListN.{length, take, drop, getD, set}
-use Rattle.search.specs.Buffers.{put-one, put-all, put-length}
+use lib.ListN.{length, take, drop}
+use Rattle.search.specs.Buffers.{put-next, put-all}
 use Rattle.search.proofs.search.put_keys.Statement.{statement}
 use Rattle.search.proofs.search.put_keys.Tie as tie
 
@@ -18,12 +18,8 @@ loop-again : tie.Need-loop-again Inv-loop μ-loop
 loop-again c =
     let at = c .before .before .loop in
     let start = c .before .before .before in
-    let a = start .args in
-    let written = ap (λ (l : List ℕ). set l (at .i) (getD (a .keys .now) (at .i) 0)) (at .inv .2) ∙ put-one (at .i) (a .keys .now) (a .out .now) (omega (arith, start .pre)) (omega (arith, start .pre)) in (
-      omega arith,
-      ap length written ∙ put-length (at .i + 1) (a .keys .now) (a .out .now) (omega (arith, start .pre)) (omega (arith, start .pre)),
-      written,
-    )
+    let next = put-next (at .i) (start .args .keys .now) (start .args .out .now) (at .out) _ (omega (arith, start .pre)) (omega (arith, start .pre)) (at .inv .2) refl in
+    (omega arith, next .0, next .1)
 
 returns : tie.Need-returns Inv-loop μ-loop
 returns c =

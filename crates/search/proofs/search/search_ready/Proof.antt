@@ -1,5 +1,5 @@
 -- `search_ready` meets its contract: the lower bounds that came back are those that the search goes by. Assumes nothing.
-use mathlib.Core.Path.{_≡_, refl, sym, _∙_}
+use mathlib.Core.Path.{refl, sym, _∙_}
 use lib.Seq.{length-take-le}
 use borrow.Author.Needs.{needs}
 use Rattle.search.specs.Ready.{ready-room}

@@ -1,13 +1,13 @@
 -- `sum_bounds` meets its contract: the first i bounds are written. Assumes nothing.
-use mathlib.Core.Path.{_≡_, refl, sym, ap, _∙_}
+use mathlib.Core.Path.{_≡_, refl, sym, _∙_}
 use mathlib.Core.List.{List, _++_}
 use Prim.Native.Nat.{ℕ, _+_, _-_, _≤_, _<_}
 use native.Mathlib.Omega.{arith}
-use lib.ListN.{length, take, drop, getD, set}
+use lib.ListN.{length, take, drop}
 use borrow.Author.Needs.{needs}
 use Rattle.distance.specs.Table.{boundSum}
 use Rattle.search.specs.Values.{valuesFrom, values-length, value-at}
-use Rattle.search.specs.Buffers.{put-one, put-all, put-length}
+use Rattle.search.specs.Buffers.{put-next, put-all}
 use Rattle.search.proofs.search.sum_bounds.Statement.{statement}
 use Rattle.search.proofs.search.sum_bounds.Tie as tie
 
@@ -22,26 +22,15 @@ Inv-loop d b table codes lows₀ i₀ lows i =
 abbrev μ-loop : tie.MeasureT-loop
 μ-loop d b table codes lows₀ i₀ lows i = length lows₀ - i
 
--- one more bound x
-turn : (f : ℕ → ℕ) (lows₀ lows : List ℕ) (i x : ℕ) → i < length lows₀ → lows ≡ take i (valuesFrom f 0 (length lows₀)) ++ drop i lows₀ → x ≡ f i
-    → set lows i x ≡ take (i + 1) (valuesFrom f 0 (length lows₀)) ++ drop (i + 1) lows₀
-turn f lows₀ lows i x more so-far is =
-    let count = values-length f 0 (length lows₀) in
-    let next = is ∙ sym (value-at f (length lows₀) i more) in
-    rw (so-far, next) (put-one i (valuesFrom f 0 (length lows₀)) lows₀ (omega arith) more)
-
 loop-again : tie.Need-loop-again Inv-loop μ-loop
 loop-again c =
     let at = c .before .before .loop in
     let a = c .before .before .before .before .before .before .args in
     let f = boundSum (a .d) (a .b) (a .table .now) (a .codes .now) in
-    let more : at .i < length (a .lows .now) = omega arith in
-    let written = turn f (a .lows .now) (at .lows) (at .i) (c .code-bound .result) more (at .inv .2) (c .code-bound .ensures) in
-    let count = values-length f 0 (length (a .lows .now)) in (
-      omega arith,
-      ap length written ∙ put-length (at .i + 1) (valuesFrom f 0 (length (a .lows .now))) (a .lows .now) (omega arith) (omega arith),
-      written,
-    )
+    let n = length (a .lows .now) in
+    let more : at .i < n = omega arith in
+    let next = put-next (at .i) (valuesFrom f 0 n) (a .lows .now) (at .lows) _ (omega (arith, values-length f 0 n)) more (at .inv .2) (c .code-bound .ensures ∙ sym (value-at f n (at .i) more)) in
+    (omega arith, next .0, next .1)
 
 returns : tie.Need-returns Inv-loop μ-loop
 returns c =
