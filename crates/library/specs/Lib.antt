@@ -1,0 +1,17 @@
+pub mod Each
+pub mod EachLaws
+pub mod Library
+pub mod Write
+pub mod Load
+pub mod Places
+pub mod ReadWritten
+pub mod Writable
+pub mod MarkLaws
+pub mod LoadWritten
+pub mod WriteLoaded
+pub mod RoundTrip
+pub mod Sizes
+pub mod SignedBytes
+pub mod WriteLaws
+pub mod Heads
+pub mod ReadLaws

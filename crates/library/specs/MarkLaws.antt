@@ -1,0 +1,94 @@
+-- The marks of a buffer by their numbers: those of a dimension stand behind those of the dimensions before it. Assumes nothing.
+use mathlib.Core.Path.{_≡_, refl, sym, ap, _∙_}
+use mathlib.Core.Bool.{true, false, not, _&&_}
+use mathlib.Core.List.{List, [], _∷_}
+use Prim.Native.Nat.{ℕ, zero, suc, _+_, _-_, _^_, _≤_, _<_}
+use native.Mathlib.Nat.{add-zero}
+use native.Mathlib.Decide.{decLt}
+use native.Mathlib.Omega.{arith}
+use lib.IntN.{ℤ, pos}
+use lib.Signed.{leZ, ltZ}
+use lib.ListN.{length, getD, take, drop, length-drop}
+use lib.Seq.{getD-take, getD-drop, length-take-le}
+use Rattle.limits.specs.Limits.{isMark}
+use Rattle.limits.specs.Tests.{ltZ-not}
+use Rattle.layout.specs.Layout.{bitsOf, markCount, firstMarks}
+use Rattle.layout.specs.Laws.{marks-within}
+use Rattle.partition.specs.Marks.{dimensionMarks, goodDimension, goodFirst, goodMarks}
+use Rattle.partition.specs.Region.{inMarks}
+use Rattle.partition.specs.Regions.{good-first, marks-rise, last-mark}
+use Rattle.library.specs.Each.{every}
+use Rattle.library.specs.EachLaws.{every-at}
+
+-- ---- one dimension
+
+mark-in-range : (marks : List ℤ) → goodDimension marks ≡ true → (i : ℕ) → i < length marks → isMark (getD marks i (pos 0)) ≡ true
+mark-in-range [] good i h = absurd (omega arith)
+mark-in-range (m ∷ ms) good zero h = good-first m ms good .in-range
+mark-in-range (m ∷ ms) good (suc i) h = mark-in-range ms (good-first m ms good .rest) i (omega arith)
+
+-- ---- all dimensions
+
+-- mark p is number i of dimension t + 1, both from 0
+pub record Numbered (d b n p : ℕ) : Type 0 where
+  pub t : ℕ
+  pub i : ℕ
+  pub among : t < n
+  pub within : i < markCount d b (suc t)
+  pub is : p ≡ firstMarks d b t + i
+
+pub numbered : (d b n p : ℕ) → p < firstMarks d b n → Numbered d b n p
+unfolding firstMarks
+numbered d b zero p h = absurd (omega arith)
+numbered d b (suc n) p h = go (decLt p (firstMarks d b n)) (numbered d b n p)
+  where
+    go : Dec (p < firstMarks d b n) → (p < firstMarks d b n → Numbered d b n p) → Numbered d b (suc n) p
+    go (yes less) before =
+        let of = before less in
+        record { t = of .t; i = of .i; among = omega (arith, of .among); within = of .within; is = of .is }
+    go (no more) before =
+        let past : firstMarks d b n ≤ p = omega arith in
+        record { t = n; i = p - firstMarks d b n; among = omega arith; within = omega arith; is = omega arith }
+
+good-each : (d b : ℕ) (marks : List ℤ) (n : ℕ) → goodFirst d b marks n ≡ every n (λ t. goodDimension (dimensionMarks d b marks (suc t)))
+unfolding goodFirst every
+good-each d b marks zero = refl
+good-each d b marks (suc n) = rw (good-each d b marks n)
+
+module _ (d b : ℕ) (marks : List ℤ) (whole : length marks ≡ firstMarks d b d) (t : ℕ) (among : t < d) where
+  room : firstMarks d b t + markCount d b (suc t) ≤ length marks
+  unfolding firstMarks
+  room = rw whole (marks-within d b d t among)
+
+  part-is : dimensionMarks d b marks (suc t) ≡ take (markCount d b (suc t)) (drop (firstMarks d b t) marks)
+  unfolding dimensionMarks
+  part-is =
+      let before : suc t - 1 ≡ t = omega arith in
+      rw before
+
+  part-length : length (dimensionMarks d b marks (suc t)) ≡ markCount d b (suc t)
+  part-length = rw part-is (length-take-le (markCount d b (suc t)) (drop (firstMarks d b t) marks) (rw length-drop (omega (arith, room))))
+
+  part-at : (i : ℕ) → i < markCount d b (suc t) → getD (dimensionMarks d b marks (suc t)) i (pos 0) ≡ getD marks (firstMarks d b t + i) (pos 0)
+  part-at i h = rw (part-is, getD-take (markCount d b (suc t)) (drop (firstMarks d b t) marks) i (pos 0) h) (getD-drop (firstMarks d b t) marks i (pos 0))
+
+  -- a value lies inside a dimension's marks where it is at least the first and below the last
+  pub in-marks-at : (v : ℤ) → inMarks (dimensionMarks d b marks (suc t)) v ≡ leZ (getD marks (firstMarks d b t) (pos 0)) v && ltZ v (getD marks (firstMarks d b t + 2 ^ bitsOf d b (suc t)) (pos 0))
+  unfolding inMarks
+  in-marks-at v =
+      let last = last-mark (dimensionMarks d b marks (suc t)) (2 ^ bitsOf d b (suc t)) (omega (arith, part-length)) in
+      rw (last, part-at 0 (omega arith), part-at (2 ^ bitsOf d b (suc t)) (omega arith), add-zero)
+
+  -- ---- where the marks are good
+
+  module _ (good : goodMarks d b marks ≡ true) where
+    good-part : goodDimension (dimensionMarks d b marks (suc t)) ≡ true
+    good-part = every-at d (λ t. goodDimension (dimensionMarks d b marks (suc t))) (sym (good-each d b marks d) ∙ good) t among
+
+    pub good-range : (i : ℕ) → i < markCount d b (suc t) → isMark (getD marks (firstMarks d b t + i) (pos 0)) ≡ true
+    good-range i h = rw (part-at i h) at (mark-in-range (dimensionMarks d b marks (suc t)) good-part i (omega (arith, part-length)))
+
+    pub good-rise : (i : ℕ) → suc i < markCount d b (suc t) → ltZ (getD marks (firstMarks d b t + suc i) (pos 0)) (getD marks (firstMarks d b t + i) (pos 0)) ≡ false
+    good-rise i h =
+        let rises = marks-rise (dimensionMarks d b marks (suc t)) good-part i (suc i) (omega arith) (omega (arith, part-length)) in
+        rw (part-at i (omega arith), part-at (suc i) h) at (ltZ-not (getD (dimensionMarks d b marks (suc t)) (suc i) (pos 0)) (getD (dimensionMarks d b marks (suc t)) i (pos 0)) ∙ ap not rises)

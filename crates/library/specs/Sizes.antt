@@ -1,0 +1,96 @@
+-- The sizes of a library whose counts are within the limits, and the places of its records as numbers. Assumes nothing.
+use mathlib.Core.Path.{_≡_, refl, _∙_}
+use mathlib.Core.Bool.{true}
+use mathlib.Core.List.{List}
+use lib.IntN.{ℤ}
+use lib.ListN.{length}
+use Prim.Native.Nat.{ℕ, suc, _+_, _-_, _*_, _^_, _≤_, _<_}
+use native.Mathlib.Nat.{mul-le-mul-left, le-trans}
+use native.Mathlib.Numerals.{add-one}
+use native.Mathlib.Omega.{arith}
+use borrow.Author.Tests.{le-leb}
+use Rattle.refusal.specs.declared.Refusal.the-variants.{Dimension}
+use Rattle.refusal.specs.declared.Verdict.the-variants.{Accepted}
+use Rattle.refusal.specs.First.{first, first-next, outcome-accepted}
+use Rattle.limits.specs.Limits.{maxDimensions, maxDimensionBits, maxVectors}
+use Rattle.layout.specs.declared.Stretch.{Stretch}
+use Rattle.layout.specs.Layout.{bitsOf, firstMarks}
+use Rattle.layout.specs.Laws.{marks-le}
+use Rattle.layout.specs.Stretch.{Shape, shapeCauses, dimensionCauses, marksLength, Stretches}
+use Rattle.records.specs.Records.{vectorKind, formats, widthsAmong, widthsOf, sum, recordLength}
+use Rattle.whole.specs.Components.{areComponents}
+use Rattle.library.specs.Library.{markTotal, markPlace, vectorPlace, libraryLength}
+
+-- d dimensions with b bits in all, and no more than so many vectors
+pub record Small (d b n : ℕ) : Type 0 where
+  pub shape-passes : first (shapeCauses d b) ≡ Accepted
+  pub few : n ≤ maxVectors
+
+-- as many marks as the dimensions have
+pub record Dimensioned (d b : ℕ) (marks : List ℤ) : Type 0 where
+  pub shape-passes : first (shapeCauses d b) ≡ Accepted
+  pub marks-count : length marks ≡ markTotal d b
+
+pub record Sized (d b n : ℕ) (marks components : List ℤ) : Type 0 where
+  pub of-marks : Dimensioned d b marks
+  pub few : n ≤ maxVectors
+  pub components-count : length components ≡ n * d
+
+-- n vectors with room for them behind m marks
+pub record Writing (d n m : ℕ) (settings : List ℕ) (components : List ℤ) (room : ℕ) : Type 0 where
+  pub few-dimensions : d ≤ maxDimensions
+  pub few : n ≤ maxVectors
+  pub few-marks : m ≤ 2080
+  pub settings-count : length settings ≡ n
+  pub of-components : areComponents components ≡ true
+  pub fits : vectorPlace m n ≤ room
+
+-- ---- places as numbers
+
+pub mark-place : (i : ℕ) → markPlace i ≡ 5 + i * 5
+unfolding markPlace recordLength sum widthsOf widthsAmong formats
+mark-place i = refl
+
+pub vector-place : (m i : ℕ) → vectorPlace m i ≡ 5 + m * 5 + i * 69
+unfolding vectorPlace markPlace recordLength sum widthsOf widthsAmong formats
+vector-place m i = refl
+
+pub library-length : (d b n : ℕ) → libraryLength d b n ≡ 5 + markTotal d b * 5 + n * 69 + 1
+unfolding libraryLength vectorPlace markPlace recordLength sum widthsOf widthsAmong formats
+library-length d b n = refl
+
+pub vector-length : recordLength vectorKind ≡ 69
+unfolding recordLength sum widthsOf widthsAmong formats
+vector-length = refl
+
+-- ---- limits
+
+pub marks-few : (d b : ℕ) → Shape d b → markTotal d b ≤ 2080
+marks-few d b is = le-trans (marks-le maxDimensionBits d b d (is .some) (is .bits)) (mul-le-mul-left (2 ^ maxDimensionBits + 1) (is .few))
+
+pub marks-length-is : (d b : ℕ) → first (shapeCauses d b) ≡ Accepted → marksLength d b ≡ markTotal d b
+unfolding marksLength
+marks-length-is d b accepted = outcome-accepted _ _ accepted
+
+pub dimension-passes : (d b t : ℕ) → first (shapeCauses d b) ≡ Accepted → t < d → first (dimensionCauses d b (t + 1)) ≡ Accepted
+dimension-passes d b t accepted among =
+    first-next Dimension (shapeCauses d b) (rw (le-leb 1 (t + 1) (omega arith), le-leb (t + 1) d (omega arith))) ∙ accepted
+
+-- the numbers of a dimension's first and last mark, for the dimension with t dimensions before it
+pub record EndsAt (d b t first last : ℕ) : Type 0 where
+  pub first-is : first ≡ firstMarks d b t
+  pub last-is : last ≡ firstMarks d b t + 2 ^ bitsOf d b (suc t)
+  pub within : last < markTotal d b
+  pub small : markTotal d b ≤ 2080
+
+pub ends-at : {d b t : ℕ} {s : Stretch} → t < d → Stretches d b (t + 1) s → EndsAt d b t (s .offset) (s .offset + 2 ^ s .bits)
+ends-at {d} {b} {t} {s} among is =
+    let before : t + 1 - 1 ≡ t = omega arith in
+    let offset : s .offset ≡ firstMarks d b t = rw before at (is .offset-is) in
+    let bits : s .bits ≡ bitsOf d b (suc t) = rw add-one at (is .bits-are) in
+    record {
+      first-is = offset;
+      last-is = rw (offset, bits);
+      within = omega (arith, is .end, is .within);
+      small = is .small;
+    }
