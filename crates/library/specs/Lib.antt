@@ -15,3 +15,4 @@ pub mod SignedBytes
 pub mod WriteLaws
 pub mod Heads
 pub mod ReadLaws
+pub mod Checks
