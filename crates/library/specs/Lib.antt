@@ -15,3 +15,5 @@ pub mod SignedBytes
 pub mod WriteLaws
 pub mod Heads
 pub mod ReadLaws
+pub mod Loadable
+pub mod Filled
