@@ -4,9 +4,17 @@ ghost use lib.ListN.{length};
 ghost use Rattle.refusal.specs.Refusal.{verdictNumber};
 ghost use Rattle.refusal.specs.First.{first, outcome};
 ghost use Rattle.library.specs.Library.{libraryWith, libraryBytes, libraryLength, readLibrary};
-ghost use Rattle.library.specs.Write.{writeCauses};
+ghost use Rattle.library.specs.Write.{countsCauses, writeCauses};
 ghost use Rattle.library.specs.Load.{loadCauses, filled};
 ghost use Rattle.query.specs.Query.{queryCauses, componentsOf};
+
+// How many bytes a library of these counts has, 0 where they are out of range.
+#[no_mangle]
+pub extern "C" fn matcher_library_length(d: usize, b: usize, n: usize) -> usize
+    ensures { λ r. ⌜ r ≡ outcome (first (countsCauses d b n)) (libraryLength d b n) (λ _. 0) ⌝ }
+{
+    library::write::bytes_length(d, b, n)
+}
 
 // The bytes of a library, into a buffer of as many.
 #[no_mangle]
