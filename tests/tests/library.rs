@@ -109,6 +109,21 @@ fn no_shape_is_left_out() {
     }
 }
 
+/// Every number of dimensions and of bits, in range and past it.
+#[test]
+fn no_length_of_a_library_is_wrong() {
+    let counts = [0, 1, 2, 3, 511, 512, 513, 1 << 32, usize::MAX];
+    for d in (0..=34).chain([1 << 32, usize::MAX]) {
+        for b in (0..=200).chain([1 << 32, usize::MAX]) {
+            for n in counts {
+                let right = (1..=32).contains(&d) && b <= 6 * d && (1..=512).contains(&n);
+                let length = if right { reference::library_length(d, b, n) } else { 0 };
+                assert_eq!(interface::library_length(d, b, n), length, "d {d}, b {b}, n {n}");
+            }
+        }
+    }
+}
+
 /// Every number of vectors.
 #[test]
 fn no_number_of_vectors_is_left_out() {

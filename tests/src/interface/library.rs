@@ -7,6 +7,7 @@ use crate::{
 };
 
 extern "C" {
+    fn matcher_library_length(d: usize, b: usize, n: usize) -> usize;
     fn matcher_write(
         d: usize,
         b: usize,
@@ -35,6 +36,11 @@ extern "C" {
         used: *mut usize,
     ) -> u32;
     fn matcher_query(d: usize, bytes: *const u8, bytes_len: usize, components: *mut i32, components_len: usize) -> u32;
+}
+
+/// 0 where the counts are out of range.
+pub fn library_length(d: usize, b: usize, n: usize) -> usize {
+    unsafe { matcher_library_length(d, b, n) }
 }
 
 pub fn write(input: &Input) -> Result<Vec<u8>, u32> {
