@@ -1,0 +1,1 @@
+// The whole program as one function on slices.
