@@ -3,3 +3,8 @@ pub mod Match
 pub mod TextLaws
 pub mod Loaded
 pub mod Answerable
+pub mod Alike
+pub mod Longest
+pub mod Room
+pub mod Puts
+pub mod Steps

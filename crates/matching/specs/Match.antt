@@ -37,12 +37,12 @@ kOf rest = fromLowFirst kLength rest
 -- ---- causes
 
 -- "input ending before both bytes of k gives 12"; then 4
-abbrev pub kCauses : Library → List ℕ → List Row
-kCauses l rest = (ltb (length rest) kLength ⇒ Truncated) ∷ (not (leb 1 (kOf rest) && leb (kOf rest) (l .n)) ⇒ Neighbours) ∷ []
+abbrev pub kCauses : ℕ → List ℕ → List Row
+kCauses n rest = (ltb (length rest) kLength ⇒ Truncated) ∷ (not (leb 1 (kOf rest) && leb (kOf rest) n) ⇒ Neighbours) ∷ []
 
 -- those of a library's records, of k and of the query's d records, left to right
 abbrev pub causesWith : Library → List ℕ → List Row
-causesWith l input = libraryCauses l input ++ (kCauses l (behind l input) ++ queryCauses (l .d) (drop kLength (behind l input)))
+causesWith l input = libraryCauses l input ++ (kCauses (l .n) (behind l input) ++ queryCauses (l .d) (drop kLength (behind l input)))
 
 unfoldable pub matchCauses : List ℕ → List Row
 matchCauses input = causesWith (readLibrary input) input

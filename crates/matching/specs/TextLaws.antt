@@ -30,3 +30,15 @@ decimal-one x small = rw (lt-ltb x 10 small)
 pub decimal-more : (x : ℕ) → 10 ≤ x → decimal x ≡ decimal (x / 10) ++ (digit (x % 10) ∷ [])
 unfolding decimal digitsWithin
 decimal-more x large = rw (le-ltb x 10 large, within-same x (suc (x / 10)) (x / 10) (omega arith) (omega arith))
+
+-- a number below 10^w has no more than w digits
+pub decimal-length : (w x : ℕ) → x < 10 ^ suc w → length (decimal x) ≤ suc w
+decimal-length zero x small = rw (decimal-one x (rw pow-suc at small)) (omega arith)
+decimal-length (suc w) x small = go (ltb x 10) refl (decimal-length w (x / 10))
+  where
+    go : (t : Bool) → ltb x 10 ≡ t → (x / 10 < 10 ^ suc w → length (decimal (x / 10)) ≤ suc w) → length (decimal x) ≤ suc (suc w)
+    go true e shorter = rw (decimal-one x (ltb-true x 10 e)) (omega arith)
+    go false e shorter =
+        let less : x < 10 ^ suc w * 10 = rw (pow-suc 10 (suc w)) at small in
+        let before = shorter (div-lt-iff-lt-mul (lit< tt) .1 less) in
+        rw (decimal-more x (ltb-false x 10 e), length-append (decimal (x / 10)) (digit (x % 10) ∷ [])) (omega arith)
