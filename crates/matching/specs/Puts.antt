@@ -7,7 +7,8 @@ use native.Mathlib.Numerals.{add-one}
 use native.Mathlib.Omega.{arith}
 use lib.ListN.{length, getD, drop, set, length-append, drop-of-length-le}
 use lib.Seq.{sets, length-sets, sets-eq, drop-cons}
-use Rattle.selection.specs.Kept.{pair, pairsOf}
+use Rattle.order.specs.Pair.{Pair, numbersOf}
+use Rattle.selection.specs.Kept.{pair, pairsOf, keysOf}
 use Rattle.matching.specs.Text.{space, lineEnd, decimal, line}
 use Rattle.matching.specs.Match.{entryLine, entryLines}
 
@@ -64,6 +65,19 @@ line-of-two x y = spaced x y []
 pub line-of-three : (x y z : ℕ) → field x space ++ field y space ++ field z lineEnd ≡ line x (y ∷ z ∷ [])
 line-of-three x y z = append-assoc (field x space) (field y space) (field z lineEnd) ∙ rw (line-of-two y z) (spaced x y (z ∷ []))
 
+-- and how long they are
+pub field-length : (x end : ℕ) → length (field x end) ≡ length (decimal x) + 1
+field-length x end = length-append (decimal x) (end ∷ [])
+
+pub two-length : (x y : ℕ) → length (line x (y ∷ [])) ≡ length (field x space) + length (field y lineEnd)
+two-length x y = ap length (sym (line-of-two x y)) ∙ length-append (field x space) (field y lineEnd)
+
+pub three-length : (x y z : ℕ) → length (line x (y ∷ z ∷ [])) ≡ length (field x space) + length (field y space) + length (field z lineEnd)
+three-length x y z =
+    ap length (sym (line-of-three x y z))
+    ∙ length-append (field x space ++ field y space) (field z lineEnd)
+    ∙ ap (λ (n : ℕ). n + length (field z lineEnd)) (length-append (field x space) (field y space))
+
 -- ---- entries
 
 -- those from index i on
@@ -78,3 +92,9 @@ lines-next settings distances numbers i of-distances of-numbers = rw (drop-cons 
 pub lines-none : (settings distances numbers : List ℕ) (i : ℕ) → length numbers ≤ i → length distances ≤ i → linesFrom settings distances numbers i ≡ []
 unfolding entryLines pairsOf
 lines-none settings distances numbers i of-numbers of-distances = rw (drop-of-length-le distances of-distances)
+
+-- pairs from their keys and their numbers
+pub pairs-back : (ps : List Pair) → pairsOf (keysOf ps) (numbersOf ps) ≡ ps
+unfolding pairsOf keysOf numbersOf
+pairs-back [] = refl
+pairs-back (p ∷ ps) = ap {B = List Pair} (λ rest. p ∷ rest) (pairs-back ps)

@@ -1,17 +1,18 @@
 -- The text of a match by the steps in which it is found: the library, k, the query, the answer. Assumes nothing.
 use mathlib.Core.Path.{_≡_, refl, sym, ap, _∙_}
-use mathlib.Core.Bool.{true, _&&_}
-use mathlib.Core.List.{List, _++_}
-use Prim.Native.Nat.{ℕ, _≤_}
-use borrow.Author.Tests.{not-false}
+use mathlib.Core.Bool.{Bool, true, false, not, cond, _&&_}
+use mathlib.Core.List.{List, [], _∷_, _++_}
+use Prim.Native.Nat.{ℕ, _≤_, _<_}
+use borrow.Author.Tests.{not-false, ltb-false, lt-ltb, le-ltb, eq-eqb}
 use lib.Dec.{leb}
 use lib.IntN.{ℤ}
 use lib.ListN.{length, drop}
 use Rattle.refusal.specs.declared.Refusal.{Refusal}
-use Rattle.refusal.specs.declared.Refusal.the-variants.{Neighbours, Truncated}
+use Rattle.refusal.specs.declared.Refusal.the-variants.{Dimension, Neighbours, Truncated}
 use Rattle.refusal.specs.declared.Verdict.{Verdict}
 use Rattle.refusal.specs.declared.Verdict.the-variants.{Accepted, Refused}
-use Rattle.refusal.specs.First.{Row, first, outcome, outcome-accepted, outcome-refused, passed}
+use Rattle.refusal.specs.First.{_⇒_, first, outcome, outcome-refused, first-here, first-next, passed}
+use Rattle.limits.specs.Limits.{isDimensionCount}
 use Rattle.whole.specs.Components.{areComponents}
 use Rattle.approximation.specs.Codes.{codeLength}
 use Rattle.approximation.specs.VectorCauses.{packVectorsCauses}
@@ -20,7 +21,7 @@ use Rattle.search.specs.Ready.{roomOf}
 use Rattle.records.specs.RowLaws.{go-on, stop}
 use Rattle.library.specs.Library.{Library, readLibrary}
 use Rattle.library.specs.Load.{recordsCauses as libraryCauses}
-use Rattle.query.specs.Query.{recordsCauses as queryCauses, componentsOf}
+use Rattle.query.specs.Query.{queryCauses as lentCauses, recordsCauses as queryCauses, componentsOf}
 use Rattle.matching.specs.Match.{behind, kLength, kOf, kCauses, causesWith, searchable, answerText, refusedText, textWith, matchText}
 use Rattle.matching.specs.Loaded.{loaded-count}
 use Rattle.matching.specs.Answerable.{packs, searches, query-components, query-length}
@@ -65,3 +66,25 @@ k-passes l rest passes =
 
 pub k-among : (n : ℕ) (rest : List ℕ) → first (kCauses n rest) ≡ Accepted → leb 1 (kOf rest) && leb (kOf rest) n ≡ true
 k-among n rest passes = not-false _ (passed _ Neighbours _ (passed _ Truncated _ passes .rest) .fails)
+
+pub k-truncated : (n : ℕ) (rest : List ℕ) → length rest < kLength → first (kCauses n rest) ≡ Refused Truncated
+k-truncated n rest short = first-here Truncated _ (lt-ltb (length rest) kLength short)
+
+pub k-tested : (n : ℕ) (rest : List ℕ) → kLength ≤ length rest → first (kCauses n rest) ≡ cond (leb 1 (kOf rest) && leb (kOf rest) n) Accepted (Refused Neighbours)
+k-tested n rest there = first-next Truncated _ (le-ltb (length rest) kLength there) ∙ go (leb 1 (kOf rest) && leb (kOf rest) n)
+  where
+    go : (t : Bool) → first ((not t ⇒ Neighbours) ∷ []) ≡ cond t Accepted (Refused Neighbours)
+    go true = unfold first in refl
+    go false = unfold first in refl
+
+pub k-there : (n : ℕ) (rest : List ℕ) → first (kCauses n rest) ≡ Accepted → kLength ≤ length rest
+k-there n rest passes = ltb-false (length rest) kLength (passed _ Truncated _ passes .fails)
+
+-- ---- the query
+
+pub ready-dimensions : {l : Library} → Ready l → isDimensionCount (l .d) ≡ true
+ready-dimensions {l} is = not-false _ (passed (not (isDimensionCount (l .d))) Dimension _ (is .of-packing) .fails)
+
+pub query-rows : (d room : ℕ) (bytes : List ℕ) → isDimensionCount d ≡ true → room ≡ d → first (lentCauses d room bytes) ≡ first (queryCauses d bytes)
+unfolding first lentCauses
+query-rows d room bytes dimensions exact = rw (dimensions, eq-eqb room d exact)
