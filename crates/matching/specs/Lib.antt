@@ -8,3 +8,4 @@ pub mod Longest
 pub mod Room
 pub mod Puts
 pub mod Steps
+pub mod Lent

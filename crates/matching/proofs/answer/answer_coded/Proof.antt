@@ -4,7 +4,7 @@ use mathlib.Core.List.{List, [], _∷_, _++_}
 use Prim.Native.Nat.{ℕ, _≤_}
 use native.Mathlib.Omega.{arith}
 use lib.IntN.{ℤ}
-use lib.ListN.{length}
+use lib.ListN.{length, take, drop, replicate}
 use lib.Seq.{length-take-le}
 use Rattle.refusal.specs.declared.Verdict.the-variants.{Accepted}
 use Rattle.refusal.specs.First.{first}
@@ -13,19 +13,23 @@ use Rattle.limits.specs.Tests.{between}
 use Rattle.order.specs.Pair.{Pair, numbersOf}
 use Rattle.selection.specs.Kept.{keysOf, pairsOf}
 use Rattle.selection.specs.Reading.{Reading}
-use Rattle.search.specs.Search.{Library, searchCauses}
-use Rattle.search.specs.Ready.{roomOf}
+use Rattle.search.specs.Search.{Library, searched, searchCauses}
+use Rattle.search.specs.Ready.{library, roomOf}
 use Rattle.search.specs.Accepted.{passes}
-use Rattle.search.specs.Buffers.{back-within, shared-is, shared-length}
 use Rattle.matching.specs.Text.{line}
 use Rattle.matching.specs.Match.{entryLines, answerLines}
+use Rattle.matching.specs.Lent.{back-within, shared-is, shared-length}
 use Rattle.matching.specs.Puts.{puts-length, puts-same, pairs-back}
 use Rattle.matching.proofs.answer.answer_coded.Statement.{statement}
 use Rattle.matching.proofs.answer.answer_coded.Tie as tie
 
+-- the library that is searched
+abbrev given : tie.Start → Library
+given s = library (s .args .d) (s .args .b) (s .args .n) (s .args .marks .now) (s .args .codes .now) (s .args .components .now)
+
 k-few : (s : tie.Start) → s .args .k ≤ 512
 k-few s =
-    let p = passes _ _ _ _ (s .pre .0) in
+    let p = passes (given s) (s .args .query .now) (s .args .k) (roomOf (s .args .k) (s .args .k) (s .args .n)) (s .pre .0) in
     omega (arith, between 1 (s .args .n) maxVectors (p .count) .below, between 1 (s .args .k) (s .args .n) (p .neighbours) .below)
 
 room-same : (l : Library) (query : List ℤ) (k n : ℕ) {a b : ℕ} → a ≡ k → b ≡ k → first (searchCauses l query k (roomOf k k n)) ≡ Accepted
@@ -45,8 +49,9 @@ distances-hold c = k-few (c .before .before .before .before)
 
 nearest-requires : tie.Need-nearest-requires
 nearest-requires c κs =
-    room-same _ _ _ _ (length-take-le _ _ (numbers-hold (c .before .before))) (length-take-le _ _ (distances-hold (c .before)))
-    (c .before .before .before .before .before .pre .0)
+    let s = c .before .before .before .before .before in
+    room-same (given s) (s .args .query .now) (s .args .k) (s .args .n) (length-take-le _ _ (numbers-hold (c .before .before))) (length-take-le _ _ (distances-hold (c .before)))
+    (s .pre .0)
 
 -- the numbers and the distances that came back
 module _ (c : tie.After-nearest) where
@@ -66,28 +71,32 @@ distances-within c =
     let back = c .before .before .before in
     back-within _ _ (distances-back back) (distances-hold (back .before .before)) (back .nearest .kept .1 .1 .1 .1 .1 .1 .1 .1 .1 .0)
 
+-- the text of what was shared
+abbrev reading : tie.Start → Reading
+reading s = searched (given s) (s .args .query .now) (s .args .k)
+
+text-is : (c : tie.After-nearest) → let s = c .before .before .before .before .before .before in
+    line (s .args .k) (c .nearest .result ∷ []) ++ entryLines (s .args .settings .now) (pairsOf (take (s .args .k) (distances-back c ++ drop (s .args .k) (replicate 512 0))) (take (s .args .k) (numbers-back c ++ drop (s .args .k) (replicate 512 0))))
+    ≡ answerLines (s .args .settings .now) (s .args .k) (reading s)
+text-is c =
+    let s = c .before .before .before .before .before .before in
+    lines-are (s .args .settings .now) (s .args .k) (reading s) (c .nearest .ensures .0)
+    (shared-is _ _ (numbers-back c) (numbers-hold (c .before .before .before)) (c .nearest .kept .1 .1 .1 .1 .1 .1 .1 .1 .0) ∙ c .nearest .ensures .1 .0)
+    (shared-is _ _ (distances-back c) (distances-hold (c .before .before)) (c .nearest .kept .1 .1 .1 .1 .1 .1 .1 .1 .1 .0) ∙ c .nearest .ensures .1 .1)
+
 put-answer-requires : tie.Need-put-answer-requires
 put-answer-requires c κs =
     let back = c .before .before .before .before .before in
-    let start = back .before .before .before .before .before .before in
-    let hold = numbers-hold (back .before .before .before) in
-    let hold2 = distances-hold (back .before .before) in
-    let kept = back .nearest .kept .1 .1 .1 .1 .1 .1 .1 .1 .0 in
-    let kept2 = back .nearest .kept .1 .1 .1 .1 .1 .1 .1 .1 .1 .0 in
-    (shared-length _ _ (distances-back back) hold2 kept2 ∙ sym (shared-length _ _ (numbers-back back) hold kept),
-    rw (lines-are _ _ _ (back .nearest .ensures .0) (shared-is _ _ (numbers-back back) hold kept ∙ back .nearest .ensures .1 .0) (shared-is _ _ (distances-back back) hold2 kept2 ∙ back .nearest .ensures .1 .1)) (start .pre .1))
+    (
+      shared-length _ _ (distances-back back) (distances-hold (back .before .before)) (back .nearest .kept .1 .1 .1 .1 .1 .1 .1 .1 .1 .0)
+          ∙ sym (shared-length _ _ (numbers-back back) (numbers-hold (back .before .before .before)) (back .nearest .kept .1 .1 .1 .1 .1 .1 .1 .1 .0)),
+      rw (text-is back) (back .before .before .before .before .before .before .pre .1),
+    )
 
 returns : tie.Need-returns
 returns c =
     let put = c .before .before in
-    let back = put .before .before .before .before .before .before in
-    let hold = numbers-hold (back .before .before .before) in
-    let hold2 = distances-hold (back .before .before) in
-    let kept = back .nearest .kept .1 .1 .1 .1 .1 .1 .1 .1 .0 in
-    let kept2 = back .nearest .kept .1 .1 .1 .1 .1 .1 .1 .1 .1 .0 in
-    puts-same
-    (lines-are _ _ _ (back .nearest .ensures .0) (shared-is _ _ (numbers-back back) hold kept ∙ back .nearest .ensures .1 .0) (shared-is _ _ (distances-back back) hold2 kept2 ∙ back .nearest .ensures .1 .1))
-    (put .put-answer .ensures)
+    puts-same (text-is (put .before .before .before .before .before .before)) (put .put-answer .ensures)
 
 pub answer-coded-spec : {M : Type 1} → statement M
 answer-coded-spec =

@@ -40,19 +40,22 @@ module _ {v : Verdict} {l : Library} {query : List ℤ} {k : ℕ} {r : Searched}
       let impossible : _≡_ {A = ℕ} 0 1 = cc in
       omega arith
 
+-- the library that is searched
+abbrev given : tie.Start → Library
+given s = library (s .args .d) (s .args .b) (s .args .n) (s .args .marks .now) (s .args .codes .now) (s .args .components .now)
+
 few : tie.Need-array-borrow-prefix-reads
 few c =
-    let start = c .before .before .before .before .before in
-    between 1 (start .args .n) maxVectors (passes _ _ _ _ (start .pre) .count) .below
+    let s = c .before .before .before .before .before in
+    between 1 (s .args .n) maxVectors (passes (given s) (s .args .query .now) (s .args .k) (roomOf (length (s .args .numbers .now)) (length (s .args .distances .now)) (s .args .n)) (s .pre) .count) .below
 
 -- where the search is back, nothing refused it
-accepted : (c : tie.After-search) → let start = c .before .before .before .before .before .before .before in
-    let a = start .args in
-    first (searchCauses (library (a .d) (a .b) (a .n) (a .marks .now) (a .codes .now) (a .components .now)) (a .query .now) (a .k)
-    (roomOf (length (a .numbers .now)) (length (a .distances .now)) (length (take (a .n) (replicate 512 0))))) ≡ Accepted
+accepted : (c : tie.After-search) → let s = c .before .before .before .before .before .before .before in
+    first (searchCauses (given s) (s .args .query .now) (s .args .k)
+    (roomOf (length (s .args .numbers .now)) (length (s .args .distances .now)) (length (take {A = ℕ} (s .args .n) (replicate 512 0))))) ≡ Accepted
 accepted c =
-    let start = c .before .before .before .before .before .before .before in
-    rw (length-take-le (start .args .n) (replicate 512 0) (few (c .before .before))) (start .pre)
+    let s = c .before .before .before .before .before .before .before in
+    rw (length-take-le {A = ℕ} (s .args .n) (replicate 512 0) (few (c .before .before))) (s .pre)
 
 returns : tie.Need-returns
 returns c =
