@@ -3,11 +3,14 @@ pub mod EachLaws
 pub mod Library
 pub mod Write
 pub mod Load
+pub mod Filled
 pub mod Places
 pub mod ReadWritten
 pub mod Writable
 pub mod MarkLaws
 pub mod LoadWritten
+pub mod Loaded
+pub mod Loadable
 pub mod WriteLoaded
 pub mod RoundTrip
 pub mod Sizes
@@ -15,3 +18,4 @@ pub mod SignedBytes
 pub mod WriteLaws
 pub mod Heads
 pub mod ReadLaws
+pub mod Checks

@@ -201,10 +201,12 @@ fn check_components(bytes: &[u8], d: usize, b: usize, at: usize) -> Verdict
     requires { ⌜ (first (shapeCauses d b) ≡ Accepted) × (at < 2 ^ 40) ⌝ }
     ensures { λ r. ⌜ r ≡ first (componentsCauses d b (tabulate (markTotal d b) (markAt (now (bytes .entry)))) (drop at (now (bytes .entry)))) ⌝ }
 {
-    if !is_zero_beyond(bytes, d, at) {
+    let zero = is_zero_beyond(bytes, d, at);
+    let inside = is_inside(bytes, d, b, at);
+    if !zero {
         return Verdict::Refused(Refusal::Component);
     }
-    if !is_inside(bytes, d, b, at) {
+    if !inside {
         return Verdict::Refused(Refusal::Outside);
     }
     Verdict::Accepted
