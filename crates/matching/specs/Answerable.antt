@@ -44,14 +44,19 @@ use Rattle.library.specs.Library.{Library, readLibrary}
 use Rattle.library.specs.Load.{recordsCauses as libraryCauses}
 use Rattle.query.specs.Query.{isReading, readingOf, readingCauses, recordsCauses as queryCauses, componentsOf, nextRecord}
 use Rattle.matching.specs.Match.{searchable, behind, kOf, kCauses, causesWith}
-use Rattle.matching.specs.Loaded.{either-fails, loaded-shape, loaded-count, marks-count, components-count, loaded-marks, loaded-components, loaded-inside, loaded-own}
+use Rattle.library.specs.Loaded.{loaded-shape, loaded-count, marks-count, components-count, loaded-marks, loaded-components}
+use Rattle.matching.specs.Packed.{packed-inside, packed-own}
 
 -- ---- the query
+
+second-fails : (s t : Bool) → s || t ≡ false → t ≡ false
+second-fails true t e = cc
+second-fails false t e = e
 
 value-component : (x : Float) → first (valueCauses x) ≡ Accepted → isComponent (component x) ≡ true
 value-component x accepted =
     let range = passed _ OutOfRange [] (passed _ NotANumber _ accepted .rest) in
-    not-false _ (either-fails (isInfinite x) _ (range .fails) .1)
+    not-false _ (second-fails (isInfinite x) _ (range .fails))
 
 reading-component : (r : Reading) → first (causes r) ≡ Accepted → isComponent (readingComponent r) ≡ true
 reading-component (Fresh x) accepted = value-component x accepted
@@ -94,7 +99,7 @@ module _ (bytes : List ℕ) (accepted : first (libraryCauses (readLibrary bytes)
   pub packs : first (packVectorsCauses (l .d) (l .b) (l .n) (l .components) (l .marks) (codeLength (l .b) (l .n))) ≡ Accepted
   unfolding first
   packs =
-      rw (dimensions, bits, loaded-count bytes accepted, eq-eqb (length (l .components)) (l .n * l .d) (components-count bytes accepted), eq-eqb (codeLength (l .b) (l .n)) (codeLength (l .b) (l .n)) refl, eq-eqb (length (l .marks)) (firstMarks (l .d) (l .b) (l .d)) (marks-count bytes accepted), loaded-components bytes accepted, loaded-marks bytes accepted, loaded-inside bytes accepted)
+      rw (dimensions, bits, loaded-count bytes accepted, eq-eqb (length (l .components)) (l .n * l .d) (components-count bytes accepted), eq-eqb (codeLength (l .b) (l .n)) (codeLength (l .b) (l .n)) refl, eq-eqb (length (l .marks)) (firstMarks (l .d) (l .b) (l .d)) (marks-count bytes accepted), loaded-components bytes accepted, loaded-marks bytes accepted, packed-inside bytes accepted)
 
   read-below : (query : List ℤ) (k i : ℕ) → i ∈ searched (searchable l) query k .reads → i < l .n
   read-below query k i m =
@@ -105,7 +110,7 @@ module _ (bytes : List ℕ) (accepted : first (libraryCauses (readLibrary bytes)
       → first (searchCauses (searchable l) query k (roomOf k k (l .n))) ≡ Accepted
   searches query k size components neighbours =
       let s = searchable l in
-      let own = loaded-own bytes accepted in
+      let own = packed-own bytes accepted in
       accepts s query k (roomOf k k (l .n))
       (record {
         dimensions = dimensions;
@@ -129,4 +134,4 @@ module _ (bytes : List ℕ) (accepted : first (libraryCauses (readLibrary bytes)
 
   -- "A full scan's answer": the entries that are printed are the scan's
   pub entries-are-the-scan : (query : List ℤ) (k : ℕ) → searched (searchable l) query k .best ≡ scanned (searchable l) query k
-  entries-are-the-scan query k = search-is-scan (searchable l) query k (loaded-own bytes accepted)
+  entries-are-the-scan query k = search-is-scan (searchable l) query k (packed-own bytes accepted)

@@ -2,23 +2,26 @@
 -- it. Assumes nothing.
 use mathlib.Core.Bool.{not, _&&_}
 use mathlib.Core.List.{List, [], _∷_, _++_}
-use Prim.Native.Nat.{ℕ}
-use lib.Dec.{leb, ltb}
+use Prim.Native.Nat.{ℕ, _+_, _*_}
+use lib.Dec.{leb, ltb, eqb}
 use lib.IntN.{ℤ}
 use lib.ListN.{length, getD, drop}
 use Rattle.refusal.specs.declared.Refusal.{Refusal}
-use Rattle.refusal.specs.declared.Refusal.the-variants.{Neighbours, Truncated}
+use Rattle.refusal.specs.declared.Refusal.the-variants.{Neighbours, Length, Truncated}
+use Rattle.refusal.specs.declared.Verdict.{Verdict}
+use Rattle.refusal.specs.declared.Verdict.the-variants.{Accepted, Refused}
 use Rattle.refusal.specs.Refusal.{numberOf}
 use Rattle.refusal.specs.First.{Row, _⇒_, first, outcome}
+use Rattle.limits.specs.Limits.{maxVectors}
 use Rattle.order.specs.Pair.{Pair}
 use Rattle.selection.specs.Reading.{Reading}
 use Rattle.approximation.specs.Vectors.{vectorCodes}
-use Rattle.search.specs.Search.{searched}
-use Rattle.search.specs.Search.{Library as Searchable}
+use Rattle.search.specs.Search.{Library as Searchable, searched}
 use Rattle.records.specs.Bytes.{fromLowFirst}
 use Rattle.library.specs.Library.{Library, libraryLength, readLibrary}
 use Rattle.library.specs.Load.{recordsCauses as libraryCauses}
 use Rattle.query.specs.Query.{recordsCauses as queryCauses, componentsOf}
+use Rattle.matching.specs.declared.Printed.{Printed}
 use Rattle.matching.specs.Text.{lineEnd, refusedWord, decimal, line}
 
 -- ---- what stands where
@@ -88,3 +91,17 @@ textWith l input =
 
 unfoldable pub matchText : List ℕ → List ℕ
 matchText input = textWith (readLibrary input) input
+
+-- ---- the output
+
+-- the output is lent for the longest text: line one has two counts, and each of its entries a number, settings and a distance: 3, 3, 3, 10
+-- and 12 digits, each with the byte behind it
+abbrev pub textRoom : ℕ
+textRoom = (4 + 4) + maxVectors * (4 + 11 + 13)
+
+abbrev pub roomCauses : ℕ → List Row
+roomCauses room = (not (eqb room textRoom) ⇒ Length) ∷ []
+
+-- how many bytes the text has; refused, none is written
+abbrev pub printed : Verdict → List ℕ → Printed
+printed verdict text = outcome verdict (record { verdict = Accepted; length = length text }) (λ cause. record { verdict = Refused cause; length = 0 })

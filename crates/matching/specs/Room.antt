@@ -1,4 +1,4 @@
--- The longest text: what the output is lent for. Assumes nothing.
+-- No text is longer than what the output is lent for. Assumes nothing.
 use mathlib.Core.Path.{_≡_, refl, sym, ap, _∙_}
 use mathlib.Core.Bool.{true, _&&_, and-eq-true-iff}
 use mathlib.Core.List.{List, [], _∷_, _++_, List·Memᴰ·head, List·Memᴰ·tail}
@@ -43,13 +43,9 @@ use Rattle.library.specs.Load.{recordsCauses as libraryCauses}
 use Rattle.query.specs.Query.{recordsCauses as queryCauses, componentsOf}
 use Rattle.matching.specs.Text.{lineEnd, decimal, line}
 use Rattle.matching.specs.TextLaws.{decimal-length}
-use Rattle.matching.specs.Match.{behind, kLength, kOf, kCauses, searchable, entryLine, entryLines, answerText, refusedText, causesWith, matchCauses, matchText}
-use Rattle.matching.specs.Loaded.{shaped, loaded-count, loaded-components}
+use Rattle.matching.specs.Match.{behind, kLength, kOf, kCauses, searchable, entryLine, entryLines, answerText, refusedText, causesWith, matchText, textRoom}
+use Rattle.library.specs.Loaded.{shaped, loaded-count, loaded-components}
 use Rattle.matching.specs.Answerable.{query-components}
-
--- line one has two counts, and each of its entries a number, settings and a distance: 3, 10 and 12 digits, each with the byte behind it
-abbrev pub textRoom : ℕ
-textRoom = (4 + 4) + maxVectors * (4 + 11 + 13)
 
 -- ---- distances
 

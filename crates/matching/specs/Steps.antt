@@ -2,13 +2,15 @@
 use mathlib.Core.Path.{_≡_, refl, sym, ap, _∙_}
 use mathlib.Core.Bool.{Bool, true, false, not, cond, _&&_}
 use mathlib.Core.List.{List, [], _∷_, _++_}
-use Prim.Native.Nat.{ℕ, _≤_, _<_}
+use Prim.Native.Nat.{ℕ, _*_, _≤_, _<_}
+use native.Mathlib.Omega.{arith}
 use borrow.Author.Tests.{not-false, ltb-false, lt-ltb, le-ltb, eq-eqb}
 use lib.Dec.{leb}
 use lib.IntN.{ℤ}
-use lib.ListN.{length, drop}
+use lib.ListN.{length, take, drop, length-take}
+use lib.Seq.{take-at}
 use Rattle.refusal.specs.declared.Refusal.{Refusal}
-use Rattle.refusal.specs.declared.Refusal.the-variants.{Dimension, Neighbours, Truncated}
+use Rattle.refusal.specs.declared.Refusal.the-variants.{Dimension, Neighbours, Length, Truncated}
 use Rattle.refusal.specs.declared.Verdict.{Verdict}
 use Rattle.refusal.specs.declared.Verdict.the-variants.{Accepted, Refused}
 use Rattle.refusal.specs.First.{_⇒_, first, outcome, outcome-refused, first-here, first-next, passed}
@@ -19,11 +21,11 @@ use Rattle.approximation.specs.VectorCauses.{packVectorsCauses}
 use Rattle.search.specs.Search.{searchCauses}
 use Rattle.search.specs.Ready.{roomOf}
 use Rattle.records.specs.RowLaws.{go-on, stop}
-use Rattle.library.specs.Library.{Library, readLibrary}
-use Rattle.library.specs.Load.{recordsCauses as libraryCauses}
+use Rattle.library.specs.Library.{Library, libraryWith, markTotal, libraryLength, readLibrary}
+use Rattle.library.specs.Load.{marksRoom, settingsRoom, componentsRoom, recordsCauses as libraryCauses, loadCauses, counts, filled}
+use Rattle.library.specs.Loaded.{marks-count, settings-count, components-count}
 use Rattle.query.specs.Query.{queryCauses as lentCauses, recordsCauses as queryCauses, componentsOf}
 use Rattle.matching.specs.Match.{behind, kLength, kOf, kCauses, causesWith, searchable, answerText, refusedText, textWith, matchText}
-use Rattle.matching.specs.Loaded.{loaded-count}
 use Rattle.matching.specs.Answerable.{packs, searches, query-components, query-length}
 
 -- behind a library that passes, and behind a k that passes; `rest` is what stands behind the library
@@ -88,3 +90,47 @@ ready-dimensions {l} is = not-false _ (passed (not (isDimensionCount (l .d))) Di
 pub query-rows : (d room : ℕ) (bytes : List ℕ) → isDimensionCount d ≡ true → room ≡ d → first (lentCauses d room bytes) ≡ first (queryCauses d bytes)
 unfolding first lentCauses
 query-rows d room bytes dimensions exact = rw (dimensions, eq-eqb room d exact)
+
+-- ---- the library
+
+-- a buffer begins with these elements
+abbrev pub Begins : {A : Type 0} → List A → List A → Type 0
+Begins front buffer = take (length front) buffer ≡ front
+
+pub begins-within : {A : Type 0} (front buffer : List A) → Begins front buffer → length front ≤ length buffer
+begins-within front buffer begins = omega (arith, sym (length-take (length front) buffer) ∙ ap length begins)
+
+-- what loading leaves of an input whose library passes
+pub record Holds (input : List ℕ) (d b n used : ℕ) (marks : List ℤ) (settings : List ℕ) (components : List ℤ) : Type 0 where
+  pub passes : first (libraryCauses (readLibrary input) input) ≡ Accepted
+  pub d-is : d ≡ readLibrary input .d
+  pub b-is : b ≡ readLibrary input .b
+  pub n-is : n ≡ readLibrary input .n
+  pub used-is : used ≡ libraryLength (readLibrary input .d) (readLibrary input .b) (readLibrary input .n)
+  pub marks-begin : Begins (readLibrary input .marks) marks
+  pub settings-begin : Begins (readLibrary input .settings) settings
+  pub components-begin : Begins (readLibrary input .components) components
+
+-- loading with buffers of the right lengths refuses for the records alone
+pub load-rows : {marks settings components : ℕ} (input : List ℕ) → marks ≡ marksRoom → settings ≡ settingsRoom → components ≡ componentsRoom
+    → first (loadCauses marks settings components input) ≡ first (libraryCauses (readLibrary input) input)
+unfolding loadCauses
+load-rows input of-marks of-settings of-components =
+    first-next Length _ (rw (eq-eqb _ _ of-marks, eq-eqb _ _ of-settings, eq-eqb _ _ of-components))
+
+pub counts-verdict : (v : Verdict) (l : Library) → counts v l .verdict ≡ v
+counts-verdict Accepted l = refl
+counts-verdict (Refused cause) l = refl
+
+pub filled-begins : {A : Type 0} (v : Verdict) (new old : List A) → v ≡ Accepted → Begins new (filled v new old)
+filled-begins v new old accepted = rw accepted (take-at new (drop (length new) old) (length new) refl)
+
+-- the library of these counts and of the fronts of these buffers
+pub held-library : {input : List ℕ} {d b n used : ℕ} {marks : List ℤ} {settings : List ℕ} {components : List ℤ} → Holds input d b n used marks settings components
+    → libraryWith d b n (take (markTotal d b) marks) (take n settings) (take (n * d) components) ≡ readLibrary input
+held-library {input} is =
+    let l = readLibrary input in
+    let marks = ap (λ (m : ℕ). take m _) (sym (marks-count input (is .passes))) ∙ is .marks-begin in
+    let settings = ap (λ (m : ℕ). take m _) (sym (settings-count input (is .passes))) ∙ is .settings-begin in
+    let components = ap (λ (m : ℕ). take m _) (sym (components-count input (is .passes))) ∙ is .components-begin in
+    rw (is .d-is, is .b-is, is .n-is, marks, settings, components)
