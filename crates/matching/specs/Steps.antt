@@ -1,8 +1,9 @@
 -- The text of a match by the steps in which it is found: the library, k, the query, the answer. Assumes nothing.
-use mathlib.Core.Path.{_≡_, refl, sym, ap, _∙_}
+use mathlib.Core.Path.{_≡_, refl, sym, ap, ap₂, _∙_}
 use mathlib.Core.Bool.{Bool, true, false, not, cond, _&&_}
 use mathlib.Core.List.{List, [], _∷_, _++_}
 use Prim.Native.Nat.{ℕ, _*_, _≤_, _<_}
+use native.Mathlib.Nat.{mul-le-mul}
 use native.Mathlib.Omega.{arith}
 use borrow.Author.Tests.{not-false, ltb-false, lt-ltb, le-ltb, eq-eqb}
 use lib.Dec.{leb}
@@ -14,16 +15,19 @@ use Rattle.refusal.specs.declared.Refusal.the-variants.{Dimension, Neighbours, 
 use Rattle.refusal.specs.declared.Verdict.{Verdict}
 use Rattle.refusal.specs.declared.Verdict.the-variants.{Accepted, Refused}
 use Rattle.refusal.specs.First.{_⇒_, first, outcome, outcome-refused, first-here, first-next, passed}
-use Rattle.limits.specs.Limits.{isDimensionCount}
+use Rattle.limits.specs.Limits.{maxDimensions, maxVectors, isDimensionCount}
+use Rattle.limits.specs.Tests.{between}
 use Rattle.whole.specs.Components.{areComponents}
+use Rattle.layout.specs.Stretch.{shapeCauses}
 use Rattle.approximation.specs.Codes.{codeLength}
 use Rattle.approximation.specs.VectorCauses.{packVectorsCauses}
 use Rattle.search.specs.Search.{searchCauses}
 use Rattle.search.specs.Ready.{roomOf}
 use Rattle.records.specs.RowLaws.{go-on, stop}
+use Rattle.library.specs.declared.Loaded.{Loaded}
 use Rattle.library.specs.Library.{Library, libraryWith, markTotal, libraryLength, readLibrary}
 use Rattle.library.specs.Load.{marksRoom, settingsRoom, componentsRoom, recordsCauses as libraryCauses, loadCauses, counts, filled}
-use Rattle.library.specs.Loaded.{marks-count, settings-count, components-count}
+use Rattle.library.specs.Loaded.{loaded-shape, loaded-count, shaped, marks-count, settings-count, components-count, loaded-within}
 use Rattle.query.specs.Query.{queryCauses as lentCauses, recordsCauses as queryCauses, componentsOf}
 use Rattle.matching.specs.Match.{behind, kLength, kOf, kCauses, causesWith, searchable, answerText, refusedText, textWith, matchText}
 use Rattle.matching.specs.Answerable.{packs, searches, query-components, query-length}
@@ -125,12 +129,72 @@ counts-verdict (Refused cause) l = refl
 pub filled-begins : {A : Type 0} (v : Verdict) (new old : List A) → v ≡ Accepted → Begins new (filled v new old)
 filled-begins v new old accepted = rw accepted (take-at new (drop (length new) old) (length new) refl)
 
--- the library of these counts and of the fronts of these buffers
-pub held-library : {input : List ℕ} {d b n used : ℕ} {marks : List ℤ} {settings : List ℕ} {components : List ℤ} → Holds input d b n used marks settings components
-    → libraryWith d b n (take (markTotal d b) marks) (take n settings) (take (n * d) components) ≡ readLibrary input
-held-library {input} is =
-    let l = readLibrary input in
-    let marks = ap (λ (m : ℕ). take m _) (sym (marks-count input (is .passes))) ∙ is .marks-begin in
-    let settings = ap (λ (m : ℕ). take m _) (sym (settings-count input (is .passes))) ∙ is .settings-begin in
-    let components = ap (λ (m : ℕ). take m _) (sym (components-count input (is .passes))) ∙ is .components-begin in
-    rw (is .d-is, is .b-is, is .n-is, marks, settings, components)
+module _ {input : List ℕ} {d b n used : ℕ} {marks : List ℤ} {settings : List ℕ} {components : List ℤ} (is : Holds input d b n used marks settings components) where
+  abbrev l : Library
+  l = readLibrary input
+
+  pub held-shape : first (shapeCauses d b) ≡ Accepted
+  held-shape = rw (is .d-is, is .b-is) (loaded-shape input (is .passes))
+
+  pub held-few : n * d ≤ componentsRoom
+  held-few =
+      let few = between 1 (l .n) maxVectors (loaded-count input (is .passes)) .below in
+      mul-le-mul {n₂ = maxVectors} {m₂ = maxDimensions} (rw (is .n-is) few) (rw (is .d-is) (shaped input (is .passes) .few))
+
+  pub held-within : used ≤ length input
+  held-within = rw (is .used-is) (loaded-within input (is .passes))
+
+  -- how many of each there are
+  pub held-marks : markTotal d b ≡ length (l .marks)
+  held-marks = rw (is .d-is, is .b-is) (sym (marks-count input (is .passes)))
+
+  pub held-settings : n ≡ length (l .settings)
+  held-settings = is .n-is ∙ sym (settings-count input (is .passes))
+
+  pub held-components : n * d ≡ length (l .components)
+  held-components = rw (is .n-is, is .d-is) (sym (components-count input (is .passes)))
+
+  -- the library of these counts and of the fronts of these buffers
+  held-library : libraryWith d b n (take (markTotal d b) marks) (take n settings) (take (n * d) components) ≡ l
+  held-library =
+      let of-marks : take (markTotal d b) marks ≡ l .marks = rw held-marks (is .marks-begin) in
+      let of-settings : take n settings ≡ l .settings = ap (λ (m : ℕ). take m settings) held-settings ∙ is .settings-begin in
+      let of-components : take (n * d) components ≡ l .components = rw held-components (is .components-begin) in
+      rw (of-marks, of-settings, of-components, is .d-is, is .b-is, is .n-is)
+
+  pub held-ready : Ready (libraryWith d b n (take (markTotal d b) marks) (take n settings) (take (n * d) components))
+  held-ready = rw held-library (ready input (is .passes))
+
+  pub held-text : restText (libraryWith d b n (take (markTotal d b) marks) (take n settings) (take (n * d) components)) (drop used input) ≡ matchText input
+  held-text =
+      ap₂ (λ (library : Library) (from : ℕ). restText library (drop from input)) held-library (is .used-is) ∙ sym (library-passes input (is .passes))
+
+-- ---- what loading tells
+
+module _ (input : List ℕ) {room-marks room-settings room-components : ℕ} (of-marks : room-marks ≡ marksRoom) (of-settings : room-settings ≡ settingsRoom)
+    (of-components : room-components ≡ componentsRoom) {r : Loaded} (is : r ≡ counts (first (loadCauses room-marks room-settings room-components input)) (readLibrary input)) where
+  abbrev v : Verdict
+  v = first (loadCauses room-marks room-settings room-components input)
+
+  verdict-is : r .verdict ≡ v
+  verdict-is = ap (λ (loaded : Loaded). loaded .verdict) is ∙ counts-verdict v (readLibrary input)
+
+  pub loaded-refused : {cause : Refusal} → r .verdict ≡ Refused cause → matchText input ≡ refusedText cause
+  loaded-refused refused = library-refused input (sym (load-rows input of-marks of-settings of-components) ∙ sym verdict-is ∙ refused)
+
+  pub loaded-holds : r .verdict ≡ Accepted → {marks : List ℤ} {settings : List ℕ} {components : List ℤ} (marks₀ : List ℤ) (settings₀ : List ℕ) (components₀ : List ℤ)
+      → marks ≡ filled v (readLibrary input .marks) marks₀ → settings ≡ filled v (readLibrary input .settings) settings₀
+      → components ≡ filled v (readLibrary input .components) components₀ → Holds input (r .d) (r .b) (r .n) (r .used) marks settings components
+  loaded-holds accepted marks₀ settings₀ components₀ marks-are settings-are components-are =
+      let passes = sym verdict-is ∙ accepted in
+      let same = is ∙ ap (λ (v : Verdict). counts v (readLibrary input)) passes in
+      record {
+        passes = sym (load-rows input of-marks of-settings of-components) ∙ passes;
+        d-is = ap (λ (loaded : Loaded). loaded .d) same;
+        b-is = ap (λ (loaded : Loaded). loaded .b) same;
+        n-is = ap (λ (loaded : Loaded). loaded .n) same;
+        used-is = ap (λ (loaded : Loaded). loaded .used) same;
+        marks-begin = rw marks-are (filled-begins v (readLibrary input .marks) marks₀ passes);
+        settings-begin = rw settings-are (filled-begins v (readLibrary input .settings) settings₀ passes);
+        components-begin = rw components-are (filled-begins v (readLibrary input .components) components₀ passes);
+      }
