@@ -1,11 +1,10 @@
 -- `run` meets its contract: the output has room for every text. Assumes nothing.
-use mathlib.Core.Path.{_≡_, sym, ap, _∙_}
+use mathlib.Core.Path.{_≡_, refl, sym, ap, _∙_}
 use mathlib.Core.Bool.{not}
 use mathlib.Core.List.{[]}
-use Prim.Native.Nat.{ℕ, _≤_, _<_}
+use Prim.Native.Nat.{_≤_}
 use native.Mathlib.Omega.{arith}
-use lib.IntN.{pos}
-use lib.ListN.{length, getD, length-replicate}
+use lib.ListN.{length}
 use borrow.Author.Needs.{needs}
 use borrow.Author.Tests.{ne-eqb, eq-eqb}
 use Rattle.refusal.specs.declared.Refusal.the-variants.{Length}
@@ -31,7 +30,7 @@ room c =
     rw (c .if1 .left) (text-room (s .args .input .now) (λ i. omega (arith, c .before .before .shared-slice-known .given i)))
 
 match-input-requires : tie.Need-match-input-requires
-match-input-requires c κs = (length-replicate _ _, length-replicate _ _, length-replicate _ _, room (c .before .before .before .before))
+match-input-requires c κs = (refl, refl, refl, room (c .before .before .before .before))
 
 returns-2 : tie.Need-returns-2
 returns-2 c =
