@@ -10,6 +10,8 @@ mod search;
 
 pub use approximation::{check_codes, codes_length, pack, pack_vectors, packed, regions_of, unpack};
 pub use distance::{bounds, cell_vectors, distance, distance_between};
-pub use partition::{bits_of, check_marks, made_marks, make_marks, part, parts, region, region_of, regions, stretch};
+pub use partition::{
+    bits_of, check_marks, dimension_region, made_marks, make_marks, part, parts, region, region_of, regions, stretch,
+};
 pub use reading::{intake, is_nan, Reading};
 pub use search::{best, scan, search};

@@ -5,3 +5,4 @@ mod Filled
 mod Columns
 pub mod Prefix
 pub mod Power
+mod Viewed

@@ -3,15 +3,14 @@ use crate::region::good_dimension;
 use refusal::Refusal;
 use refusal::Verdict;
 ghost use mathlib.Core.Path.{_≡_};
-ghost use mathlib.Core.List.{[]};
-ghost use Prim.Native.Nat.{_≤_};
 ghost use lib.ListN.{length};
 ghost use Rattle.refusal.specs.declared.Verdict.the-variants.{Accepted};
-ghost use Rattle.refusal.specs.First.{first, outcome};
+ghost use Rattle.refusal.specs.First.{first};
 ghost use Rattle.layout.specs.Layout.{firstMarks};
 ghost use Rattle.layout.specs.Stretch.{shapeCauses, dimensionCauses};
 ghost use Rattle.partition.specs.Marks.{dimensionMarks, goodMarks};
 ghost use Rattle.partition.specs.MarksCauses.{shapedCauses, marksCauses, partCauses};
+ghost use Rattle.partition.specs.View.{seenMarks};
 
 // Whether the marks are as many as d dimensions with b bits have, in range, and never fall.
 pub fn check_marks(d: usize, b: usize, marks: &[i32]) -> Verdict
@@ -47,8 +46,8 @@ pub fn check_part(d: usize, b: usize, marks: &[i32], j: usize) -> Verdict
 }
 
 // Dimension j's part of the marks buffer, from 1, or an empty part where check_part refuses.
-pub fn dimension_marks<'a>(d: usize, b: usize, marks: &'a [i32], j: usize) -> &'a [i32]
-    ensures { λ r. ⌜ now r ≡ outcome (first (partCauses d b (now (marks .entry)) j)) (dimensionMarks d b (now (marks .entry)) j) (λ _. []) ⌝ }
+pub(crate) fn checked_part<'a>(d: usize, b: usize, marks: &'a [i32], j: usize) -> &'a [i32]
+    ensures { λ r. ⌜ now r ≡ seenMarks d b (now (marks .entry)) j ⌝ }
 {
     match check_part(d, b, marks, j) {
         Verdict::Accepted => part(d, b, marks, j),
