@@ -79,7 +79,6 @@ part-is d b marks j accepted =
 pub regions-between : (d b : ℕ) (marks : List ℤ) (j : ℕ) → length (seenMarks d b marks j) - 1 ≡ seenRegions d b marks j
 regions-between d b marks j = go (first (partCauses d b marks j)) refl
   where
-    go : (verdict : Verdict) → first (partCauses d b marks j) ≡ verdict
-        → length (outcome verdict (dimensionMarks d b marks j) (λ _. [])) - 1 ≡ outcome verdict (regionCount d b j) (λ _. 0)
-    go Accepted e = omega (arith, part-is d b marks j e .exact)
-    go (Refused cause) e = refl
+    go : (verdict : Verdict) → first (partCauses d b marks j) ≡ verdict → length (seenMarks d b marks j) - 1 ≡ seenRegions d b marks j
+    go Accepted e = rw e (omega (arith, part-is d b marks j e .exact))
+    go (Refused cause) e = rw e
