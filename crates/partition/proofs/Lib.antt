@@ -6,3 +6,4 @@ mod Columns
 pub mod Prefix
 pub mod Power
 mod Viewed
+mod ViewedAt

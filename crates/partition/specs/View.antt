@@ -1,14 +1,14 @@
 -- One dimension's marks as they are looked at, with their number of regions as one thing (document 01, "Marks, regions, codes"). Assumes
 -- nothing.
-use mathlib.Core.Path.{_≡_, refl, subst⁻¹}
-use mathlib.Core.Bool.{true, not}
+use mathlib.Core.Path.{_≡_, refl, _∙_, subst⁻¹}
+use mathlib.Core.Bool.{Bool, true, false, not, _&&_, cond, and-eq-true-iff}
 use mathlib.Core.List.{List, [], _∷_, _++_}
-use Prim.Native.Nat.{ℕ, suc, _+_, _-_, _≤_}
+use Prim.Native.Nat.{ℕ, suc, _+_, _-_, _^_, _≤_}
 use native.Mathlib.Omega.{arith}
-use borrow.Author.Tests.{eqb-true, not-false}
-use lib.Dec.{eqb}
+use borrow.Author.Tests.{eqb-true, leb-true, le-leb, not-false}
+use lib.Dec.{leb, eqb}
 use lib.IntN.{ℤ}
-use lib.ListN.{length, drop, length-drop}
+use lib.ListN.{length, take, drop, length-drop}
 use lib.Seq.{length-take-le}
 use Rattle.refusal.specs.declared.Refusal.the-variants.{Outside}
 use Rattle.refusal.specs.declared.Verdict.{Verdict}
@@ -16,6 +16,7 @@ use Rattle.refusal.specs.declared.Verdict.the-variants.{Accepted, Refused}
 use Rattle.refusal.specs.First.{Row, _⇒_, first, outcome, passed, accepted-front, accepted-behind}
 use Rattle.limits.specs.Limits.{maxDimensionBits}
 use Rattle.limits.specs.Tests.{all-each}
+use Rattle.layout.specs.declared.Stretch.{Stretch}
 use Rattle.layout.specs.Layout.{bitsOf, regionCount, firstMarks}
 use Rattle.layout.specs.Stretch.{dimensionCauses, stretchOf, numbered, stretches}
 use Rattle.partition.specs.Marks.{dimensionMarks, goodDimension, goodFirst, goodMarks}
@@ -34,6 +35,42 @@ seenRegions d b marks j = outcome (first (partCauses d b marks j)) (regionCount 
 -- the causes for which the region of a value in dimension j is refused: those of the part, then 8
 abbrev pub valueCauses : ℕ → ℕ → List ℤ → ℕ → ℤ → List Row
 valueCauses d b marks j v = partCauses d b marks j ++ ((not (inMarks (dimensionMarks d b marks j) v) ⇒ Outside) ∷ [])
+
+-- ---- marks that have been tested, by their place
+
+-- whether a dimension can have w bits, and a buffer of this length holds its marks from an offset on
+abbrev pub fitsAt : ℕ → ℕ → ℕ → Bool
+fitsAt size offset w = leb w maxDimensionBits && leb (offset + (2 ^ w + 1)) size
+
+-- these marks, or an empty part
+abbrev pub marksAt : List ℤ → ℕ → ℕ → List ℤ
+marksAt marks offset w = cond (fitsAt (length marks) offset w) (take (2 ^ w + 1) (drop offset marks)) []
+
+-- their number of regions, or none
+abbrev pub regionsAt : List ℤ → ℕ → ℕ → ℕ
+regionsAt marks offset w = cond (fitsAt (length marks) offset w) (2 ^ w) 0
+
+pub marks-at : (marks : List ℤ) (offset w : ℕ) → w ≤ maxDimensionBits → offset + (2 ^ w + 1) ≤ length marks → marksAt marks offset w ≡ take (2 ^ w + 1) (drop offset marks)
+marks-at marks offset w few fits = rw (le-leb w maxDimensionBits few, le-leb (offset + (2 ^ w + 1)) (length marks) fits)
+
+-- the number of regions is what the part's marks leave between them
+pub regions-at : (marks : List ℤ) (offset w : ℕ) → length (marksAt marks offset w) - 1 ≡ regionsAt marks offset w
+regions-at marks offset w = go (fitsAt (length marks) offset w) refl
+  where
+    go : (fits : Bool) → fitsAt (length marks) offset w ≡ fits → length (marksAt marks offset w) - 1 ≡ regionsAt marks offset w
+    go true e =
+        let within = leb-true (offset + (2 ^ w + 1)) (length marks) (and-eq-true-iff (leb w maxDimensionBits) _ .0 e .1) in
+        let long = length-take-le (2 ^ w + 1) (drop offset marks) (rw (length-drop offset marks) (omega (arith, within))) in
+        rw e (omega (arith, long))
+    go false e = rw e
+
+-- at a dimension's stretch they are its marks
+pub stretch-marks : (d b j : ℕ) (marks : List ℤ) {s : Stretch} → first (dimensionCauses d b j) ≡ Accepted → length marks ≡ firstMarks d b d → s ≡ stretchOf d b j
+    → marksAt marks (s .offset) (s .bits) ≡ dimensionMarks d b marks j
+unfolding dimensionMarks
+stretch-marks d b j marks {s} accepted size is =
+    let told = stretches accepted is in
+    marks-at marks (s .offset) (s .bits) (told .few-bits) (omega (arith, told .end, told .within, size)) ∙ rw (told .bits-are, told .offset-is)
 
 -- ---- a part that is handed back
 
@@ -75,7 +112,7 @@ part-is d b marks j accepted =
       good = good-part d b marks j accepted;
     }
 
--- the number of regions is what the part's marks leave between them
+-- and here too
 pub regions-between : (d b : ℕ) (marks : List ℤ) (j : ℕ) → length (seenMarks d b marks j) - 1 ≡ seenRegions d b marks j
 regions-between d b marks j = go (first (partCauses d b marks j)) refl
   where
