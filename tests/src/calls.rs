@@ -91,6 +91,7 @@ macro_rules! call {
 pub const STRETCH: Call = call!(stretch, [D, B, J], [1, 2]);
 pub const CHECK_MARKS: Call = call!(check_marks, [D, B, Marks], [1, 2, 5, 7]);
 pub const PART: Call = call!(part, [D, B, J, Marks], [1, 2, 5, 7]);
+pub const DIMENSION_REGION: Call = call!(dimension_region, [D, B, J, Marks, Value], [1, 2, 5, 7, 8]);
 pub const REGION: Call = call!(region, [DimensionMarks, Value], [2, 5, 7, 8]);
 pub const MAKE_MARKS: Call = call!(make_marks, [D, B, N, Vectors, Components, RoomMarks], [1, 2, 3, 5, 6]);
 pub const REGIONS: Call = call!(regions, [D, B, N, Vectors, Components, Marks, RoomRegions], [1, 2, 3, 5, 6, 7, 8]);

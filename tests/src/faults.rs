@@ -195,6 +195,7 @@ fn faults(input: &Input) -> Vec<Fault> {
     for value in [marks[0] - 1, marks[marks.len() - 1], LEAST - 1, GREATEST + 1, i32::MIN, i32::MAX] {
         let spoil = move |input: &mut Input| input.one.value = value;
         faults.add(8, &[DimensionMarks, Value], format!("value {value}"), spoil);
+        faults.add(8, &[J, Marks, Value], format!("value {value}"), spoil);
     }
 
     code_faults(input, &mut faults);

@@ -1,7 +1,7 @@
 //! Bits, marks and regions (document 01, "Marks, regions, codes"): the C interface against the reference.
 
 use tests::{
-    calls::{Call, CHECK_MARKS, MAKE_MARKS, PART, REGION, REGIONS, STRETCH},
+    calls::{Call, CHECK_MARKS, DIMENSION_REGION, MAKE_MARKS, PART, REGION, REGIONS, STRETCH},
     faults::{assert_each_refusal, assert_lengths, assert_refusals},
     input::Input,
     interface,
@@ -10,7 +10,7 @@ use tests::{
     samples::{self, largest_input, library_a, random_input, random_of_shape, shapes, small_inputs, GREATEST, LEAST},
 };
 
-const CALLS: [Call; 6] = [STRETCH, CHECK_MARKS, PART, REGION, MAKE_MARKS, REGIONS];
+const CALLS: [Call; 7] = [STRETCH, CHECK_MARKS, PART, DIMENSION_REGION, REGION, MAKE_MARKS, REGIONS];
 
 /// One dimension's marks with a value.
 fn one(marks: &[i32], value: i32) -> Input {
@@ -149,6 +149,24 @@ fn no_part_is_another_dimensions() {
     }
 }
 
+/// Every mark of every dimension as a value, the number below it, and the ends of the scale.
+#[test]
+fn no_value_is_sought_in_another_dimension() {
+    for seed in 0..60 {
+        let mut input = random_input(seed, 8);
+        for (dimension, part) in reference::parts(input.d, input.b).into_iter().enumerate() {
+            input.j = dimension + 1;
+            let marks = input.marks[part].to_vec();
+            let about = marks.iter().flat_map(|&mark| [mark - 1, mark]);
+            for value in about.chain([LEAST, GREATEST, i32::MIN, i32::MAX]) {
+                input.one.value = value;
+                let inside = marks[0] <= value && value < marks[marks.len() - 1];
+                DIMENSION_REGION.gives(if inside { 0 } else { 8 }, &input);
+            }
+        }
+    }
+}
+
 /// Every list of up to five components from 0 to 2, with each number of bits: every place of the sorted components.
 #[test]
 fn no_mark_is_made_from_a_wrong_place() {
@@ -207,6 +225,11 @@ fn no_refusal_of_check_marks_is_missed_or_out_of_order() {
 #[test]
 fn no_refusal_of_part_is_missed_or_out_of_order() {
     assert_refusals(&PART, &small_inputs());
+}
+
+#[test]
+fn no_refusal_of_dimension_region_is_missed_or_out_of_order() {
+    assert_refusals(&DIMENSION_REGION, &small_inputs());
 }
 
 #[test]

@@ -17,6 +17,7 @@ use Rattle.layout.specs.Laws.{marks-within, first-next-marks}
 use Rattle.layout.specs.Stretch.{Shape}
 use Rattle.partition.specs.Marks.{dimensionMarks}
 use Rattle.partition.specs.Region.{regionOf, inMarks}
+use Rattle.partition.specs.View.{marksAt, marks-at}
 use Rattle.approximation.specs.Codes.{nextColumn}
 use Rattle.approximation.specs.Vectors.{regionsFrom, insideFrom}
 use Rattle.approximation.proofs.Columns.{Width, next-below}
@@ -35,19 +36,22 @@ pub begins : {d b : ℕ} → Shape d b → Begins d b 0 0
 begins {d} {b} shaped = record { inside = shaped .some; there = first-none d b }
 
 module _ {d b : ℕ} (marks : List ℤ) (exact : length marks ≡ firstMarks d b d) {column offset w : ℕ} (at : Begins d b column offset) (wide : Width d b column w) where
-  pub lies : offset + (2 ^ w + 1) ≤ length marks
+  lies : offset + (2 ^ w + 1) ≤ length marks
   unfolding firstMarks
   lies = rw (exact, at .there, wide .is) (marks-within d b d column (at .inside))
 
-  module _ {part : List ℤ} (is : part ≡ take (2 ^ w + 1) (drop offset marks)) where
+  module _ {part : List ℤ} (is : part ≡ marksAt marks offset w) where
+    taken : part ≡ take (2 ^ w + 1) (drop offset marks)
+    taken = is ∙ marks-at marks offset w (wide .few) lies
+
     pub part-is : part ≡ dimensionMarks d b marks (suc column)
     unfolding dimensionMarks
     part-is =
         let before : suc column - 1 ≡ column = omega arith in
-        is ∙ rw (at .there, wide .is, before)
+        taken ∙ rw (at .there, wide .is, before)
 
     part-length : length part ≡ 2 ^ w + 1
-    part-length = ap length is ∙ length-take-le (2 ^ w + 1) (drop offset marks) (simp length-drop (omega (arith, lies)))
+    part-length = ap length taken ∙ length-take-le (2 ^ w + 1) (drop offset marks) (simp length-drop (omega (arith, lies)))
 
     pub part-few : length part ≤ 65
     part-few =

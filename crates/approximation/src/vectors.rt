@@ -7,16 +7,16 @@ use limits::MAX_DIMENSIONS;
 use limits::MAX_VECTORS;
 use partition::region::in_marks;
 use partition::region::locate;
+use partition::view::marks_at;
 use refusal::Refusal;
 use refusal::Verdict;
 ghost use mathlib.Core.Path.{_≡_};
 ghost use mathlib.Core.Bool.{cond};
-ghost use Prim.Native.Nat.{_+_, _^_, _≤_};
+ghost use Prim.Native.Nat.{_≤_};
 ghost use lib.Dec.{eqb};
-ghost use lib.ListN.{length, take, drop};
+ghost use lib.ListN.{length, take};
 ghost use Rattle.refusal.specs.declared.Verdict.the-variants.{Accepted};
 ghost use Rattle.refusal.specs.First.{first, outcome};
-ghost use Rattle.limits.specs.Limits.{maxDimensionBits};
 ghost use Rattle.layout.specs.Layout.{firstMarks};
 ghost use Rattle.layout.specs.Stretch.{shapeCauses, Shape};
 ghost use Rattle.approximation.specs.Pack.{Sizes};
@@ -130,7 +130,7 @@ fn vectors_inside(d: usize, b: usize, vectors: &[i32], marks: &[i32]) -> bool
     let mut offset = 0;
     let mut i = 0;
     while i < vectors.len() {
-        let part = part(marks, offset, column_bits(fewest, more, column));
+        let part = marks_at(marks, offset, column_bits(fewest, more, column));
         if !in_marks(part, vectors[i]) {
             return false;
         }
@@ -152,7 +152,7 @@ fn locate_all(d: usize, b: usize, vectors: &[i32], marks: &[i32], regions: &mut 
     let mut offset = 0;
     let mut i = 0;
     while i < vectors.len() {
-        let part = part(marks, offset, column_bits(fewest, more, column));
+        let part = marks_at(marks, offset, column_bits(fewest, more, column));
         regions[i] = locate(part, vectors[i]) as u8;
         column = next_column(d, column);
         offset = next_offset(column, offset + part.len());
@@ -169,15 +169,6 @@ fn put_vectors(d: usize, b: usize, n: usize, vectors: &[i32], marks: &[i32], cod
     let count = vectors.len();
     locate_all(d, b, vectors, marks, &mut regions);
     put_all(d, b, &regions[..count], codes);
-}
-
-// The marks of a dimension of w bits, which begin at this offset.
-fn part<'a>(marks: &'a [i32], offset: usize, w: usize) -> &'a [i32]
-    requires { ⌜ (w ≤ maxDimensionBits) × (offset + (2 ^ w + 1) ≤ length (now marks)) ⌝ }
-    ensures { λ r. ⌜ now r ≡ take (2 ^ w + 1) (drop offset (now (marks .entry))) ⌝ }
-{
-    let end = offset + (1usize << w) + 1;
-    &marks[offset..end]
 }
 
 // Where the marks of a column's dimension begin: the first's at the front, another's where those before them end.

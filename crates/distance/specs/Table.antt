@@ -6,12 +6,13 @@ use mathlib.Core.List.{List, [], _∷_, _++_}
 use Prim.Native.Nat.{ℕ, zero, suc, _+_, _*_, _%_, _^_}
 use lib.Dec.{ltb, eqb}
 use lib.IntN.{ℤ, pos}
-use lib.ListN.{drop, getD}
+use lib.ListN.{getD}
 use Rattle.refusal.specs.declared.Refusal.the-variants.{Length}
 use Rattle.refusal.specs.First.{Row, _⇒_, first, outcome}
 use Rattle.limits.specs.Limits.{maxDimensions, maxDimensionBits, maxVectors}
 use Rattle.layout.specs.Layout.{markCount, firstMarks}
 use Rattle.layout.specs.Stretch.{shapeCauses}
+use Rattle.partition.specs.Marks.{dimensionMarks}
 use Rattle.approximation.specs.Codes.{codeRegion}
 use Rattle.distance.specs.declared.Bound.{Bound}
 use Rattle.distance.specs.declared.Bound.the-variants.{Lower, Upper}
@@ -31,7 +32,7 @@ stepsFrom step q marks r (suc n) = stepTo step q marks r % 2 ^ 64 ∷ stepsFrom 
 unfoldable pub tableFirst : (ℤ → ℤ → ℤ → ℕ) → ℕ → ℕ → List ℤ → List ℤ → ℕ → List ℕ
 tableFirst step d b marks query zero = []
 tableFirst step d b marks query (suc t) =
-    tableFirst step d b marks query t ++ stepsFrom step (getD query t (pos 0)) (drop (firstMarks d b t) marks) 0 (markCount d b (suc t))
+    tableFirst step d b marks query t ++ stepsFrom step (getD query t (pos 0)) (dimensionMarks d b marks (suc t)) 0 (markCount d b (suc t))
 
 abbrev pub tableOf : (ℤ → ℤ → ℤ → ℕ) → ℕ → ℕ → List ℤ → List ℤ → List ℕ
 tableOf step d b marks query = tableFirst step d b marks query d

@@ -8,17 +8,16 @@ use native.Mathlib.Nat.{zero-add, add-zero, add-mod, mod-mod, mod-eq-of-lt, le-r
 use native.Mathlib.Omega.{arith}
 use borrow.Author.Tests.{lt-ltb}
 use lib.IntN.{ℤ, pos}
-use lib.ListN.{length, drop, getD, length-append, List·getD-append}
-use lib.Seq.{getD-append-add, getD-drop}
+use lib.ListN.{length, getD, length-append, List·getD-append}
+use lib.Seq.{getD-append-add}
 use Rattle.refusal.specs.declared.Verdict.the-variants.{Accepted}
 use Rattle.refusal.specs.First.{first}
 use Rattle.limits.specs.Limits.{maxDimensions, maxDimensionBits, maxVectors}
 use Rattle.whole.specs.Components.{areComponents}
-use Rattle.layout.specs.Layout.{regionCount, markCount, firstMarks}
+use Rattle.layout.specs.Layout.{markCount, firstMarks}
 use Rattle.layout.specs.Laws.{marks-le, marks-within, first-next-marks}
 use Rattle.layout.specs.Stretch.{shapeCauses, shape}
 use Rattle.partition.specs.Marks.{dimensionMarks, goodMarks}
-use Rattle.partition.specs.Parts.{part-at}
 use Rattle.approximation.specs.Codes.{codeRegion}
 use Rattle.approximation.specs.PackLaws.{code-region-fits}
 use Rattle.distance.specs.declared.Bound.{Bound}
@@ -48,11 +47,11 @@ module _ (step : ℤ → ℤ → ℤ → ℕ) (d b : ℕ) (marks query : List �
 
   -- the last dimension's entries
   entry-last : (t k : ℕ) → k < markCount d b (suc t)
-      → getD (tableFirst step d b marks query (suc t)) (firstMarks d b t + k) 0 ≡ stepTo step (getD query t (pos 0)) (drop (firstMarks d b t) marks) k % 2 ^ 64
+      → getD (tableFirst step d b marks query (suc t)) (firstMarks d b t + k) 0 ≡ stepTo step (getD query t (pos 0)) (dimensionMarks d b marks (suc t)) k % 2 ^ 64
   unfolding tableFirst
   entry-last t k within =
       let q = getD query t (pos 0) in
-      let part = drop (firstMarks d b t) marks in
+      let part = dimensionMarks d b marks (suc t) in
       ap (λ (n : ℕ). getD (tableFirst step d b marks query (suc t)) (n + k) 0) (sym (length-table t))
       ∙ getD-append-add (tableFirst step d b marks query t) (stepsFrom step q part 0 (markCount d b (suc t))) k 0
       ∙ step-at step q part 0 (markCount d b (suc t)) k within
@@ -60,7 +59,7 @@ module _ (step : ℤ → ℤ → ℤ → ℕ) (d b : ℕ) (marks query : List �
 
   -- dimension t + 1's entries stand from its stretch on, in the table of the first n dimensions
   entry-at : (n t k : ℕ) → t < n → k < markCount d b (suc t)
-      → getD (tableFirst step d b marks query n) (firstMarks d b t + k) 0 ≡ stepTo step (getD query t (pos 0)) (drop (firstMarks d b t) marks) k % 2 ^ 64
+      → getD (tableFirst step d b marks query n) (firstMarks d b t + k) 0 ≡ stepTo step (getD query t (pos 0)) (dimensionMarks d b marks (suc t)) k % 2 ^ 64
   unfolding tableFirst
   entry-at zero t k h within = absurd (omega arith)
   entry-at (suc n) t k h within =
@@ -72,12 +71,6 @@ module _ (step : ℤ → ℤ → ℤ → ℕ) (d b : ℕ) (marks query : List �
       before : t < n → firstMarks d b t + k < length (tableFirst step d b marks query n)
       before l = omega (arith, length-table n, marks-within d b n t l, first-next-marks d b t)
 
-  -- a region's marks are those of its dimension's part
-  region-step : (q : ℤ) (t r : ℕ) → r < regionCount d b (suc t) → stepTo step q (drop (firstMarks d b t) marks) r ≡ stepTo step q (dimensionMarks d b marks (suc t)) r
-  region-step q t r h =
-      let o = firstMarks d b t in
-      rw (getD-drop o marks r (pos 0), getD-drop o marks (suc r) (pos 0), part-at d b marks t r (pos 0) (omega arith), part-at d b marks t (suc r) (pos 0) (omega arith))
-
   -- a code's entries sum up to its bound, modulo 2^64 for any numbers
   module _ (codes : List ℕ) (i : ℕ) where
     sum-first : (n t : ℕ) → t ≤ n → tableSum d b (tableFirst step d b marks query n) codes i t % 2 ^ 64 ≡ firstBound step d b marks codes query i t % 2 ^ 64
@@ -87,7 +80,7 @@ module _ (step : ℤ → ℤ → ℤ → ℕ) (d b : ℕ) (marks query : List �
         let r = codeRegion d b codes i t in
         let q = getD query t (pos 0) in
         let fits = code-region-fits d b codes i t in
-        let entry = entry-at n t r h (omega arith) ∙ ap (λ (s : ℕ). s % 2 ^ 64) (region-step q t r fits) in
+        let entry = entry-at n t r h (omega arith) in
         rw (add-mod (tableSum d b (tableFirst step d b marks query n) codes i t) _ (2 ^ 64), entry, sum-first n t (omega arith), mod-mod (stepTo step q (dimensionMarks d b marks (suc t)) r) (2 ^ 64))
         (sym (add-mod (firstBound step d b marks codes query i t) (stepTo step q (dimensionMarks d b marks (suc t)) r) (2 ^ 64)))
 

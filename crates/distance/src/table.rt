@@ -5,6 +5,7 @@ use approximation::bits::bits_at;
 use limits::MAX_DIMENSION_BITS;
 use limits::MAX_DIMENSIONS;
 use limits::MAX_VECTORS;
+use partition::view::marks_at;
 use refusal::Refusal;
 use refusal::Verdict;
 ghost use mathlib.Core.Path.{_≡_};
@@ -82,7 +83,7 @@ fn fill_dimensions(
         fill_steps(
             bound,
             whole::at(query, t),
-            &marks[start..],
+            marks_at(marks, start, stretch.bits),
             &mut table[start..end],
         );
         t += 1;

@@ -1,7 +1,6 @@
 // Marks and regions, for C. Each gives 0, or the refusal's number; a refused call leaves a buffer as it was, and 0 in a place for a count.
 use partition::region::Lookup;
 ghost use mathlib.Core.Path.{_≡_};
-ghost use mathlib.Core.List.{[]};
 ghost use lib.IntN.{pos};
 ghost use lib.ListN.{length, getD};
 ghost use Rattle.refusal.specs.Refusal.{verdictNumber};
@@ -10,7 +9,8 @@ ghost use Rattle.layout.specs.Stretch.{dimensionCauses, stretchOf};
 ghost use Rattle.partition.specs.Marks.{dimensionMarks};
 ghost use Rattle.partition.specs.MarksCauses.{marksCauses, partCauses};
 ghost use Rattle.partition.specs.Region.{regionOf};
-ghost use Rattle.partition.specs.Lookup.{regionCauses};
+ghost use Rattle.partition.specs.Lookup.{regionCauses, lookupNumber, lookupRegion};
+ghost use Rattle.partition.specs.View.{seenMarks, valueCauses};
 ghost use Rattle.partition.specs.Made.{madeMarks};
 ghost use Rattle.partition.specs.Making.{makeCauses};
 
@@ -52,27 +52,50 @@ pub extern "C" fn matcher_check_part(d: usize, b: usize, marks: &[i32], j: usize
 // How many marks dimension j has, 0 where they are refused.
 #[no_mangle]
 pub extern "C" fn matcher_part_length(d: usize, b: usize, marks: &[i32], j: usize) -> usize
-    ensures { λ r. ⌜ r ≡ length (outcome (first (partCauses d b (now (marks .entry)) j)) (dimensionMarks d b (now (marks .entry)) j) (λ _. [])) ⌝ }
+    ensures { λ r. ⌜ r ≡ length (seenMarks d b (now (marks .entry)) j) ⌝ }
 {
-    partition::marks::dimension_marks(d, b, marks, j).len()
+    partition::view::dimension_marks(d, b, marks, j).len()
 }
 
 // Dimension j's mark at an index, 0 past the last and where the marks are refused.
 #[no_mangle]
 pub extern "C" fn matcher_part_at(d: usize, b: usize, marks: &[i32], j: usize, i: usize) -> i32
-    ensures { λ r. ⌜ r
-        ≡ getD (outcome (first (partCauses d b (now (marks .entry)) j)) (dimensionMarks d b (now (marks .entry)) j) (λ _. [])) i (pos 0) ⌝ }
+    ensures { λ r. ⌜ r ≡ getD (seenMarks d b (now (marks .entry)) j) i (pos 0) ⌝ }
 {
-    whole::at(partition::marks::dimension_marks(d, b, marks, j), i)
+    whole::at(partition::view::dimension_marks(d, b, marks, j), i)
 }
 
-// The region of a value in one dimension's marks.
+// The region of a value in dimension j's marks.
+#[no_mangle]
+pub extern "C" fn matcher_region_of(
+    d: usize,
+    b: usize,
+    marks: &[i32],
+    j: usize,
+    v: i32,
+    region: &mut usize,
+) -> u32
+    ensures { λ r. ⌜ r ≡ verdictNumber (first (valueCauses d b (now (marks .entry)) j v)) ⌝ }
+    ensures { λ _. ⌜ now (region .exit)
+        ≡ outcome (first (valueCauses d b (now (marks .entry)) j v)) (regionOf (dimensionMarks d b (now (marks .entry)) j) v) (λ _. 0) ⌝ }
+{
+    tell_region(partition::view::region_of(d, b, marks, j, v), region)
+}
+
+// The region of a value in one dimension's marks, of which there is one more than regions.
 #[no_mangle]
 pub extern "C" fn matcher_region(marks: &[i32], regions: usize, v: i32, region: &mut usize) -> u32
     ensures { λ r. ⌜ r ≡ verdictNumber (first (regionCauses (now (marks .entry)) regions v)) ⌝ }
     ensures { λ _. ⌜ now (region .exit) ≡ outcome (first (regionCauses (now (marks .entry)) regions v)) (regionOf (now (marks .entry)) v) (λ _. 0) ⌝ }
 {
-    match partition::region::region(marks, regions, v) {
+    tell_region(partition::region::region(marks, regions, v), region)
+}
+
+// The region that was found and 0, or 0 and the refusal's number.
+fn tell_region(lookup: Lookup, region: &mut usize) -> u32
+    ensures { λ r. ⌜ (r ≡ lookupNumber lookup) × (now (region .exit) ≡ lookupRegion lookup) ⌝ }
+{
+    match lookup {
         Lookup::Region(number) => {
             *region = number;
             0

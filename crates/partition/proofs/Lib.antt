@@ -5,3 +5,5 @@ mod Filled
 mod Columns
 pub mod Prefix
 pub mod Power
+mod Viewed
+mod ViewedAt

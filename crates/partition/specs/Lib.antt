@@ -7,6 +7,7 @@ pub mod Regions
 pub mod Located
 pub mod RegionCount
 pub mod Lookup
+pub mod View
 pub mod Made
 pub mod Making
 pub mod InOrder

@@ -7,11 +7,11 @@ use lib.IntN.{ℤ}
 use lib.ListN.{length}
 use Rattle.refusal.specs.declared.Refusal.the-variants.{Bits, Length, Mark, Outside}
 use Rattle.refusal.specs.Refusal.{numberOf}
-use Rattle.refusal.specs.First.{Row, _⇒_}
+use Rattle.refusal.specs.First.{Row, _⇒_, first, outcome}
 use Rattle.partition.specs.declared.region.Lookup.{Lookup}
 use Rattle.partition.specs.declared.region.Lookup.the-variants.{Region, Refused}
 use Rattle.partition.specs.Marks.{goodDimension}
-use Rattle.partition.specs.Region.{inMarks}
+use Rattle.partition.specs.Region.{regionOf, inMarks}
 use Rattle.partition.specs.RegionCount.{isRegionCount}
 
 -- the causes, in the order in which they are tested: 2, 5, 7, 8
@@ -22,6 +22,10 @@ regionCauses marks regions v =
     ∷ (not (goodDimension marks) ⇒ Mark)
     ∷ (not (inMarks marks v) ⇒ Outside)
     ∷ []
+
+-- the answer: the region of v in these marks, or the first cause
+abbrev pub lookedUp : List ℤ → ℕ → ℤ → Lookup
+lookedUp marks regions v = outcome (first (regionCauses marks regions v)) (Region (regionOf marks v)) Refused
 
 -- document 01's number of an answer, 0 where there is a region
 abbrev pub lookupNumber : Lookup → ℕ

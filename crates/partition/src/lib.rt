@@ -2,3 +2,4 @@
 pub mod made;
 pub mod marks;
 pub mod region;
+pub mod view;

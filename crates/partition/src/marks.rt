@@ -1,17 +1,17 @@
 // The marks buffer: the test of its marks, and each dimension's part of it.
 use crate::region::good_dimension;
+use limits::MAX_DIMENSION_BITS;
 use refusal::Refusal;
 use refusal::Verdict;
 ghost use mathlib.Core.Path.{_≡_};
-ghost use mathlib.Core.List.{[]};
-ghost use Prim.Native.Nat.{_≤_};
 ghost use lib.ListN.{length};
 ghost use Rattle.refusal.specs.declared.Verdict.the-variants.{Accepted};
-ghost use Rattle.refusal.specs.First.{first, outcome};
+ghost use Rattle.refusal.specs.First.{first};
 ghost use Rattle.layout.specs.Layout.{firstMarks};
 ghost use Rattle.layout.specs.Stretch.{shapeCauses, dimensionCauses};
 ghost use Rattle.partition.specs.Marks.{dimensionMarks, goodMarks};
 ghost use Rattle.partition.specs.MarksCauses.{shapedCauses, marksCauses, partCauses};
+ghost use Rattle.partition.specs.View.{seenMarks, fitsAt, marksAt};
 
 // Whether the marks are as many as d dimensions with b bits have, in range, and never fall.
 pub fn check_marks(d: usize, b: usize, marks: &[i32]) -> Verdict
@@ -47,8 +47,8 @@ pub fn check_part(d: usize, b: usize, marks: &[i32], j: usize) -> Verdict
 }
 
 // Dimension j's part of the marks buffer, from 1, or an empty part where check_part refuses.
-pub fn dimension_marks<'a>(d: usize, b: usize, marks: &'a [i32], j: usize) -> &'a [i32]
-    ensures { λ r. ⌜ now r ≡ outcome (first (partCauses d b (now (marks .entry)) j)) (dimensionMarks d b (now (marks .entry)) j) (λ _. []) ⌝ }
+pub(crate) fn checked_part<'a>(d: usize, b: usize, marks: &'a [i32], j: usize) -> &'a [i32]
+    ensures { λ r. ⌜ now r ≡ seenMarks d b (now (marks .entry)) j ⌝ }
 {
     match check_part(d, b, marks, j) {
         Verdict::Accepted => part(d, b, marks, j),
@@ -75,7 +75,30 @@ fn part<'a>(d: usize, b: usize, marks: &'a [i32], j: usize) -> &'a [i32]
     ensures { λ r. ⌜ now r ≡ dimensionMarks d b (now (marks .entry)) j ⌝ }
 {
     let stretch = layout::stretch_of(d, b, j);
-    let offset = stretch.offset;
-    let end = offset + (1usize << stretch.bits) + 1;
+    part_at(marks, stretch.offset, stretch.bits)
+}
+
+// The marks of a dimension of so many bits from an offset on, or an empty part where no dimension has these bits or the buffer ends before.
+pub(crate) fn part_at<'a>(marks: &'a [i32], offset: usize, bits: usize) -> &'a [i32]
+    ensures { λ r. ⌜ now r ≡ marksAt (now (marks .entry)) offset bits ⌝ }
+{
+    if !fits_at(marks.len(), offset, bits) {
+        return &marks[0..0];
+    }
+    let end = offset + (1usize << bits) + 1;
     &marks[offset..end]
+}
+
+// Whether a dimension can have so many bits, and a buffer of this length holds its marks from an offset on.
+fn fits_at(length: usize, offset: usize, bits: usize) -> bool
+    ensures { λ r. ⌜ r ≡ fitsAt length offset bits ⌝ }
+{
+    if MAX_DIMENSION_BITS < bits {
+        return false;
+    }
+    let count = (1usize << bits) + 1;
+    if length < count {
+        return false;
+    }
+    offset <= length - count
 }

@@ -9,12 +9,11 @@ ghost use Prim.Native.Nat.{suc, _<_};
 ghost use lib.IntN.{pos};
 ghost use lib.ListN.{length, drop, getD};
 ghost use Rattle.limits.specs.Limits.{isMark};
-ghost use Rattle.refusal.specs.First.{first, outcome};
 ghost use Rattle.partition.specs.Marks.{notAbove, goodDimension};
-ghost use Rattle.partition.specs.Region.{regionOf, inMarks};
+ghost use Rattle.partition.specs.Region.{inMarks};
 ghost use Rattle.partition.specs.Located.{Located};
 ghost use Rattle.partition.specs.RegionCount.{isRegionCount};
-ghost use Rattle.partition.specs.Lookup.{regionCauses};
+ghost use Rattle.partition.specs.Lookup.{lookedUp};
 
 // What the lookup of a value's region answers.
 pub enum Lookup {
@@ -24,8 +23,7 @@ pub enum Lookup {
 
 // The region of a value in one dimension's marks, of which there is one more than regions.
 pub fn region(marks: &[i32], regions: usize, v: i32) -> Lookup
-    ensures { λ r. ⌜ r ≡ outcome (first (regionCauses (now (marks .entry)) regions v))
-        (Lookup.Region (regionOf (now (marks .entry)) v)) Lookup.Refused ⌝ }
+    ensures { λ r. ⌜ r ≡ lookedUp (now (marks .entry)) regions v ⌝ }
 {
     if !is_region_count(regions) {
         return Lookup::Refused(Refusal::Bits);

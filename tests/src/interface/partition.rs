@@ -9,6 +9,15 @@ extern "C" {
     fn matcher_check_part(d: usize, b: usize, marks: *const i32, marks_len: usize, j: usize) -> u32;
     fn matcher_part_length(d: usize, b: usize, marks: *const i32, marks_len: usize, j: usize) -> usize;
     fn matcher_part_at(d: usize, b: usize, marks: *const i32, marks_len: usize, j: usize, i: usize) -> i32;
+    fn matcher_region_of(
+        d: usize,
+        b: usize,
+        marks: *const i32,
+        marks_len: usize,
+        j: usize,
+        v: i32,
+        region: *mut usize,
+    ) -> u32;
     fn matcher_region(marks: *const i32, marks_len: usize, regions: usize, v: i32, region: *mut usize) -> u32;
     fn matcher_make_marks(
         d: usize,
@@ -60,6 +69,15 @@ pub fn part(input: &Input) -> Result<Vec<i32>, u32> {
     let part = (0..length).map(at).collect();
     marks.kept();
     outcome(number, part)
+}
+
+pub fn dimension_region(input: &Input) -> Result<usize, u32> {
+    let &Input { d, b, j, .. } = input;
+    let (mut marks, mut region) = (Lent::given(&input.marks), Lent::room(1));
+    let value = input.one.value;
+    let number = unsafe { matcher_region_of(d, b, marks.pointer(), marks.len(), j, value, region.pointer()) };
+    marks.kept();
+    outcome(number, counted(&region, number))
 }
 
 pub fn region(input: &Input) -> Result<usize, u32> {

@@ -90,6 +90,11 @@ pub fn part(input: &Input) -> Result<Vec<i32>, u32> {
     Ok(input.marks[parts(input.d, input.b)[input.j - 1].clone()].to_vec())
 }
 
+/// The region of a value in the part that is handed back.
+pub fn dimension_region(input: &Input) -> Result<usize, u32> {
+    causes::inside(region_of(&part(input)?, input.one.value))
+}
+
 pub fn region(input: &Input) -> Result<usize, u32> {
     let one = &input.one;
     causes::region_count(one.regions)?;

@@ -3,7 +3,7 @@
 use mathlib.Core.Path.{_≡_, refl}
 use mathlib.Core.Bool.{true, cond, and-eq-true-iff}
 use mathlib.Core.List.{List, _++_, append-nil}
-use Prim.Native.Nat.{ℕ, suc, _+_, _-_, _^_, _≤_, _<_}
+use Prim.Native.Nat.{ℕ, suc, _+_, _-_, _≤_, _<_}
 use native.Mathlib.Omega.{arith}
 use borrow.Author.Needs.{needs}
 use lib.Dec.{eqb}
@@ -15,11 +15,12 @@ use Rattle.order.proofs.Written.{written-one}
 use Rattle.partition.specs.Marks.{dimensionMarks}
 use Rattle.partition.specs.Region.{regionOf, inMarks}
 use Rattle.partition.specs.Located.{Located, located-is}
+use Rattle.partition.specs.View.{marksAt}
 use Rattle.approximation.specs.Codes.{nextColumn}
 use Rattle.approximation.specs.Vectors.{vectorRegions, regionsFrom, insideFrom}
 use Rattle.approximation.specs.VectorCauses.{Inside, good-each}
 use Rattle.approximation.proofs.Columns.{Width, fewest, width}
-use Rattle.approximation.proofs.Stretches.{Begins, begins, lies, part-is, part-few, part-within, goes-on, inside-next, regions-next}
+use Rattle.approximation.proofs.Stretches.{Begins, begins, part-is, part-few, part-within, goes-on, inside-next, regions-next}
 use Rattle.approximation.proofs.vectors.locate_all.Statement.{statement}
 use Rattle.approximation.proofs.vectors.locate_all.Tie as tie
 
@@ -39,7 +40,7 @@ abbrev μ-loop : tie.MeasureT-loop
 
 module _ {d b : ℕ} {vectors marks : List ℤ} {room : ℕ} {regions : List ℕ} {column offset i : ℕ} (given : Inside d b marks vectors) (fits : length vectors ≤ room) (at : Locating d b vectors marks room regions column offset i) where
   -- the region that is located in the column's marks is written
-  turn : {part : List ℤ} {w r : ℕ} → Width d b column w → part ≡ take (2 ^ w + 1) (drop offset marks) → i < length vectors → Located part (getD vectors i (pos 0)) r
+  turn : {part : List ℤ} {w r : ℕ} → Width d b column w → part ≡ marksAt marks offset w → i < length vectors → Located part (getD vectors i (pos 0)) r
       → Locating d b vectors marks room (set regions i r) (nextColumn d column) (cond (eqb (nextColumn d column) 0) 0 (offset + length part)) (i + 1)
   turn {part} {w} {r} wide is more located =
       let exact = given .exact in
@@ -66,7 +67,7 @@ wide c = width (c .before .before .before .before .pre .0 .shaped) (c .column-bi
 
 -- the region in the column's marks, for the component that was read
 found : (c : tie.After-locate Inv-loop μ-loop) → let at = c .before .before .before .before .before in
-    Located (c .before .before .part .result .now) (getD (at .before .before .args .vectors .now) (at .loop .i) (pos 0)) (c .locate .result)
+    Located (c .before .before .marks-at .result .now) (getD (at .before .before .args .vectors .now) (at .loop .i) (pos 0)) (c .locate .result)
 found c = rw (toZ-ofZ w32 _ (record { sfits = c .before .locate-arg .given })) at (c .locate .ensures)
 
 loop-holds : tie.Need-loop-holds Inv-loop μ-loop
@@ -78,7 +79,7 @@ cast-regions : tie.Need-cast-regions Inv-loop μ-loop
 cast-regions c =
     let part = c .before .before in
     let at = part .before .before .before in
-    omega (arith, found c .bound, part-few (at .before .before .args .marks .now) (at .before .before .pre .0 .exact) (at .loop .inv .begins-at) (wide (part .before)) (part .part .ensures))
+    omega (arith, found c .bound, part-few (at .before .before .args .marks .now) (at .before .before .pre .0 .exact) (at .loop .inv .begins-at) (wide (part .before)) (part .marks-at .ensures))
 
 slice-write-regions : tie.Need-slice-write-regions Inv-loop μ-loop
 slice-write-regions c =
@@ -90,7 +91,7 @@ add-next-offset c =
     let part = c .before .before .before in
     let at = part .before .before .before in
     let start = at .before .before in
-    omega (arith, part-within (start .args .marks .now) (start .pre .0 .exact) (at .loop .inv .begins-at) (wide (part .before)) (part .part .ensures), start .good)
+    omega (arith, part-within (start .args .marks .now) (start .pre .0 .exact) (at .loop .inv .begins-at) (wide (part .before)) (part .marks-at .ensures), start .good)
 
 loop-again : tie.Need-loop-again Inv-loop μ-loop
 loop-again c =
@@ -98,7 +99,7 @@ loop-again c =
     let part = locate .before .before in
     let at = part .before .before .before in
     rw (c .next-offset .ensures, c .before .next-column .ensures)
-    (turn (at .before .before .pre .0) (at .before .before .pre .1) (at .loop .inv) (wide (part .before)) (part .part .ensures) (part .before .before .loop-test .taken) (found locate))
+    (turn (at .before .before .pre .0) (at .before .before .pre .1) (at .loop .inv) (wide (part .before)) (part .marks-at .ensures) (part .before .before .loop-test .taken) (found locate))
 
 pub locate-all-spec : {M : Type 1} → statement M
 locate-all-spec =
@@ -110,7 +111,7 @@ locate-all-spec =
     (λ c. c .before .pre .0 .shaped .some)
     loop-holds
     (λ c κs. fewest (c .before .before .before .pre .0 .shaped))
-    (λ c κs. (wide c .few, lies (c .before .before .before .before .args .marks .now) (c .before .before .before .before .pre .0 .exact) (c .before .before .loop .inv .begins-at) (wide c)))
+    (λ c κs. search needs)
     (λ c. search needs)
     (λ c. search needs)
     (λ c κs. search needs)

@@ -13,7 +13,7 @@ use Rattle.partition.specs.Region.{inMarks}
 use Rattle.approximation.specs.Codes.{nextColumn}
 use Rattle.approximation.specs.Vectors.{vectorsInside, insideFrom}
 use Rattle.approximation.proofs.Columns.{Width, fewest, width}
-use Rattle.approximation.proofs.Stretches.{Begins, begins, lies, part-is, part-within, goes-on, inside-next}
+use Rattle.approximation.proofs.Stretches.{Begins, begins, part-is, part-within, goes-on, inside-next}
 use Rattle.approximation.proofs.vectors.vectors_inside.Statement.{statement}
 use Rattle.approximation.proofs.vectors.vectors_inside.Tie as tie
 
@@ -36,7 +36,7 @@ turn c =
     let at = part .before .before .before in
     let args = at .before .args in
     let tested = c .in-marks .ensures
-    ∙ ap₂ inMarks (part-is (args .marks .now) (at .before .pre .1) (at .loop .inv .0) (wide (part .before)) (part .part .ensures)) (toZ-ofZ w32 (getD (args .vectors .now) (at .loop .i) (pos 0)) (record { sfits = c .before .in-marks-arg .given })) in
+    ∙ ap₂ inMarks (part-is (args .marks .now) (at .before .pre .1) (at .loop .inv .0) (wide (part .before)) (part .marks-at .ensures)) (toZ-ofZ w32 (getD (args .vectors .now) (at .loop .i) (pos 0)) (record { sfits = c .before .in-marks-arg .given })) in
     at .loop .inv .1 ∙ inside-next (args .d) (args .b) (args .marks .now) (at .loop .column) (args .vectors .now) (at .loop .i) (part .before .before .loop-test .taken)
     ∙ rw tested
 
@@ -52,7 +52,7 @@ loop-again c =
     let part = test .before .before in
     let at = part .before .before .before in
     rw (c .next-offset .ensures, c .before .next-column .ensures) (
-      goes-on (at .before .args .marks .now) (at .before .pre .1) (at .loop .inv .0) (wide (part .before)) (part .part .ensures),
+      goes-on (at .before .args .marks .now) (at .before .pre .1) (at .loop .inv .0) (wide (part .before)) (part .marks-at .ensures),
       turn test ∙ rw (not-false (test .in-marks .result) (c .before .before .if1 .left)),
     )
 
@@ -60,7 +60,7 @@ add-next-offset : tie.Need-add-next-offset Inv-loop μ-loop
 add-next-offset c =
     let part = c .before .before .before .before in
     let at = part .before .before .before in
-    omega (arith, part-within (at .before .args .marks .now) (at .before .pre .1) (at .loop .inv .0) (wide (part .before)) (part .part .ensures), at .before .good)
+    omega (arith, part-within (at .before .args .marks .now) (at .before .pre .1) (at .loop .inv .0) (wide (part .before)) (part .marks-at .ensures), at .before .good)
 
 returns-2 : tie.Need-returns-2 Inv-loop μ-loop
 unfolding insideFrom
@@ -76,7 +76,7 @@ vectors-inside-spec =
     (λ c. c .pre .0 .some)
     loop-holds
     (λ c κs. fewest (c .before .before .pre .0))
-    (λ c κs. (wide c .few, lies (c .before .before .before .args .marks .now) (c .before .before .before .pre .1) (c .before .before .loop .inv .0) (wide c)))
+    (λ c κs. search needs)
     (λ c. search needs)
     (λ c. search needs)
     (λ c κs. search needs)

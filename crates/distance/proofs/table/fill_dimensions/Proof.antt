@@ -11,6 +11,7 @@ use lib.Seq.{take-all}
 use Rattle.limits.specs.Limits.{maxDimensionBits}
 use Rattle.layout.specs.Layout.{firstMarks}
 use Rattle.layout.specs.Stretch.{stretches, dimension-accepted}
+use Rattle.partition.specs.View.{stretch-marks}
 use Rattle.partition.proofs.Power.{shifted}
 use Rattle.distance.specs.Table.{maxTable, stepOf, tableFirst}
 use Rattle.distance.proofs.Entries.{next-entries}
@@ -53,7 +54,8 @@ place c =
 loop-again : tie.Need-loop-again Inv-loop μ-loop
 loop-again c =
     let filled = c .before .before in
-    let read = filled .before .before .before in
+    let seen = filled .before .before in
+    let read = seen .before in
     let known = read .before .before in
     let at = known .before .before in
     let start = at .before .before in
@@ -62,10 +64,12 @@ loop-again c =
     let here = place known in
     let end = stretch .offset + 1 * 2 ^ stretch .bits % 2 ^ 64 + 1 in
     let ys = filled .fill-steps .last .1 .1 .1 .0 in
+    let accepted = dimension-accepted (args .d) (args .b) (at .loop .t) (start .pre .0) (known .before .loop-test .taken) in
+    let own = rw (add-one (at .loop .t)) at (seen .marks-at .ensures ∙ stretch-marks (args .d) (args .b) (at .loop .t + 1) (args .marks .now) accepted (start .pre .1) (known .stretch-of .ensures)) in
     let component = read-back (record { sfits = read .at .ok }) (read .at .ensures) in (
       omega arith,
       same-len-mid (stretch .offset) (end - stretch .offset) (at .loop .table) ys (filled .fill-steps .kept .1 .1 .1 .0) ∙ at .loop .inv .1,
-      rw (add-one (at .loop .t)) (next-entries (stepOf (args .bound)) (args .d) (args .b) (args .marks .now) (args .query .now) (at .loop .t) (stretch .offset) end (at .loop .table) ys (here .start) (here .end) (omega (arith, here .within, start .pre .1, start .pre .2, at .loop .inv .1)) (rw component at (filled .fill-steps .ensures)) (at .loop .inv .2)),
+      rw (add-one (at .loop .t)) (next-entries (stepOf (args .bound)) (args .d) (args .b) (args .marks .now) (args .query .now) (at .loop .t) (stretch .offset) end (seen .marks-at .result .now) (at .loop .table) ys (here .start) (here .end) (omega (arith, here .within, start .pre .1, start .pre .2, at .loop .inv .1)) own (rw component at (filled .fill-steps .ensures)) (at .loop .inv .2)),
     )
 
 returns : tie.Need-returns Inv-loop μ-loop
@@ -89,10 +93,7 @@ fill-dimensions-spec =
     (λ c. omega (arith, place (c .before)))
     (λ c. omega (arith, place (c .before)))
     (λ c κs. search needs)
-    (λ c. omega (arith, place (c .before .before)))
-    (λ c. omega (arith, place (c .before .before), c .before .before .before .before .before .before .pre))
-    (λ c. omega (arith, place (c .before .before), c .before .before .before .before .before .before .pre))
-    (λ c. omega (arith, place (c .before .before), c .before .before .before .before .before .before .pre))
+    (λ c κs. search needs)
     (λ c. omega (arith, place (c .before .before .before), c .before .before .before .before .before .before .before .pre))
     (λ c. omega (arith, place (c .before .before .before), c .before .before .before .before .before .before .before .pre))
     (λ c. omega (arith, place (c .before .before .before), c .before .before .before .before .before .before .before .pre))
