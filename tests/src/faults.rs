@@ -24,20 +24,8 @@ impl Fault {
 }
 
 /// Buffers whose length is fixed by the other numbers.
-const BUFFERS: [Given; 12] = [
-    Query,
-    Marks,
-    DimensionMarks,
-    Codes,
-    Regions,
-    Vectors,
-    RoomMarks,
-    RoomRegions,
-    RoomCodes,
-    RoomNumbers,
-    RoomDistances,
-    RoomReads,
-];
+const BUFFERS: [Given; 11] =
+    [Query, Marks, DimensionMarks, Codes, Regions, Vectors, RoomMarks, RoomRegions, RoomCodes, RoomEntries, RoomReads];
 
 fn length(input: &Input, buffer: Given) -> usize {
     match buffer {
@@ -50,8 +38,7 @@ fn length(input: &Input, buffer: Given) -> usize {
         RoomMarks => input.room.marks,
         RoomRegions => input.room.regions,
         RoomCodes => input.room.codes,
-        RoomNumbers => input.room.numbers,
-        RoomDistances => input.room.distances,
+        RoomEntries => input.room.entries,
         RoomReads => input.room.reads,
         Pair => input.one.vector.len(),
         other => panic!("{other:?} is no buffer"),
@@ -71,8 +58,7 @@ fn resize(input: &mut Input, buffer: Given, length: usize) {
         RoomMarks => input.room.marks = length,
         RoomRegions => input.room.regions = length,
         RoomCodes => input.room.codes = length,
-        RoomNumbers => input.room.numbers = length,
-        RoomDistances => input.room.distances = length,
+        RoomEntries => input.room.entries = length,
         RoomReads => input.room.reads = length,
         Pair => input.one.vector.resize(length, 0),
         other => panic!("{other:?} is no buffer"),

@@ -31,8 +31,7 @@ pub fn input(d: usize, b: usize, marks: &[i32], vectors: &[i32], query: &[i32], 
         regions: parts[0].len() - 1,
         value: vectors[0],
     };
-    let room =
-        Room { marks: marks.len(), regions: regions.len(), codes: codes.len(), numbers: k, distances: k, reads: n };
+    let room = Room { marks: marks.len(), regions: regions.len(), codes: codes.len(), entries: k, reads: n };
     Input {
         origin: String::new(),
         d,
@@ -54,7 +53,7 @@ pub fn input(d: usize, b: usize, marks: &[i32], vectors: &[i32], query: &[i32], 
 impl Input {
     /// The same for the k nearest.
     pub fn with_k(mut self, k: usize) -> Input {
-        (self.k, self.room.numbers, self.room.distances) = (k, k, k);
+        (self.k, self.room.entries) = (k, k);
         self
     }
 
