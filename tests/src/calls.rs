@@ -35,8 +35,7 @@ pub enum Given {
     RoomMarks,
     RoomRegions,
     RoomCodes,
-    RoomNumbers,
-    RoomDistances,
+    RoomEntries,
     RoomReads,
     RoomBytes,
 }
@@ -102,10 +101,10 @@ pub const UNPACK: Call = call!(unpack, [D, B, N, Codes, RoomRegions], [1, 2, 3, 
 pub const CHECK_CODES: Call = call!(check_codes, [D, B, N, Marks, Codes], [1, 2, 3, 5, 7, 9]);
 pub const DISTANCE: Call = call!(distance, [Pair], [1, 5, 6]);
 pub const BOUNDS: Call = call!(bounds, [D, B, N, I, Query, Marks, Codes], [1, 2, 3, 5, 6, 7, 9]);
-pub const SCAN: Call = call!(scan, [D, N, K, Query, Vectors, Components, RoomNumbers, RoomDistances], [1, 3, 4, 5, 6]);
+pub const SCAN: Call = call!(scan, [D, N, K, Query, Vectors, Components, RoomEntries], [1, 3, 4, 5, 6]);
 pub const SEARCH: Call = call!(
     search,
-    [D, B, N, K, Query, Marks, Codes, Vectors, Cells, RoomNumbers, RoomDistances, RoomReads],
+    [D, B, N, K, Query, Marks, Codes, Vectors, Cells, RoomEntries, RoomReads],
     [1, 2, 3, 4, 5, 6, 7, 9, 10]
 );
 pub const WRITE: Call = call!(write, [D, B, N, Marks, Settings, Vectors, Components, RoomBytes], [1, 2, 3, 5, 6, 7, 8]);

@@ -24,7 +24,7 @@ impl Fault {
 }
 
 /// Buffers whose length is fixed by the other numbers.
-const BUFFERS: [Given; 14] = [
+const BUFFERS: [Given; 13] = [
     Query,
     Marks,
     DimensionMarks,
@@ -35,8 +35,7 @@ const BUFFERS: [Given; 14] = [
     RoomMarks,
     RoomRegions,
     RoomCodes,
-    RoomNumbers,
-    RoomDistances,
+    RoomEntries,
     RoomReads,
     RoomBytes,
 ];
@@ -53,8 +52,7 @@ fn length(input: &Input, buffer: Given) -> usize {
         RoomMarks => input.room.marks,
         RoomRegions => input.room.regions,
         RoomCodes => input.room.codes,
-        RoomNumbers => input.room.numbers,
-        RoomDistances => input.room.distances,
+        RoomEntries => input.room.entries,
         RoomReads => input.room.reads,
         RoomBytes => input.room.bytes,
         Pair => input.one.vector.len(),
@@ -76,8 +74,7 @@ fn resize(input: &mut Input, buffer: Given, length: usize) {
         RoomMarks => input.room.marks = length,
         RoomRegions => input.room.regions = length,
         RoomCodes => input.room.codes = length,
-        RoomNumbers => input.room.numbers = length,
-        RoomDistances => input.room.distances = length,
+        RoomEntries => input.room.entries = length,
         RoomReads => input.room.reads = length,
         RoomBytes => input.room.bytes = length,
         Pair => input.one.vector.resize(length, 0),

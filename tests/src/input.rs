@@ -64,8 +64,7 @@ pub struct Room {
     pub marks: usize,
     pub regions: usize,
     pub codes: usize,
-    pub numbers: usize,
-    pub distances: usize,
+    pub entries: usize,
     pub reads: usize,
     pub bytes: usize,
 }
@@ -92,8 +91,13 @@ pub struct Bounds {
     pub upper: u64,
 }
 
-/// A vector's number and its distance.
-pub type Entry = (u32, u64);
+/// A vector's number and its distance, laid out as in C; `layout.c` holds C to the same sizes and offsets.
+#[repr(C)]
+#[derive(Clone, Copy, PartialEq, Eq, Debug)]
+pub struct Entry {
+    pub number: u32,
+    pub distance: u64,
+}
 
 /// A search's answer, and the numbers read, in reading order.
 #[derive(Clone, PartialEq, Eq, Debug)]

@@ -4,6 +4,7 @@
 mod approximation;
 mod distance;
 mod intake;
+mod layout;
 mod lent;
 mod library;
 mod partition;
@@ -12,6 +13,7 @@ mod search;
 pub use approximation::{check_codes, pack, pack_vectors, unpack};
 pub use distance::{bounds, distance};
 pub use intake::{fresh, fresh_value, held, intake, lost};
+pub use layout::{entry_layout, scan_from_c};
 pub use library::{library_length, load, query, write};
 pub use partition::{check_marks, dimension_region, make_marks, part, region, regions, stretch};
 pub use search::{scan, search};

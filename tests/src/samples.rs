@@ -35,8 +35,7 @@ pub fn input(d: usize, b: usize, marks: &[i32], vectors: &[i32], query: &[i32], 
         marks: marks.len(),
         regions: regions.len(),
         codes: codes.len(),
-        numbers: k,
-        distances: k,
+        entries: k,
         reads: n,
         bytes: reference::library_length(d, b, n),
     };
@@ -62,7 +61,7 @@ pub fn input(d: usize, b: usize, marks: &[i32], vectors: &[i32], query: &[i32], 
 impl Input {
     /// The same for the k nearest.
     pub fn with_k(mut self, k: usize) -> Input {
-        (self.k, self.room.numbers, self.room.distances) = (k, k, k);
+        (self.k, self.room.entries) = (k, k);
         self
     }
 

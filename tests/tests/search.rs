@@ -1,9 +1,10 @@
 //! Scan and search (document 01, "Distance, bounds, reading order"): the C interface against the reference.
 
+use std::mem::{align_of, offset_of, size_of};
 use tests::{
     calls::{Call, SCAN, SEARCH},
     faults::{assert_each_refusal, assert_lengths, assert_refusals},
-    input::{Found, Input},
+    input::{Entry, Found, Input},
     interface,
     random::Random,
     reference,
@@ -32,6 +33,17 @@ fn no_random_library_goes_wrong() {
     for seed in 0..12_000 {
         assert_found(&random_input(seed, if seed % 100 == 0 { 512 } else { 50 }));
     }
+}
+
+/// An entry is laid out in C as in Rust, and as the matcher fills it.
+#[test]
+fn no_entry_is_laid_out_otherwise_in_c() {
+    let number = (offset_of!(Entry, number), size_of::<u32>());
+    let distance = (offset_of!(Entry, distance), size_of::<u64>());
+    let layout = [size_of::<Entry>(), align_of::<Entry>(), number.0, number.1, distance.0, distance.1];
+    assert_eq!(interface::entry_layout(), layout, "size, alignment, each field's offset and size: C, Rust");
+    assert_eq!(layout, [16, 8, 0, 4, 8, 8]);
+    assert!(interface::scan_from_c(), "a scan from C");
 }
 
 /// Every number of dimensions and of bits.
@@ -96,7 +108,7 @@ fn no_tie_is_lost() {
         let input = samples::input(d, b, &marks, &vectors, &query, k).from(format!("case {case}"));
         assert_found(&input);
         let entries = found(&input).entries;
-        let pairs: Vec<(u64, u32)> = entries.iter().map(|&(number, distance)| (distance, number)).collect();
+        let pairs: Vec<(u64, u32)> = entries.iter().map(|entry| (entry.distance, entry.number)).collect();
         assert!(pairs.is_sorted_by(|a, b| a < b), "case {case}: {entries:?}");
     }
 }
@@ -110,7 +122,7 @@ fn no_equal_vectors_are_put_out_of_order() {
             for (marks, reads) in [([10, 11], k), ([9, 11], k), ([10, 12], n)] {
                 let input = samples::input(1, 0, &marks, &vec![10; n], &[13], k);
                 let numbers = 0..n as u32;
-                let entries = numbers.clone().take(k).map(|number| (number, 9)).collect();
+                let entries = numbers.clone().take(k).map(|number| Entry { number, distance: 9 }).collect();
                 let found = Found { entries, reads: numbers.take(reads).collect() };
                 assert_eq!(interface::search(&input), Ok(found), "n {n}, k {k}, marks {marks:?}");
             }
@@ -350,11 +362,12 @@ fn no_refusal_is_missed_in_the_largest_shape() {
 }
 
 /// A search by interface and reference.
-fn assert_case(input: &Input, entries: &[(u32, u64)], reads: &[u32]) {
-    let found = Ok(Found { entries: entries.to_vec(), reads: reads.to_vec() });
+fn assert_case(input: &Input, pairs: &[(u32, u64)], reads: &[u32]) {
+    let entries: Vec<Entry> = pairs.iter().map(|&(number, distance)| Entry { number, distance }).collect();
+    let found = Ok(Found { entries: entries.clone(), reads: reads.to_vec() });
     assert_eq!(interface::search(input), found);
     assert_eq!(reference::search(input), found, "by the reference");
-    assert_eq!(interface::scan(input), Ok(entries.to_vec()), "the scan");
+    assert_eq!(interface::scan(input), Ok(entries), "the scan");
 }
 
 /// Document 01, "Cases".

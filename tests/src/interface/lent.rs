@@ -1,8 +1,9 @@
 //! Buffers lent to a call: after it, what it had no right to change is as it was.
 
+use crate::input::Entry;
 use std::fmt::Debug;
 
-/// Numbers that a buffer can hold.
+/// Numbers that a buffer can hold, and entries of them.
 pub trait Number: Copy + PartialEq + Debug {
     fn of_bits(bits: u64) -> Self;
 }
@@ -12,6 +13,12 @@ macro_rules! number {
 }
 
 number!(u8, u32, i32, u64, usize);
+
+impl Number for Entry {
+    fn of_bits(bits: u64) -> Entry {
+        Entry { number: u32::of_bits(bits), distance: bits.rotate_left(32) }
+    }
+}
 
 /// A buffer with a margin on either side, and all that it held before the call.
 pub struct Lent<T> {

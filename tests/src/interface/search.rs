@@ -12,10 +12,8 @@ extern "C" {
         query_len: usize,
         vectors: *const i32,
         vectors_len: usize,
-        numbers: *mut u32,
-        numbers_len: usize,
-        distances: *mut u64,
-        distances_len: usize,
+        entries: *mut Entry,
+        entries_len: usize,
     ) -> u32;
     fn matcher_search(
         d: usize,
@@ -30,23 +28,17 @@ extern "C" {
         codes_len: usize,
         vectors: *const i32,
         vectors_len: usize,
-        numbers: *mut u32,
-        numbers_len: usize,
-        distances: *mut u64,
-        distances_len: usize,
+        entries: *mut Entry,
+        entries_len: usize,
         reads: *mut u32,
         reads_len: usize,
         count: *mut usize,
     ) -> u32;
 }
 
-fn entries(numbers: Result<Vec<u32>, u32>, distances: Result<Vec<u64>, u32>) -> Result<Vec<Entry>, u32> {
-    Ok(numbers?.into_iter().zip(distances?).collect())
-}
-
 pub fn scan(input: &Input) -> Result<Vec<Entry>, u32> {
     let (mut query, mut vectors) = (Lent::given(&input.query), Lent::given(&input.vectors));
-    let (mut numbers, mut distances) = (Lent::room(input.room.numbers), Lent::room(input.room.distances));
+    let mut entries = Lent::room(input.room.entries);
     let number = unsafe {
         matcher_scan(
             input.d,
@@ -56,23 +48,21 @@ pub fn scan(input: &Input) -> Result<Vec<Entry>, u32> {
             query.len(),
             vectors.pointer(),
             vectors.len(),
-            numbers.pointer(),
-            numbers.len(),
-            distances.pointer(),
-            distances.len(),
+            entries.pointer(),
+            entries.len(),
         )
     };
     query.kept();
     vectors.kept();
-    entries(numbers.filled(number), distances.filled(number))
+    entries.filled(number)
 }
 
 /// The read list is cut to its count; the elements past it are as they were.
 pub fn search(input: &Input) -> Result<Found, u32> {
     let (mut query, mut marks) = (Lent::given(&input.query), Lent::given(&input.marks));
     let (mut codes, mut vectors) = (Lent::given(&input.codes), Lent::given(&input.vectors));
-    let (mut numbers, mut distances) = (Lent::room(input.room.numbers), Lent::room(input.room.distances));
-    let (mut reads, mut count) = (Lent::room(input.room.reads), Lent::room(1));
+    let (mut entries, mut reads) = (Lent::room(input.room.entries), Lent::room(input.room.reads));
+    let mut count = Lent::room(1);
     let number = unsafe {
         matcher_search(
             input.d,
@@ -87,10 +77,8 @@ pub fn search(input: &Input) -> Result<Found, u32> {
             codes.len(),
             vectors.pointer(),
             vectors.len(),
-            numbers.pointer(),
-            numbers.len(),
-            distances.pointer(),
-            distances.len(),
+            entries.pointer(),
+            entries.len(),
             reads.pointer(),
             reads.len(),
             count.pointer(),
@@ -101,6 +89,5 @@ pub fn search(input: &Input) -> Result<Found, u32> {
     codes.kept();
     vectors.kept();
     let reads = reads.filled_to(counted(&count, number), number);
-    let entries = entries(numbers.filled(number), distances.filled(number));
-    Ok(Found { entries: entries?, reads: reads? })
+    Ok(Found { entries: entries.filled(number)?, reads: reads? })
 }

@@ -17,7 +17,7 @@ pub fn best(pairs: &[(i128, usize)], k: usize) -> Vec<(i128, usize)> {
 }
 
 fn entries(pairs: Vec<(i128, usize)>) -> Vec<Entry> {
-    pairs.into_iter().map(|(distance, number)| (number as u32, lent(distance))).collect()
+    pairs.into_iter().map(|(distance, number)| Entry { number: number as u32, distance: lent(distance) }).collect()
 }
 
 /// "The search reads patterns in order of (L, number). It reads the next while fewer than k have been read, or while
@@ -53,7 +53,7 @@ pub fn scan(input: &Input) -> Result<Vec<Entry>, u32> {
     causes::dimensions(*d)?;
     causes::count(*n)?;
     causes::neighbours(*n, *k)?;
-    causes::lengths(&[(query.len(), *d), (vectors.len(), n * d), (room.numbers, *k), (room.distances, *k)])?;
+    causes::lengths(&[(query.len(), *d), (vectors.len(), n * d), (room.entries, *k)])?;
     causes::components(query)?;
     causes::components(vectors)?;
     Ok(entries(scanned(query, vectors, *k)))
@@ -66,7 +66,7 @@ pub fn search(input: &Input) -> Result<Found, u32> {
     causes::neighbours(*n, *k)?;
     let given = [(query.len(), *d), (marks.len(), marks_length(*d, *b)), (codes.len(), codes_length(*n, *b))];
     causes::lengths(&given)?;
-    causes::lengths(&[(vectors.len(), n * d), (room.numbers, *k), (room.distances, *k), (room.reads, *n)])?;
+    causes::lengths(&[(vectors.len(), n * d), (room.entries, *k), (room.reads, *n)])?;
     causes::components(query)?;
     causes::marks(*d, *b, marks)?;
     good_codes(input)?;

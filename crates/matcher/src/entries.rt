@@ -1,0 +1,71 @@
+// The nearest vectors, for C. Each gives 0, or the refusal's number; a refused call leaves the buffers as they were, and a count is 0.
+use nearest::Entry;
+use search::search::Searched;
+ghost use mathlib.Core.Path.{_≡_};
+ghost use mathlib.Core.List.{_++_};
+ghost use lib.ListN.{length, drop};
+ghost use Rattle.refusal.specs.Refusal.{verdictNumber};
+ghost use Rattle.refusal.specs.First.{first, outcome};
+ghost use Rattle.search.specs.Scanning.{scanAnswer, scanCauses};
+ghost use Rattle.search.specs.Search.{searched, searchCauses};
+ghost use Rattle.search.specs.Ready.{library};
+ghost use Rattle.search.specs.Answer.{searchedNumber, searchedCount};
+ghost use Rattle.nearest.specs.Entries.{entriesOf, entryRoom};
+
+// The k of n vectors that are nearest to a query, by all their distances.
+#[no_mangle]
+pub extern "C" fn matcher_scan(
+    d: usize,
+    n: usize,
+    k: usize,
+    query: &[i32],
+    vectors: &[i32],
+    entries: &mut [Entry],
+) -> u32
+    ensures { λ r. let v = first (scanCauses d n k (now (query .entry)) (now (vectors .entry)) (length (now (entries .entry))) (length (now (entries .entry)))) in
+        ⌜ (r ≡ verdictNumber v) × (now (entries .exit) ≡ outcome v (entriesOf (scanAnswer d n k (now (query .entry)) (now (vectors .entry)))) (λ _. now (entries .entry))) ⌝ }
+{
+    nearest::scan(d, n, k, query, vectors, entries).number()
+}
+
+// The same by the search, which reads no more vectors than it must: the numbers of the vectors read, in reading order, and their count.
+#[no_mangle]
+pub extern "C" fn matcher_search(
+    d: usize,
+    b: usize,
+    n: usize,
+    k: usize,
+    query: &[i32],
+    marks: &[i32],
+    codes: &[u8],
+    vectors: &[i32],
+    entries: &mut [Entry],
+    reads: &mut [u32],
+    count: &mut usize,
+) -> u32
+    ensures { λ r. let l = library d b n (now (marks .entry)) (now (codes .entry)) (now (vectors .entry)) in
+        let v = first (searchCauses l (now (query .entry)) k (entryRoom (length (now (entries .entry))) (length (now (reads .entry))))) in
+        ⌜ (r ≡ verdictNumber v)
+        × (now (count .exit) ≡ outcome v (length (searched l (now (query .entry)) k .reads)) (λ _. 0))
+        × (now (entries .exit) ≡ outcome v (entriesOf (searched l (now (query .entry)) k .best)) (λ _. now (entries .entry)))
+        × (now (reads .exit) ≡ outcome v (searched l (now (query .entry)) k .reads ++ drop (length (searched l (now (query .entry)) k .reads)) (now (reads .entry))) (λ _. now (reads .entry))) ⌝ }
+{
+    let answer = nearest::search(d, b, n, k, query, marks, codes, vectors, entries, reads);
+    told(answer, count)
+}
+
+// Puts an answer's count in its place and gives its number.
+fn told(answer: Searched, count: &mut usize) -> u32
+    ensures { λ r. ⌜ (r ≡ searchedNumber answer) × (now (count .exit) ≡ searchedCount answer) ⌝ }
+{
+    match answer {
+        Searched::Read(read) => {
+            *count = read;
+            0
+        }
+        Searched::Refused(cause) => {
+            *count = 0;
+            cause.number()
+        }
+    }
+}

@@ -1,0 +1,4 @@
+pub mod Entries
+pub mod Finding
+pub mod Filled
+pub mod Room
