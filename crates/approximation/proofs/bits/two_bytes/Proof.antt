@@ -1,5 +1,4 @@
 -- `bits::two_bytes` meets its contract: past the last byte both are the definition's 0. Assumes nothing.
-use mathlib.Core.Path.{_≡_}
 use Prim.Native.Nat.{_+_}
 use native.Mathlib.Omega.{arith}
 use borrow.Author.Needs.{needs}

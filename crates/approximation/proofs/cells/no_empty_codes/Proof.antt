@@ -1,5 +1,5 @@
 -- `no_empty_codes` meets its contract: rising marks leave no region empty. Assumes nothing.
-use mathlib.Core.Path.{_≡_, sym, _∙_}
+use mathlib.Core.Path.{sym, _∙_}
 use borrow.Author.Needs.{needs}
 use Rattle.approximation.specs.Rising.{rising-no-empty}
 use Rattle.approximation.proofs.cells.no_empty_codes.Statement.{statement}
