@@ -22,10 +22,15 @@ pub fn work(words: &[&str]) {
     }
 }
 
+/// Clearing and copying by vector instructions: callgrind would count a repeated string instruction once for each byte.
+const NO_STRING_INSTRUCTIONS: &str =
+    "glibc.cpu.x86_rep_stosb_threshold=1000000000:glibc.cpu.x86_rep_movsb_threshold=1000000000";
+
 fn instructions(row: &Row, side: Side, times: usize) -> f64 {
     let program = env::current_exe().expect("this program's file");
     let numbers = [row.n, row.k, times].map(|x| x.to_string());
     let output = Command::new("valgrind")
+        .env("GLIBC_TUNABLES", NO_STRING_INSTRUCTIONS)
         .args(["--tool=callgrind", "--callgrind-out-file=/dev/null"])
         .arg(program)
         .args(["calls", row.call.name(), side.name(), &row.d.to_string(), row.spread.name()])
