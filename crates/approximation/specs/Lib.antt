@@ -7,5 +7,6 @@ pub mod Vectors
 pub mod Cells
 pub mod CellCauses
 pub mod CellLaws
+pub mod Rising
 pub mod VectorCauses
 pub mod OwnCodes

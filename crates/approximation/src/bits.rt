@@ -1,6 +1,6 @@
 // Bits of bytes, each byte's high bit first.
 ghost use mathlib.Core.Path.{_≡_};
-ghost use Prim.Native.Nat.{_%_, _^_, _≤_};
+ghost use Prim.Native.Nat.{_+_, _*_, _%_, _^_, _≤_, _<_};
 ghost use lib.ListN.{getD};
 ghost use Rattle.approximation.specs.Bits.{bitsAt};
 
@@ -11,9 +11,18 @@ pub fn bits_at(bytes: &[u8], from: usize, w: usize) -> usize
     if 8 < w {
         return 0;
     }
-    let first = from / 8;
-    let two = byte_at(bytes, first) * 256 + byte_at(bytes, first + 1);
-    low(two >> (16 - from % 8 - w), w)
+    low(two_bytes(bytes, from / 8) >> (16 - from % 8 - w), w)
+}
+
+// The byte at an index and the next one, as one number; a byte past the end is 0.
+fn two_bytes(bytes: &[u8], i: usize) -> usize
+    requires { ⌜ i < 2 ^ 63 ⌝ }
+    ensures { λ r. ⌜ r ≡ getD (now (bytes .entry)) i 0 * 256 + getD (now (bytes .entry)) (i + 1) 0 ⌝ }
+{
+    if i + 1 < bytes.len() {
+        return bytes[i] as usize * 256 + bytes[i + 1] as usize;
+    }
+    byte_at(bytes, i) * 256
 }
 
 // The byte at an index, 0 past the end.

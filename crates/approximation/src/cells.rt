@@ -1,6 +1,7 @@
 // The cells that codes name.
 use crate::bits::bits_at;
 use crate::codes::code_region;
+use crate::rising::all_rise;
 use limits::MAX_VECTORS;
 use refusal::Refusal;
 use refusal::Verdict;
@@ -102,8 +103,19 @@ fn check_named(d: usize, b: usize, n: usize, marks: &[i32], codes: &[u8]) -> Ver
     Verdict::Accepted
 }
 
-// Whether none of n codes names an empty region.
+// Whether none of n codes names an empty region. Where there is none, no code has to be looked at.
 fn no_empty_codes(d: usize, b: usize, n: usize, marks: &[i32], codes: &[u8]) -> bool
+    requires { ⌜ (first (shapeCauses d b) ≡ Accepted) × (n ≤ maxVectors) ⌝ }
+    ensures { λ r. ⌜ r ≡ noEmptyCodes d b (now (marks .entry)) (now (codes .entry)) n ⌝ }
+{
+    if all_rise(d, b, marks) {
+        return true;
+    }
+    look_at_codes(d, b, n, marks, codes)
+}
+
+// The same, by each of the codes.
+fn look_at_codes(d: usize, b: usize, n: usize, marks: &[i32], codes: &[u8]) -> bool
     requires { ⌜ (first (shapeCauses d b) ≡ Accepted) × (n ≤ maxVectors) ⌝ }
     ensures { λ r. ⌜ r ≡ noEmptyCodes d b (now (marks .entry)) (now (codes .entry)) n ⌝ }
 {

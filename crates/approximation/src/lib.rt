@@ -2,4 +2,5 @@
 pub mod bits;
 pub mod cells;
 pub mod codes;
+mod rising;
 pub mod vectors;

@@ -2,3 +2,4 @@
 pub mod Read
 pub mod Sum
 pub mod Entries
+pub mod Regions

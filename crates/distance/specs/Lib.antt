@@ -9,4 +9,5 @@ pub mod CellComponents
 pub mod Small
 pub mod Table
 pub mod TableLaws
+pub mod Run
 pub mod Bounded

@@ -9,15 +9,14 @@ use partition::view::marks_at;
 use refusal::Refusal;
 use refusal::Verdict;
 ghost use mathlib.Core.Path.{_≡_};
-ghost use mathlib.Core.Bool.{cond};
-ghost use Prim.Native.Nat.{suc, _+_, _%_, _^_, _≤_, _<_};
-ghost use lib.Dec.{leb};
+ghost use Prim.Native.Nat.{_%_, _^_, _≤_, _<_};
 ghost use lib.ListN.{length, getD};
 ghost use Rattle.refusal.specs.declared.Verdict.the-variants.{Accepted};
 ghost use Rattle.refusal.specs.First.{first, outcome};
-ghost use Rattle.limits.specs.Limits.{maxDimensionBits, maxVectors};
+ghost use Rattle.limits.specs.Limits.{maxDimensions, maxVectors};
 ghost use Rattle.layout.specs.Layout.{firstMarks};
 ghost use Rattle.layout.specs.Stretch.{shapeCauses};
+ghost use Rattle.distance.specs.Run.{runSum};
 ghost use Rattle.distance.specs.Table.{stepOf, stepsFrom, tableOf, tableCauses, tableSum, boundSum};
 
 // The length of the longest table: that of the longest marks buffer.
@@ -114,20 +113,39 @@ pub fn code_bound(d: usize, b: usize, table: &[u64], codes: &[u8], i: usize) -> 
     }
 }
 
-// The sum of the entries of the regions that code i names: `bit` is where a region's number begins in the codes, and `start` where its
-// dimension's entries begin in the table.
+// The sum of the entries of the regions that code i names: those of the dimensions with one bit more, and those of the others.
 fn sum_entries(d: usize, b: usize, table: &[u64], codes: &[u8], i: usize) -> u64
     requires { ⌜ (i < maxVectors) × (first (shapeCauses d b) ≡ Accepted) ⌝ }
     ensures { λ r. ⌜ r ≡ tableSum d b (now (table .entry)) (now (codes .entry)) i d % 2 ^ 64 ⌝ }
 {
     let fewest = b / d;
     let more = b % d;
-    let mut bit = i * b;
-    let mut start = 0;
+    let wide = fewest + 1;
+    let bit = i * b;
+    let start = more * ((1usize << wide) + 1);
+    let sum = sum_run(table, codes, wide, bit, 0, more);
+    let rest = sum_run(table, codes, fewest, bit + more * wide, start, d - more);
+    std::num::wrapping_add_u64(sum, rest)
+}
+
+// The sum of the entries of so many dimensions of w bits: `bit` is where a region's number begins in the codes, and `start` where its
+// dimension's entries begin in the table.
+fn sum_run(
+    table: &[u64],
+    codes: &[u8],
+    w: usize,
+    first_bit: usize,
+    first_start: usize,
+    count: usize,
+) -> u64
+    requires { ⌜ (w ≤ 7) × («first_bit» ≤ 2 ^ 32) × («first_start» ≤ 2 ^ 32) × (count ≤ maxDimensions) ⌝ }
+    ensures { λ r. ⌜ r ≡ runSum (now (table .entry)) (now (codes .entry)) w «first_bit» «first_start» count % 2 ^ 64 ⌝ }
+{
+    let mut bit = first_bit;
+    let mut start = first_start;
     let mut sum = 0;
     let mut t = 0;
-    while t < d {
-        let w = dimension_bits(fewest, more, t);
+    while t < count {
         let region = bits_at(codes, bit, w);
         sum = std::num::wrapping_add_u64(sum, entry_at(table, start + region));
         bit += w;
@@ -135,14 +153,6 @@ fn sum_entries(d: usize, b: usize, table: &[u64], codes: &[u8], i: usize) -> u64
         t += 1;
     }
     sum
-}
-
-// The bits of the dimension behind t others, where each has the fewest and the first ones have one more.
-fn dimension_bits(fewest: usize, more: usize, t: usize) -> usize
-    requires { ⌜ fewest ≤ maxDimensionBits ⌝ }
-    ensures { λ r. ⌜ r ≡ fewest + cond (leb (suc t) more) 1 0 ⌝ }
-{
-    if t < more { fewest + 1 } else { fewest }
 }
 
 // The entry at an index, 0 past the end.

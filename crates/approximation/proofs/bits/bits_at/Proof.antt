@@ -51,20 +51,11 @@ returns : tie.Need-returns
 unfolding bitsAt
 returns c = rw (lt-leb (c .before .before .args .w) 8 (c .if1 .taken))
 
-mul-two : tie.Need-mul-two
-mul-two c = omega (arith, c .byte-at .ensures, c .before .before .shared-slice-known .given (c .before .before .before .args .from / 8))
-
-add-two : tie.Need-add-two
-add-two c =
-    let first = c .before .before .before .before .args .from / 8 in
-    let known = c .before .before .before .shared-slice-known .given in
-    omega (arith, c .before .byte-at .ensures, known first, c .byte-at2 .ensures, known (first + 1))
-
 returns-2 : tie.Need-returns-2
 returns-2 c =
-    let at = c .before .before .before .before in
+    let at = c .before .before .before in
     let args = at .before .args in
-    rw (c .low .ensures, c .before .before .byte-at .ensures, c .before .byte-at2 .ensures)
+    rw (c .low .ensures, c .before .two-bytes .ensures)
     (read (args .bytes .now) (λ i. omega (arith, at .shared-slice-known .given i)) (args .from) (args .w) (omega arith))
 
 pub bits-at-spec : {M : Type 1} → statement M
@@ -73,10 +64,6 @@ bits-at-spec =
     (tie.spec
     returns
     (λ c κs. search needs)
-    mul-two
-    (λ c. search needs)
-    (λ c κs. search needs)
-    add-two
     (λ c. search needs)
     (λ c. search needs)
     (λ c. search needs)

@@ -1,0 +1,178 @@
+//! The calls that are measured, each on either side, on the same data and into buffers of its own, which are not cleared.
+
+use crate::data::Data;
+use crate::matcher;
+#[cfg(files)]
+use crate::peer::file::{self, Loaded};
+use crate::peer::{codes, marks, scan, search::Library};
+use std::hint::black_box;
+
+#[derive(Clone, Copy, PartialEq, Debug)]
+pub enum Call {
+    Search,
+    Scan,
+    Marks,
+    Pack,
+    Codes,
+    #[cfg(files)]
+    Load,
+    #[cfg(files)]
+    Write,
+}
+
+#[derive(Clone, Copy, PartialEq, Debug)]
+pub enum Side {
+    Matcher,
+    Rust,
+}
+
+/// What a call writes.
+#[derive(PartialEq, Debug)]
+pub struct Answer {
+    pub numbers: Vec<u32>,
+    pub distances: Vec<u64>,
+    pub reads: Vec<u32>,
+    pub count: usize,
+    marks: Vec<i32>,
+    codes: Vec<u8>,
+    #[cfg(files)]
+    bytes: Vec<u8>,
+    #[cfg(files)]
+    loaded: Loaded,
+}
+
+impl Answer {
+    pub fn new(data: &Data, k: usize) -> Answer {
+        Answer {
+            numbers: vec![0; k],
+            distances: vec![0; k],
+            reads: vec![0; data.n],
+            count: 0,
+            marks: vec![0; data.marks.len()],
+            codes: vec![0; data.codes.len()],
+            #[cfg(files)]
+            bytes: vec![0; data.bytes.len()],
+            #[cfg(files)]
+            loaded: Loaded::room(),
+        }
+    }
+}
+
+impl Side {
+    pub const BOTH: [Side; 2] = [Side::Matcher, Side::Rust];
+
+    pub fn name(self) -> &'static str {
+        match self {
+            Side::Matcher => "matcher",
+            Side::Rust => "rust",
+        }
+    }
+}
+
+impl Call {
+    pub const ALL: &[Call] = &[
+        Call::Search,
+        Call::Scan,
+        Call::Marks,
+        Call::Pack,
+        Call::Codes,
+        #[cfg(files)]
+        Call::Load,
+        #[cfg(files)]
+        Call::Write,
+    ];
+
+    pub fn name(self) -> &'static str {
+        match self {
+            Call::Search => "search",
+            Call::Scan => "scan",
+            Call::Marks => "marks",
+            Call::Pack => "pack",
+            Call::Codes => "codes",
+            #[cfg(files)]
+            Call::Load => "load",
+            #[cfg(files)]
+            Call::Write => "write",
+        }
+    }
+
+    /// How many times the other side's cost it may be.
+    pub fn reach(self) -> Option<f64> {
+        match self {
+            Call::Search | Call::Scan => Some(1.2),
+            Call::Marks | Call::Pack | Call::Codes => None,
+            #[cfg(files)]
+            Call::Load | Call::Write => Some(2.0),
+        }
+    }
+
+    /// The numbers of neighbours that are asked for: any one where the call asks for none.
+    pub fn neighbours(self) -> &'static [usize] {
+        match self {
+            Call::Search | Call::Scan => &[1, 10, 512],
+            _ => &[1],
+        }
+    }
+
+    /// The call for one query, by one side.
+    #[inline(never)]
+    pub fn run(self, side: Side, data: &Data, query: &[i32], answer: &mut Answer) {
+        let data = black_box(data);
+        match side {
+            Side::Matcher => self.by_matcher(data, query, answer),
+            Side::Rust => self.by_rust(data, query, answer),
+        }
+        black_box(answer);
+    }
+
+    fn by_matcher(self, data: &Data, query: &[i32], answer: &mut Answer) {
+        let Answer { numbers, distances, reads, .. } = answer;
+        match self {
+            Call::Search => answer.count = matcher::search(data, query, numbers, distances, reads),
+            Call::Scan => matcher::scan(data, query, numbers, distances),
+            Call::Marks => matcher::make_marks(data, &mut answer.marks),
+            Call::Pack => matcher::pack(data, &mut answer.codes),
+            Call::Codes => matcher::pack_vectors(data, &mut answer.codes),
+            #[cfg(files)]
+            Call::Load => matcher::files::load(&data.bytes, &mut answer.loaded),
+            #[cfg(files)]
+            Call::Write => matcher::files::write(data, &mut answer.bytes),
+        }
+    }
+
+    fn by_rust(self, data: &Data, query: &[i32], answer: &mut Answer) {
+        let Answer { numbers, distances, reads, .. } = answer;
+        let &Data { d, b, ref vectors, .. } = data;
+        match self {
+            Call::Search => {
+                let library = Library { d, b, marks: &data.marks, codes: &data.codes, vectors };
+                answer.count = library.search(query, numbers, distances, reads);
+            }
+            Call::Scan => scan::scan(d, query, vectors, numbers, distances),
+            Call::Marks => marks::make(d, b, vectors, &mut answer.marks),
+            Call::Pack => codes::pack(d, b, &data.regions, &mut answer.codes),
+            Call::Codes => {
+                let mut regions = vec![0; vectors.len()];
+                codes::regions(d, b, vectors, &data.marks, &mut regions);
+                codes::pack(d, b, &regions, &mut answer.codes);
+            }
+            #[cfg(files)]
+            Call::Load => file::load(&data.bytes, &mut answer.loaded).expect("a library"),
+            #[cfg(files)]
+            Call::Write => file::write(data, &mut answer.bytes),
+        }
+    }
+
+    /// Both sides give the same for each query; the mean count of vectors read.
+    pub fn agrees(self, data: &Data, k: usize) -> f64 {
+        let (mut ours, mut theirs) = (Answer::new(data, k), Answer::new(data, k));
+        let mut read = 0;
+        for query in &data.queries {
+            self.run(Side::Matcher, data, query, &mut ours);
+            self.run(Side::Rust, data, query, &mut theirs);
+            assert!(ours == theirs, "{}, d {} b {} n {} k {k}: the sides differ", self.name(), data.d, data.b, data.n);
+            read += ours.count;
+        }
+        read as f64 / data.queries.len() as f64
+    }
+}

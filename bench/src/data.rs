@@ -1,0 +1,88 @@
+//! The data of a measurement: vectors, their marks and codes, and fresh queries of the vectors' distribution.
+
+#[cfg(files)]
+use crate::peer::file;
+use crate::peer::{codes, marks};
+use crate::random::Random;
+
+#[derive(Clone, Copy, PartialEq, Debug)]
+pub enum Spread {
+    /// Each component anywhere in its range.
+    Uniform,
+    /// Around 16 centres, each component within 2048 of its centre's and more often near it.
+    Clustered,
+}
+
+impl Spread {
+    pub const ALL: [Spread; 2] = [Spread::Uniform, Spread::Clustered];
+
+    pub fn name(self) -> &'static str {
+        match self {
+            Spread::Uniform => "uniform",
+            Spread::Clustered => "clustered",
+        }
+    }
+}
+
+/// A library, with fresh queries for it.
+pub struct Data {
+    pub d: usize,
+    pub b: usize,
+    pub n: usize,
+    pub vectors: Vec<i32>,
+    pub marks: Vec<i32>,
+    pub regions: Vec<u8>,
+    pub codes: Vec<u8>,
+    #[cfg(files)]
+    pub settings: Vec<u32>,
+    #[cfg(files)]
+    pub bytes: Vec<u8>,
+    pub queries: Vec<Vec<i32>>,
+}
+
+impl Data {
+    pub const QUERIES: usize = 32;
+    const CENTRES: usize = 16;
+    const REACH: i32 = 1024;
+
+    pub fn new(d: usize, bits: usize, n: usize, spread: Spread) -> Data {
+        let b = bits * d;
+        let mut random = Random::new((d * 1000 + n) as u64);
+        let centres: Vec<i32> = (0..Self::CENTRES * d).map(|_| random.between(-30000, 30000)).collect();
+        let mut vector = || -> Vec<i32> {
+            let centre = random.between(0, Self::CENTRES as i32 - 1) as usize * d;
+            let mut near =
+                |c: i32| c + random.between(-Self::REACH, Self::REACH) + random.between(-Self::REACH, Self::REACH);
+            match spread {
+                Spread::Clustered => centres[centre..centre + d].iter().map(|&c| near(c)).collect(),
+                Spread::Uniform => (0..d).map(|_| random.between(-32768, 32767)).collect(),
+            }
+        };
+        let vectors: Vec<i32> = (0..n).flat_map(|_| vector()).collect();
+        let queries = (0..Self::QUERIES).map(|_| vector()).collect();
+        let mut data = Data {
+            d,
+            b,
+            n,
+            vectors,
+            marks: vec![0; marks::length(d, b)],
+            regions: vec![0; n * d],
+            codes: vec![0; codes::length(b, n)],
+            #[cfg(files)]
+            settings: (1..=n as u32).collect(),
+            #[cfg(files)]
+            bytes: Vec::new(),
+            queries,
+        };
+        marks::make(d, b, &data.vectors, &mut data.marks);
+        codes::regions(d, b, &data.vectors, &data.marks, &mut data.regions);
+        codes::pack(d, b, &data.regions, &mut data.codes);
+        #[cfg(files)]
+        {
+            let mut bytes = vec![0; file::length(&data)];
+            file::write(&data, &mut bytes);
+            data.bytes = bytes;
+        }
+        data
+    }
+}

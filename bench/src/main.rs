@@ -1,0 +1,55 @@
+//! The benchmarks; bench/run builds and runs them.
+
+mod call;
+mod counts;
+mod cpp;
+mod data;
+mod matcher;
+mod peer;
+mod random;
+mod table;
+mod timing;
+
+use call::{Answer, Call, Side};
+use data::Data;
+use std::env;
+use table::Row;
+use timing::{Times, ROUNDS};
+
+fn main() {
+    let words: Vec<String> = env::args().skip(1).collect();
+    match words.iter().map(String::as_str).collect::<Vec<_>>()[..] {
+        ["times"] => print_times(),
+        ["cpp"] => cpp::print(),
+        ["counts"] => counts::print(),
+        ["calls", ref words @ ..] => counts::work(words),
+        _ => panic!("times, cpp, counts, or what counts runs under valgrind"),
+    }
+}
+
+fn measure(row: &Row, data: &Data) -> Times {
+    let (mut ours, mut theirs) = (Answer::new(data, row.k), Answer::new(data, row.k));
+    let all = |side, answer: &mut Answer| data.queries.iter().for_each(|q| row.call.run(side, data, q, answer));
+    timing::in_turns(ROUNDS, Data::QUERIES, || all(Side::Matcher, &mut ours), || all(Side::Rust, &mut theirs))
+}
+
+fn print_times() {
+    println!("\nTimes of a call, microseconds, {ROUNDS} rounds in turns, medians");
+    Row::print_heads("us");
+    for row in Row::all(Call::ALL) {
+        let data = row.data();
+        let read = row.call.agrees(&data, row.k);
+        let times = measure(&row, &data);
+        row.print(read, times.matcher / 1000.0, times.other / 1000.0);
+    }
+    println!("\nTimes as a multiple of n log n, n 64 being 1: d 8, uniform, k 10");
+    for rows in Row::growing().chunks(4) {
+        let costs: Vec<_> = rows.iter().map(|row| (row.n, measure(row, &row.data()))).collect();
+        let name = rows[0].call.name();
+        table::print_growth(
+            &format!("{name} by matcher"),
+            &costs.iter().map(|c| (c.0, c.1.matcher)).collect::<Vec<_>>(),
+        );
+        table::print_growth(&format!("{name} by rust"), &costs.iter().map(|c| (c.0, c.1.other)).collect::<Vec<_>>());
+    }
+}
