@@ -1,33 +1,29 @@
 -- Behind a match whose rows pass nothing else can refuse: packing takes the library, and the search takes it with the codes that packing
 -- gave and the query. Assumes nothing.
-use mathlib.Core.Path.{_≡_, refl, sym, ap, _∙_}
+use mathlib.Core.Path.{_≡_, refl, ap}
 use mathlib.Core.Bool.{Bool, true, false, not, _&&_, _||_}
-use mathlib.Core.List.{List, [], _∷_, _++_, List·Memᴰ·head, List·Memᴰ·tail}
-use Prim.Native.Nat.{ℕ, zero, suc, _*_, _≤_, _<_}
+use mathlib.Core.List.{List, [], _∷_, List·Memᴰ·head, List·Memᴰ·tail}
+use Prim.Native.Nat.{ℕ, zero, suc, _*_, _<_}
 use native.Mathlib.Omega.{arith}
 use borrow.Author.Tests.{not-false, eq-eqb}
-use lib.Dec.{leb, eqb}
+use lib.Dec.{leb}
 use lib.IntN.{ℤ}
 use lib.Ieee.{Float}
 use lib.ListN.{length}
-use Rattle.refusal.specs.declared.Refusal.the-variants.{Neighbours, Truncated, NotANumber, OutOfRange, Stale}
+use Rattle.refusal.specs.declared.Refusal.the-variants.{NotANumber, OutOfRange, Stale}
 use Rattle.refusal.specs.declared.Verdict.the-variants.{Accepted}
-use Rattle.refusal.specs.First.{_⇒_, Row, first, passed}
-use Rattle.limits.specs.Limits.{isDimensionCount, isBits, isVectorCount, isComponent}
+use Rattle.refusal.specs.First.{first, passed}
+use Rattle.limits.specs.Limits.{isDimensionCount, isBits, isComponent}
 use Rattle.whole.specs.Components.{areComponents}
 use Rattle.order.specs.Members.{_∈_}
 use Rattle.order.specs.Counted.{counted}
 use Rattle.selection.specs.Theorems.{reads-among}
-use Rattle.layout.specs.Stretch.{shapeCauses}
 use Rattle.layout.specs.Layout.{firstMarks}
-use Rattle.partition.specs.Marks.{goodMarks}
 use Rattle.approximation.specs.Codes.{codeLength}
 use Rattle.approximation.specs.PackLaws.{length-packed}
 use Rattle.approximation.specs.VectorCauses.{packVectorsCauses}
-use Rattle.approximation.specs.Vectors.{vectorsInside}
 use Rattle.approximation.specs.OwnCodes.{own-good}
-use Rattle.approximation.specs.Cells.{Own}
-use Rattle.search.specs.Search.{Room, numbersIn, distanceIn, lowIn, inOwnCells, scanned, searched, searchCauses}
+use Rattle.search.specs.Search.{numbersIn, distanceIn, lowIn, inOwnCells, scanned, searched, searchCauses}
 use Rattle.search.specs.Search.{Library as Searchable}
 use Rattle.search.specs.Ready.{roomOf}
 use Rattle.search.specs.Accepted.{accepts, lengths-exact}
@@ -43,7 +39,7 @@ use Rattle.records.specs.RowLaws.{both}
 use Rattle.library.specs.Library.{Library, readLibrary}
 use Rattle.library.specs.Load.{recordsCauses as libraryCauses}
 use Rattle.query.specs.Query.{isReading, readingOf, readingCauses, recordsCauses as queryCauses, componentsOf, nextRecord}
-use Rattle.matching.specs.Match.{searchable, behind, kOf, kCauses, causesWith}
+use Rattle.matching.specs.Match.{searchable}
 use Rattle.library.specs.Loaded.{loaded-shape, loaded-count, marks-count, components-count, loaded-marks, loaded-components}
 use Rattle.matching.specs.Packed.{packed-inside, packed-own}
 
