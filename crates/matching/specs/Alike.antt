@@ -1,16 +1,15 @@
 -- Inputs that begin with the same bytes: a record that stands within those is the same record in both. Assumes nothing.
-use mathlib.Core.Path.{_≡_, refl, sym, ap, _∙_}
-use mathlib.Core.Bool.{Bool, true, false, cond, _||_}
+use mathlib.Core.Path.{_≡_, refl, sym, _∙_}
+use mathlib.Core.Bool.{Bool, true, false, cond}
 use mathlib.Core.List.{List, [], _∷_}
-use Prim.Native.Nat.{ℕ, zero, suc, _+_, _-_, _*_, _≤_, _<_}
+use Prim.Native.Nat.{ℕ, zero, suc, _+_, _-_, _≤_, _<_}
 use native.Mathlib.Omega.{arith}
 use borrow.Author.Tests.{le-ltb, ne-eqb}
 use lib.Dec.{lit≤, eqb}
 use lib.ListN.{length, getD, take, drop, length-take, length-drop}
 use lib.Seq.{getD-take, getD-drop}
-use Rattle.refusal.specs.First.{Row}
 use Rattle.records.specs.Bytes.{fromLowFirst}
-use Rattle.records.specs.Records.{vectorKind, freshKind, heldKind, lostKind, formats, widthsAmong, widthsOf, sum, recordLength, split, kindOf, valueOf}
+use Rattle.records.specs.Records.{vectorKind, formats, widthsAmong, widthsOf, sum, recordLength, split, kindOf, valueOf}
 use Rattle.records.specs.Frame.{frameCauses}
 
 -- both have m bytes, and the first m of them are the same
@@ -33,9 +32,6 @@ alike-drop {m} {a} {b} p is = record {
   other-has = rw (length-drop p b) (omega (arith, is .other-has));
   same = λ i h. getD-drop p a i 0 ∙ is .same (p + i) (omega arith) ∙ sym (getD-drop p b i 0);
 }
-
-pub alike-less : {m : ℕ} {a b : List ℕ} (k : ℕ) → k ≤ m → Alike m a b → Alike k a b
-alike-less k less is = record { one-has = omega (arith, is .one-has); other-has = omega (arith, is .other-has); same = λ i h. is .same i (omega arith) }
 
 -- ---- values
 

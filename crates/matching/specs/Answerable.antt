@@ -1,33 +1,30 @@
 -- Behind a match whose rows pass nothing else can refuse: packing takes the library, and the search takes it with the codes that packing
 -- gave and the query. Assumes nothing.
-use mathlib.Core.Path.{_≡_, refl, sym, ap, _∙_}
+use mathlib.Core.Path.{_≡_, refl, ap, _∙_}
 use mathlib.Core.Bool.{Bool, true, false, not, _&&_, _||_}
 use mathlib.Core.List.{List, [], _∷_, _++_, List·Memᴰ·head, List·Memᴰ·tail}
-use Prim.Native.Nat.{ℕ, zero, suc, _*_, _≤_, _<_}
+use Prim.Native.Nat.{ℕ, zero, suc, _*_, _<_}
 use native.Mathlib.Omega.{arith}
 use borrow.Author.Tests.{not-false, eq-eqb}
-use lib.Dec.{leb, eqb}
+use lib.Dec.{leb}
 use lib.IntN.{ℤ}
 use lib.Ieee.{Float}
-use lib.ListN.{length}
-use Rattle.refusal.specs.declared.Refusal.the-variants.{Neighbours, Truncated, NotANumber, OutOfRange, Stale}
+use lib.ListN.{length, drop}
+use Rattle.refusal.specs.declared.Refusal.the-variants.{NotANumber, OutOfRange, Stale}
 use Rattle.refusal.specs.declared.Verdict.the-variants.{Accepted}
-use Rattle.refusal.specs.First.{_⇒_, Row, first, passed}
-use Rattle.limits.specs.Limits.{isDimensionCount, isBits, isVectorCount, isComponent}
+use Rattle.refusal.specs.First.{first, outcome-accepted, passed}
+use Rattle.limits.specs.Limits.{isDimensionCount, isBits, isComponent}
 use Rattle.whole.specs.Components.{areComponents}
+use Rattle.order.specs.Pair.{Pair}
 use Rattle.order.specs.Members.{_∈_}
 use Rattle.order.specs.Counted.{counted}
 use Rattle.selection.specs.Theorems.{reads-among}
-use Rattle.layout.specs.Stretch.{shapeCauses}
 use Rattle.layout.specs.Layout.{firstMarks}
-use Rattle.partition.specs.Marks.{goodMarks}
 use Rattle.approximation.specs.Codes.{codeLength}
 use Rattle.approximation.specs.PackLaws.{length-packed}
 use Rattle.approximation.specs.VectorCauses.{packVectorsCauses}
-use Rattle.approximation.specs.Vectors.{vectorsInside}
 use Rattle.approximation.specs.OwnCodes.{own-good}
-use Rattle.approximation.specs.Cells.{Own}
-use Rattle.search.specs.Search.{Room, numbersIn, distanceIn, lowIn, inOwnCells, scanned, searched, searchCauses}
+use Rattle.search.specs.Search.{numbersIn, distanceIn, lowIn, inOwnCells, scanned, searched, searchCauses}
 use Rattle.search.specs.Search.{Library as Searchable}
 use Rattle.search.specs.Ready.{roomOf}
 use Rattle.search.specs.Accepted.{accepts, lengths-exact}
@@ -43,7 +40,8 @@ use Rattle.records.specs.RowLaws.{both}
 use Rattle.library.specs.Library.{Library, readLibrary}
 use Rattle.library.specs.Load.{recordsCauses as libraryCauses}
 use Rattle.query.specs.Query.{isReading, readingOf, readingCauses, recordsCauses as queryCauses, componentsOf, nextRecord}
-use Rattle.matching.specs.Match.{searchable, behind, kOf, kCauses, causesWith}
+use Rattle.matching.specs.Text.{line}
+use Rattle.matching.specs.Match.{behind, kLength, kOf, searchable, entryLines, refusedText, matchCauses, matchText}
 use Rattle.library.specs.Loaded.{loaded-shape, loaded-count, marks-count, components-count, loaded-marks, loaded-components}
 use Rattle.matching.specs.Packed.{packed-inside, packed-own}
 
@@ -132,6 +130,24 @@ module _ (bytes : List ℕ) (accepted : first (libraryCauses (readLibrary bytes)
         cells = cells-own s own (searched s query k .reads) (read-below query k);
       })
 
-  -- "A full scan's answer": the entries that are printed are the scan's
-  pub entries-are-the-scan : (query : List ℤ) (k : ℕ) → searched (searchable l) query k .best ≡ scanned (searchable l) query k
+  entries-are-the-scan : (query : List ℤ) (k : ℕ) → searched (searchable l) query k .best ≡ scanned (searchable l) query k
   entries-are-the-scan query k = search-is-scan (searchable l) query k (packed-own bytes accepted)
+
+-- ---- the theorem
+
+-- A match that is accepted prints k, how many vectors were read, and a line for each entry of the full scan's answer.
+pub printed-is-the-scan : (input : List ℕ) → first (matchCauses input) ≡ Accepted
+    → let l = readLibrary input in
+    let rest = behind l input in
+    let k = kOf rest in
+    let query = componentsOf (l .d) (drop kLength rest) in
+    matchText input ≡ line k (length (searched (searchable l) query k .reads) ∷ []) ++ entryLines (l .settings) (scanned (searchable l) query k)
+unfolding matchText matchCauses
+printed-is-the-scan input accepted =
+    let l = readLibrary input in
+    let rest = behind l input in
+    let k = kOf rest in
+    let query = componentsOf (l .d) (drop kLength rest) in
+    let library = both (libraryCauses l input) _ accepted .front in
+    outcome-accepted _ refusedText accepted
+    ∙ ap (λ (ps : List Pair). line k (length (searched (searchable l) query k .reads) ∷ []) ++ entryLines (l .settings) ps) (entries-are-the-scan input library query k)

@@ -1,21 +1,20 @@
 -- No accepted match is longer than 45,928 bytes, and a longer input is refused by what stands in its first 45,929: the program reads no
 -- more. Assumes nothing.
 use mathlib.Core.Path.{_≡_, refl, sym, ap, ap₂, subst, _∙_}
-use mathlib.Core.Bool.{Bool, true, false, not, cond, _&&_, _||_}
+use mathlib.Core.Bool.{Bool, true, false, not, cond, _||_}
 use mathlib.Core.List.{List, [], _∷_, _++_, append-assoc}
-use Prim.Native.Nat.{ℕ, zero, suc, _+_, _-_, _*_, _^_, _≤_, _<_}
+use Prim.Native.Nat.{ℕ, zero, suc, _+_, _-_, _*_, _≤_, _<_}
 use native.Mathlib.Decide.{decLt}
-use native.Mathlib.Nat.{mul-le-mul-right, suc-mul}
+use native.Mathlib.Nat.{suc-mul}
 use native.Mathlib.Omega.{arith}
 use borrow.Author.Tests.{eqb-true, not-false, lt-ltb, le-ltb, ne-eqb}
-use lib.Dec.{lit<, lit≤, leb, ltb, eqb}
+use lib.Dec.{lit≤, ltb, eqb}
 use lib.IntN.{ℤ}
-use lib.ListN.{length, getD, take, drop}
-use lib.Ieee.{binary32, ofBits}
-use mir.Syntax.{w16, w32}
+use lib.ListN.{length, take, drop}
+use mir.Syntax.{w16}
 use mir.Val.{toZ}
 use Rattle.refusal.specs.declared.Refusal.{Refusal}
-use Rattle.refusal.specs.declared.Refusal.the-variants.{Kind, Truncated, Misplaced, Trailing, Count}
+use Rattle.refusal.specs.declared.Refusal.the-variants.{Kind, Misplaced, Trailing, Count}
 use Rattle.refusal.specs.declared.Verdict.{Verdict}
 use Rattle.refusal.specs.declared.Verdict.the-variants.{Accepted, Refused}
 use Rattle.refusal.specs.First.{Row, _⇒_, first, passed, first-here, outcome-refused}
@@ -28,17 +27,17 @@ use Rattle.reading.specs.Intake.{causes}
 use Rattle.records.specs.Records.{headKind, markKind, vectorKind, endKind, freshKind, heldKind, lostKind, formats, widthsAmong, widthsOf, sum, recordLength, isKind, kindOf, valueOf}
 use Rattle.records.specs.Frame.{frameCauses, framed}
 use Rattle.records.specs.RowLaws.{go-on, stop, both, not-refused}
-use Rattle.library.specs.Each.{each, tabulate, every}
+use Rattle.library.specs.Each.{tabulate, every}
 use Rattle.library.specs.EachLaws.{each-same}
 use Rattle.library.specs.Library.{Library, markTotal, markPlace, vectorPlace, libraryLength, headValue, markAt, storedAt, readLibrary}
 use Rattle.library.specs.Write.{inside}
 use Rattle.library.specs.Sizes.{mark-place, vector-place, library-length, marks-few}
-use Rattle.library.specs.Load.{recordCauses, headCauses, markCauses, zeroBeyond, componentsCauses, vectorCauses, marksCauses, vectorsCauses, endCauses, recordsCauses as libraryCauses}
+use Rattle.library.specs.Load.{recordCauses, headCauses, markCauses, zeroBeyond, componentsCauses, vectorCauses, marksCauses, vectorsCauses, endCauses}
 use Rattle.partition.specs.Marks.{dimensionMarks}
 use Rattle.partition.specs.Region.{inMarks}
 use Rattle.query.specs.Query.{isReading, readingOf, readingCauses, recordsCauses as queryCauses, nextRecord}
-use Rattle.matching.specs.Match.{behind, kLength, kOf, kCauses, causesWith, matchCauses, refusedText, matchText}
-use Rattle.matching.specs.Alike.{Alike, alike-take, alike-drop, alike-less, same-number, same-value, same-kind, record-most, vector-length, same-frame}
+use Rattle.matching.specs.Match.{behind, kLength, kCauses, matchCauses, refusedText, matchText}
+use Rattle.matching.specs.Alike.{Alike, alike-take, alike-drop, same-number, same-value, same-kind, record-most, vector-length, same-frame}
 
 -- the longest library, k, and a held reading for each dimension
 unfoldable pub longestMatch : ℕ

@@ -1,16 +1,16 @@
 -- No text is longer than what the output is lent for. Assumes nothing.
-use mathlib.Core.Path.{_≡_, refl, sym, ap, _∙_}
+use mathlib.Core.Path.{_≡_, refl}
 use mathlib.Core.Bool.{true, _&&_, and-eq-true-iff}
-use mathlib.Core.List.{List, [], _∷_, _++_, List·Memᴰ·head, List·Memᴰ·tail}
+use mathlib.Core.List.{List, [], _∷_, List·Memᴰ·head, List·Memᴰ·tail}
 use Prim.Native.Nat.{ℕ, zero, suc, _+_, _*_, _^_, _≤_, _<_}
-use native.Mathlib.Nat.{suc-mul, mul-le-mul-right, mul-le-mul-left, le-trans}
+use native.Mathlib.Nat.{suc-mul, mul-le-mul-right, le-trans}
 use native.Mathlib.Decide.{decLt}
 use native.Mathlib.Omega.{arith}
 use borrow.Author.Tests.{leb-true, not-false}
-use lib.Dec.{lit<, lit≤, leb}
+use lib.Dec.{lit<, leb}
 use lib.IntN.{ℤ, pos, negsuc}
 use lib.Signed.{mag, leZ}
-use lib.ListN.{length, getD, take, drop, length-append}
+use lib.ListN.{length, getD, drop, length-append}
 use lib.Seq.{getD-take, getD-drop}
 use Rattle.refusal.specs.declared.Refusal.{Refusal}
 use Rattle.refusal.specs.declared.Refusal.the-variants.{Dimension, Bits, Count, Neighbours, Length, Component, Mark, Outside, Code, Cell, Kind, Truncated, Stale, NotANumber, OutOfRange, Trailing, Misplaced}
@@ -18,13 +18,12 @@ use Rattle.refusal.specs.declared.Verdict.{Verdict}
 use Rattle.refusal.specs.declared.Verdict.the-variants.{Accepted, Refused}
 use Rattle.refusal.specs.Refusal.{numberOf}
 use Rattle.refusal.specs.First.{first, outcome, passed}
-use Rattle.limits.specs.Limits.{maxDimensions, maxVectors, leastComponent, greatestComponent, isComponent, isVectorCount}
+use Rattle.limits.specs.Limits.{maxDimensions, maxVectors, leastComponent, isComponent}
 use Rattle.limits.specs.Tests.{between}
 use Rattle.whole.specs.Components.{areComponents, component-at}
 use Rattle.order.specs.Pair.{Pair}
 use Rattle.order.specs.Members.{_∈_}
 use Rattle.order.specs.Counted.{counted, counted-length}
-use Rattle.selection.specs.Reading.{Reading}
 use Rattle.selection.specs.Theorems.{reads-among, reads-count, best-length, best-entries}
 use Rattle.approximation.specs.Cells.{vectorAt}
 use Rattle.distance.specs.Distance.{gap, squared, firstDistance, distanceOf}
@@ -41,7 +40,7 @@ use Rattle.library.specs.EachLaws.{tabulate-at, tabulate-past}
 use Rattle.library.specs.Library.{Library, markTotal, vectorPlace, settingsAt, readLibrary}
 use Rattle.library.specs.Load.{recordsCauses as libraryCauses}
 use Rattle.query.specs.Query.{recordsCauses as queryCauses, componentsOf}
-use Rattle.matching.specs.Text.{lineEnd, decimal, line}
+use Rattle.matching.specs.Text.{line}
 use Rattle.matching.specs.TextLaws.{decimal-length}
 use Rattle.matching.specs.Match.{behind, kLength, kOf, kCauses, searchable, entryLine, entryLines, answerText, refusedText, causesWith, matchText, textRoom}
 use Rattle.library.specs.Loaded.{shaped, loaded-count, loaded-components}

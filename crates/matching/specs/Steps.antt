@@ -29,8 +29,8 @@ use Rattle.library.specs.Library.{Library, libraryWith, markTotal, libraryLengt
 use Rattle.library.specs.Load.{marksRoom, settingsRoom, componentsRoom, recordsCauses as libraryCauses, loadCauses, counts, filled}
 use Rattle.library.specs.Loaded.{loaded-shape, loaded-count, shaped, marks-count, settings-count, components-count, loaded-within}
 use Rattle.query.specs.Query.{queryCauses as lentCauses, recordsCauses as queryCauses, componentsOf}
-use Rattle.matching.specs.Match.{behind, kLength, kOf, kCauses, causesWith, searchable, answerText, refusedText, textWith, matchText}
-use Rattle.matching.specs.Answerable.{packs, searches, query-components, query-length}
+use Rattle.matching.specs.Match.{behind, kLength, kOf, kCauses, searchable, answerText, refusedText, matchText}
+use Rattle.matching.specs.Answerable.{packs, searches}
 
 -- behind a library that passes, and behind a k that passes; `rest` is what stands behind the library
 abbrev pub restText : Library → List ℕ → List ℕ

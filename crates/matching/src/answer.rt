@@ -1,8 +1,8 @@
 // The answer of a match: the nearest vectors of a loaded library, as text.
 use crate::lines::put_entries;
 use crate::lines::put_pair;
-use limits::MAX_DIMENSIONS;
 use limits::MAX_DIMENSION_BITS;
+use limits::MAX_DIMENSIONS;
 use limits::MAX_VECTORS;
 use search::search::Searched;
 ghost use mathlib.Core.Path.{_≡_};
@@ -46,7 +46,18 @@ pub(crate) fn answer(
     let size = (n * b + 7) / 8;
     let mut codes = [0u8; CODES_ROOM];
     approximation::vectors::pack_vectors(d, b, n, components, marks, &mut codes[..size]);
-    answer_coded(d, b, n, k, query, marks, &codes[..size], settings, components, text)
+    answer_coded(
+        d,
+        b,
+        n,
+        k,
+        query,
+        marks,
+        &codes[..size],
+        settings,
+        components,
+        text,
+    )
 }
 
 // The same with the codes.

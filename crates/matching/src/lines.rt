@@ -1,10 +1,9 @@
 // Lines of text: decimal numbers with single spaces between them, each line ended by byte 10.
 use refusal::Refusal;
 ghost use mathlib.Core.Path.{_≡_};
-ghost use mathlib.Core.List.{[], _∷_, _++_};
+ghost use mathlib.Core.List.{[], _∷_};
 ghost use Prim.Native.Nat.{_+_, _≤_};
 ghost use lib.ListN.{length, getD};
-ghost use Rattle.refusal.specs.Refusal.{numberOf};
 ghost use Rattle.selection.specs.Kept.{pairsOf};
 ghost use Rattle.matching.specs.Text.{refusedWord, decimal, line};
 ghost use Rattle.matching.specs.Match.{entryLines, refusedText};

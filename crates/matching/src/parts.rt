@@ -37,7 +37,17 @@ pub(crate) fn match_rest(
     match check_k(rest, n) {
         Verdict::Accepted => {
             let k = records::u16_at(rest, 0) as usize;
-            match_query(&rest[K_LENGTH..], d, b, n, k, marks, settings, components, text)
+            match_query(
+                &rest[K_LENGTH..],
+                d,
+                b,
+                n,
+                k,
+                marks,
+                settings,
+                components,
+                text,
+            )
         }
         Verdict::Refused(cause) => put_refusal(cause, text),
     }

@@ -1,14 +1,13 @@
 -- `match_loaded` meets its contract: the library stands in the fronts of its buffers, and the rest of the match behind it. Assumes nothing.
-use mathlib.Core.Path.{_≡_, sym, ap, ap₂, _∙_}
+use mathlib.Core.Path.{_≡_, sym, ap₂, _∙_}
 use mathlib.Core.List.{List}
 use Prim.Native.Nat.{ℕ, _*_, _-_, _≤_}
 use native.Mathlib.Omega.{arith}
-use lib.IntN.{ℤ}
 use lib.ListN.{length, take, drop}
 use lib.Seq.{length-take-le}
 use borrow.Author.Needs.{needs}
 use borrow.Rule.Slice.PartAt.{part-to-end}
-use Rattle.library.specs.Library.{libraryWith, markTotal, readLibrary}
+use Rattle.library.specs.Library.{libraryWith, markTotal}
 use Rattle.library.specs.Sizes.{marks-length-is}
 use Rattle.matching.specs.Match.{matchText}
 use Rattle.matching.specs.Puts.{puts-length, puts-same}

@@ -39,8 +39,7 @@ returns-2 c =
     let s = tested .before .before .before in
     let accepted : first (roomCauses (length (s .args .output .now))) ≡ Accepted = first-next Length [] (ap not (eq-eqb _ textRoom (tested .if1 .left))) ∙ first-none in
     let puts = put .match-input .ensures in
-    let count : put .match-input .result ≡ length (matchText (s .args .input .now)) = omega (arith, puts .end) in
-    (
+    let count : put .match-input .result ≡ length (matchText (s .args .input .now)) = omega (arith, puts .end) in (
       ap {B = Printed} (λ n. record { verdict = Accepted; length = n }) count ∙ sym (outcome-accepted _ _ accepted),
       puts-front puts (room tested) ∙ sym (outcome-accepted _ _ accepted),
     )

@@ -8,10 +8,8 @@ use lib.IntN.{ℤ}
 use lib.ListN.{length, take, drop, replicate}
 use lib.Seq.{length-take-le}
 use borrow.Author.Needs.{needs}
-use Rattle.refusal.specs.declared.Verdict.{Verdict}
 use Rattle.refusal.specs.declared.Verdict.the-variants.{Accepted}
 use Rattle.refusal.specs.First.{first, outcome, outcome-accepted, accepted-front}
-use Rattle.limits.specs.Limits.{maxDimensions, maxDimensionBits, maxVectors}
 use Rattle.approximation.specs.Codes.{codeLength}
 use Rattle.approximation.specs.Pack.{sizeCauses, sizes}
 use Rattle.approximation.specs.VectorCauses.{locateCauses, packVectorsCauses}

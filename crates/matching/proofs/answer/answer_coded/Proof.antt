@@ -1,5 +1,5 @@
 -- `answer_coded` meets its contract: the numbers and distances that came back are those of the best pairs. Assumes nothing.
-use mathlib.Core.Path.{_≡_, refl, sym, ap, _∙_}
+use mathlib.Core.Path.{_≡_, sym, _∙_}
 use mathlib.Core.List.{List, [], _∷_, _++_}
 use Prim.Native.Nat.{ℕ, _≤_}
 use native.Mathlib.Omega.{arith}
@@ -10,7 +10,7 @@ use Rattle.refusal.specs.declared.Verdict.the-variants.{Accepted}
 use Rattle.refusal.specs.First.{first}
 use Rattle.limits.specs.Limits.{maxVectors}
 use Rattle.limits.specs.Tests.{between}
-use Rattle.order.specs.Pair.{Pair, numbersOf}
+use Rattle.order.specs.Pair.{numbersOf}
 use Rattle.selection.specs.Kept.{keysOf, pairsOf}
 use Rattle.selection.specs.Reading.{Reading}
 use Rattle.search.specs.Search.{Library, searched, searchCauses}
@@ -86,8 +86,7 @@ text-is c =
 
 put-answer-requires : tie.Need-put-answer-requires
 put-answer-requires c κs =
-    let back = c .before .before .before .before .before in
-    (
+    let back = c .before .before .before .before .before in (
       shared-length _ _ (distances-back back) (distances-hold (back .before .before)) (back .nearest .kept .1 .1 .1 .1 .1 .1 .1 .1 .1 .0)
           ∙ sym (shared-length _ _ (numbers-back back) (numbers-hold (back .before .before .before)) (back .nearest .kept .1 .1 .1 .1 .1 .1 .1 .1 .0)),
       rw (text-is back) (back .before .before .before .before .before .before .pre .1),

@@ -1,5 +1,4 @@
 -- `put_field` meets its contract: the byte stands behind the digits. Assumes nothing.
-use mathlib.Core.Path.{_≡_}
 use native.Mathlib.Omega.{arith}
 use lib.ListN.{length-set}
 use Rattle.matching.specs.Puts.{puts-length, puts-more, puts-byte, field-length}

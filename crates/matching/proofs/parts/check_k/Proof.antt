@@ -1,15 +1,14 @@
 -- `check_k` meets its contract: each return is that of the first cause that holds, and the last that of none. Assumes nothing.
 use mathlib.Core.Path.{_≡_, sym, ap, _∙_}
-use mathlib.Core.Bool.{Bool, true, false, cond, _&&_}
+use mathlib.Core.Bool.{Bool, cond, _&&_}
 use Prim.Native.Nat.{ℕ}
 use lib.Dec.{leb}
 use borrow.Author.Needs.{needs}
 use borrow.Author.Tests.{not-true, not-false}
 use Rattle.refusal.specs.declared.Refusal.the-variants.{Neighbours}
-use Rattle.refusal.specs.declared.Verdict.{Verdict}
 use Rattle.refusal.specs.declared.Verdict.the-variants.{Accepted, Refused}
 use Rattle.refusal.specs.First.{first}
-use Rattle.matching.specs.Match.{kOf, kCauses}
+use Rattle.matching.specs.Match.{kCauses}
 use Rattle.matching.specs.Steps.{k-truncated, k-tested}
 use Rattle.matching.proofs.parts.check_k.Statement.{statement}
 use Rattle.matching.proofs.parts.check_k.Tie as tie

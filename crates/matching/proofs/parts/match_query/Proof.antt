@@ -2,14 +2,13 @@
 use mathlib.Core.Path.{_≡_, sym, ap, subst, _∙_}
 use mathlib.Core.List.{List, _++_}
 use Prim.Native.Nat.{ℕ, _≤_}
-use native.Mathlib.Omega.{arith}
 use lib.IntN.{ℤ, pos}
 use lib.ListN.{length, take, drop, replicate}
 use lib.Seq.{length-take-le}
 use borrow.Author.Needs.{needs}
 use Rattle.refusal.specs.declared.Verdict.the-variants.{Accepted}
 use Rattle.refusal.specs.First.{first, outcome-accepted, outcome-refused}
-use Rattle.limits.specs.Limits.{maxDimensions, isDimensionCount}
+use Rattle.limits.specs.Limits.{maxDimensions}
 use Rattle.limits.specs.Tests.{between}
 use Rattle.whole.specs.Components.{areComponents}
 use Rattle.library.specs.Library.{Library, libraryWith}
