@@ -1,8 +1,9 @@
--- What a walk shares that asks for a dimension's view: what the call is passed, the numbers d, b and j and the marks, and what is known of the view.
+-- What the walks over a view share: the calls of `view_of`, `regions_between` and `marks_of`, what each is passed, what it asks, and what is known of its result.
+-- `view_of` is passed the numbers d, b and j and the marks.
 -- Numbers own facts alone, so what the marks own is enough for all that is passed; a `&[i32]` is Copy, so a copy of that is kept.
 -- Assumes nothing.
 use mathlib.Core.Path.{_≡_, refl}
-use Prim.Native.Nat.{ℕ, _<_, _^_}
+use Prim.Native.Nat.{ℕ, _-_, _<_, _^_}
 use mathlib.Core.List.{List, [], _∷_}
 use lib.IntN.{ℤ}
 use lib.ListN.{length}
@@ -33,6 +34,8 @@ use Rattle.partition.specs.View.{seenMarks, seenRegions}
 use Rattle.partition.specs.declared.view.View.{View}
 use Rattle.partition.proofs.view.View as T
 use Rattle.partition.proofs.view.view_of as view-of
+use Rattle.partition.proofs.marks.regions_between as count
+use Rattle.partition.proofs.view.marks_of as marks-of
 
 -- what a call given a dimension is passed
 pub record Asked : Type 0 where
@@ -107,3 +110,33 @@ module _ {M : Type 1} (𝓤 : URA M) (H : Heap 𝓤) (A : Atoms 𝓤) (mem : Mem
 
   pub view-said : (κ : Lft) (x : Asked) (r : View) → ent 𝓤 (ensured 𝓤 H A view-of.ended (view-of.clauses 𝓤 H A mem run) (κ, tt) (args κ [] x tt) tt r) (fact 𝓤 (Seen x r))
   view-said κ x r = exE 𝓤 _ (λ ws. snd∗ 𝓤 (sem 𝓤 H A (lasts view-of.ended (κ, tt) (args κ [] x tt) ws)) (fact 𝓤 (Seen x r)))
+
+-- the call of `regions_between`, at a part p
+module _ {M : Type 1} (𝓤 : URA M) (H : Heap 𝓤) (A : Atoms 𝓤) (mem : Memory → SProp 𝓤) (run : Routine → Fun 𝓤) where
+  abbrev pub Count : Contract 𝓤
+  Count = tripleOf 𝓤 H A count.signature (count.spec 𝓤 H A mem run)
+
+  abbrev pub to-count : Lft → Share → RefT (List ℤ) → Count .Ghost
+  to-count κ q p = (((κ, tt), (q, tt), tt, (p, tt), (lent p ∷ [], tt)), tt)
+
+  pub goes-count : Given 𝓤 H A → (κ : Lft) (q : Share) (p : RefT (List ℤ)) → ent 𝓤 (⋆ 𝓤 H A (‵ (Own κ p) ∷ (‵ (flft κ q) ⊛ ‵ ftrue) ∷ [])) (sep 𝓤 (Count .pre (to-count κ q p)) (sem 𝓤 H A (Own κ p)))
+  goes-count W κ q p =
+      qed W (‵ (Own κ p) ∷ (‵ (flft κ q) ⊛ ‵ ftrue) ∷ []) ∵ use1 W (‵ (Own κ p) ⊛ ‵ (Own κ p)) (shr-slice-copy 𝓤 H A W (named 0) κ i32 .twice p (lent p ∷ [])) $ split ! $ nothing ! $ move ! (1 ∷ 0 ∷ []) $ fjoin ! $
+      move ! (2 ∷ 0 ∷ []) $ use2 W (raw (Count .pre (to-count κ q p))) (qed W ((‵ (flft κ q) ⊛ ‵ ftrue) ∷ ‵ (owns (Slice κ ∷ []) (p, tt) (lent p ∷ [], tt)) ∷ []) ∵ join ! $ frame ! $ done !) $ frame ! $ done !
+
+  pub count-said : (κ : Lft) (p : RefT (List ℤ)) (n : ℕ) → ent 𝓤 (ensured 𝓤 H A count.ended (count.clauses 𝓤 H A mem run) (κ, tt) (p, tt) tt n) (fact 𝓤 (n ≡ length (now p) - 1))
+  count-said κ p n = exE 𝓤 _ (λ ws. snd∗ 𝓤 (sem 𝓤 H A (lasts count.ended (κ, tt) (p, tt) ws)) (fact 𝓤 (n ≡ length (now p) - 1)))
+
+-- the call of `marks_of`, at a view r with the machine value u
+module _ {M : Type 1} (𝓤 : URA M) (H : Heap 𝓤) (A : Atoms 𝓤) (mem : Memory → SProp 𝓤) (run : Routine → Fun 𝓤) where
+  abbrev pub MarksOf : Contract 𝓤
+  MarksOf = tripleOf 𝓤 H A marks-of.signature (marks-of.spec 𝓤 H A mem run)
+
+  abbrev pub to-marks : Lft → Share → View → Val → MarksOf .Ghost
+  to-marks κ q r u = (((κ, tt), (q, tt), tt, (r, tt), (u ∷ [], tt)), tt)
+
+  pub goes-marks : Given 𝓤 H A → (κ : Lft) (q : Share) (r : View) (u : Val) → ent 𝓤 (⋆ 𝓤 H A (‵ (Viewed (κ, tt) .own r (u ∷ [])) ∷ (‵ (flft κ q) ⊛ ‵ ftrue) ∷ [])) (MarksOf .pre (to-marks κ q r u))
+  goes-marks W κ q r u = qed W (‵ (Viewed (κ, tt) .own r (u ∷ [])) ∷ (‵ (flft κ q) ⊛ ‵ ftrue) ∷ []) ∵ nothing ! $ move ! (1 ∷ 0 ∷ []) $ fjoin ! $ move ! (1 ∷ 0 ∷ []) $ join ! $ frame ! $ done !
+
+  pub marks-said : (κ : Lft) (r : View) (p : RefT (List ℤ)) → ent 𝓤 (ensured 𝓤 H A marks-of.ended (marks-of.clauses 𝓤 H A mem run) (κ, tt) (r, tt) tt p) (fact 𝓤 (p ≡ r .marks))
+  marks-said κ r p = exE 𝓤 _ (λ ws. snd∗ 𝓤 (sem 𝓤 H A (lasts marks-of.ended (κ, tt) (r, tt) ws)) (fact 𝓤 (p ≡ r .marks)))

@@ -4,6 +4,7 @@ use limits::MAX_DIMENSION_BITS;
 use refusal::Refusal;
 use refusal::Verdict;
 ghost use mathlib.Core.Path.{_≡_};
+ghost use Prim.Native.Nat.{_-_};
 ghost use lib.ListN.{length};
 ghost use Rattle.refusal.specs.declared.Verdict.the-variants.{Accepted};
 ghost use Rattle.refusal.specs.First.{first};
@@ -101,4 +102,15 @@ fn fits_at(length: usize, offset: usize, bits: usize) -> bool
         return false;
     }
     offset <= length - count
+}
+
+// How many regions a part's marks bound, none where it is empty.
+pub(crate) fn regions_between(part: &[i32]) -> usize
+    ensures { λ r. ⌜ r ≡ length (now (part .entry)) - 1 ⌝ }
+{
+    let count = part.len();
+    if count == 0 {
+        return 0;
+    }
+    count - 1
 }

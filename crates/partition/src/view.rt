@@ -3,13 +3,12 @@
 use crate::marks::check_part;
 use crate::marks::checked_part;
 use crate::marks::part_at;
+use crate::marks::regions_between;
 use crate::region::Lookup;
 use crate::region::region;
 use refusal::Refusal;
 use refusal::Verdict;
 ghost use mathlib.Core.Path.{_≡_};
-ghost use Prim.Native.Nat.{_-_};
-ghost use lib.ListN.{length};
 ghost use Rattle.refusal.specs.First.{first, outcome};
 ghost use Rattle.partition.specs.Marks.{dimensionMarks};
 ghost use Rattle.partition.specs.Region.{regionOf};
@@ -92,15 +91,4 @@ fn look_up(d: usize, b: usize, marks: &[i32], j: usize, v: i32) -> Lookup
     ensures { λ r. ⌜ r ≡ lookedUp (seenMarks d b (now (marks .entry)) j) (seenRegions d b (now (marks .entry)) j) v ⌝ }
 {
     region_in(view_of(d, b, marks, j), v)
-}
-
-// How many regions a part's marks bound, none where it is empty.
-fn regions_between(part: &[i32]) -> usize
-    ensures { λ r. ⌜ r ≡ length (now (part .entry)) - 1 ⌝ }
-{
-    let count = part.len();
-    if count == 0 {
-        return 0;
-    }
-    count - 1
 }

@@ -29,7 +29,7 @@ use denote.Plain.{uint-vals, uint-tells, uint-makes, uint-lawful}
 use denote.Builtin.{i32, usize}
 use denote.Ref.{RefT, NamedLft, now}
 use denote.Signature.{plain, namedLft}
-use denote.Slice.{sliceTy, slice-vals, shr-slice-tells, shr-slice-lawful, shr-slice-copy}
+use denote.Slice.{sliceTy, slice-vals, shr-slice-tells, shr-slice-lawful}
 use denote.Steps.{only, owned, peeks, heard, nothing}
 use denote.Struct.Rest.{own-shut}
 use denote.Triple.Statement.{Contract, Triple}
@@ -42,17 +42,17 @@ use denote.Exit.{yes}
 use denote.Triple.Clauses.{ensured, lasts}
 use Rattle.partition.specs.View.{seenMarks, seenRegions, regions-between}
 use Rattle.partition.specs.declared.view.View.{View}
-use Rattle.partition.proofs.Viewed.{Asked, Slice, lent, Own, typesOf, args, vals, own-passed, passes-on}
+use Rattle.partition.proofs.Viewed.{Asked, Slice, lent, Own, typesOf, args, vals, own-passed, passes-on, Count, to-count, goes-count, count-said}
 use Rattle.partition.proofs.view.View as T
 use Rattle.partition.proofs.view.View.Laws as T′
 use Rattle.partition.proofs.marks.checked_part as part
 use Rattle.partition.proofs.marks.checked_part.Symbol as part-def
 use Rattle.partition.proofs.marks.checked_part.Symbol.{name as #partition·marks·checked-part}
 use Rattle.partition.proofs.marks.checked_part.Met as part-thm
-use Rattle.partition.proofs.view.regions_between as count
-use Rattle.partition.proofs.view.regions_between.Symbol as count-def
-use Rattle.partition.proofs.view.regions_between.Symbol.{name as #partition·view·regions-between}
-use Rattle.partition.proofs.view.regions_between.Met as count-thm
+use Rattle.partition.proofs.marks.regions_between as count
+use Rattle.partition.proofs.marks.regions_between.Symbol as count-def
+use Rattle.partition.proofs.marks.regions_between.Symbol.{name as #partition·marks·regions-between}
+use Rattle.partition.proofs.marks.regions_between.Met as count-thm
 use Rattle.partition.proofs.view.view_of.Key.{name as #partition·view·view-of}
 use Rattle.partition.proofs.view.view_of as view-of
 use Rattle.partition.proofs.view.view_of.Statement as stated
@@ -62,12 +62,9 @@ abbrev stayed : Stays (view-of.ended .signature .params) (view-of.ended .kept)
 stayed = (stay-none (λ _. usize) yes, (stay-none (λ _. usize) yes, (stay-none-slice (0 ∷ []) tt (plain (λ _. i32)) yes, (stay-none (λ _. usize) yes, tt))))
 
 module _ {M : Type 1} (𝓤 : URA M) (H : Heap 𝓤) (A : Atoms 𝓤) (mem : Memory → SProp 𝓤) (run : Routine → Fun 𝓤) where
-  -- the contracts that the proof cites
+  -- the first contract that the proof cites
   abbrev Part : Contract 𝓤
   Part = tripleOf 𝓤 H A part.signature (part.spec 𝓤 H A mem run)
-
-  abbrev Count : Contract 𝓤
-  Count = tripleOf 𝓤 H A count.signature (count.spec 𝓤 H A mem run)
 
 module _ {M : Type 1} (𝓤 : URA M) (H : Heap 𝓤) (A : Atoms 𝓤) (W : Given 𝓤 H A) (mem : Memory → SProp 𝓤) (run : Routine → Fun 𝓤) (κ : Lft) (q : Share) (x : Asked) where
   abbrev α : NamedLft
@@ -96,18 +93,6 @@ module _ {M : Type 1} (𝓤 : URA M) (H : Heap 𝓤) (A : Atoms 𝓤) (W : Given
   part-said : (p : RefT (List ℤ)) → ent 𝓤 (ensured 𝓤 H A part.ended (part.clauses 𝓤 H A mem run) (κ, tt) (args κ [] x tt) tt p) (fact 𝓤 (now p ≡ seen))
   part-said p = exE 𝓤 _ (λ ws. snd∗ 𝓤 (sem 𝓤 H A (lasts part.ended (κ, tt) (args κ [] x tt) ws)) (fact 𝓤 (now p ≡ seen)))
 
-  -- the call of `regions_between`, at the part p
-  abbrev to-count : RefT (List ℤ) → Count 𝓤 H A mem run .Ghost
-  to-count p = (((κ, tt), (q, tt), tt, (p, tt), (lent p ∷ [], tt)), tt)
-
-  goes-count : (p : RefT (List ℤ)) → ent 𝓤 (⋆ 𝓤 H A (‵ (Own κ p) ∷ (‵ (flft κ q) ⊛ ‵ ftrue) ∷ [])) (sep 𝓤 (Count 𝓤 H A mem run .pre (to-count p)) (sem 𝓤 H A (Own κ p)))
-  goes-count p =
-      qed W (‵ (Own κ p) ∷ (‵ (flft κ q) ⊛ ‵ ftrue) ∷ []) ∵ use1 W (‵ (Own κ p) ⊛ ‵ (Own κ p)) (shr-slice-copy 𝓤 H A W (named 0) κ i32 .twice p (lent p ∷ [])) $ split ! $ nothing ! $ move ! (1 ∷ 0 ∷ []) $ fjoin ! $
-      move ! (2 ∷ 0 ∷ []) $ use2 W (raw (Count 𝓤 H A mem run .pre (to-count p))) (qed W ((‵ (flft κ q) ⊛ ‵ ftrue) ∷ ‵ (owns (Slice κ ∷ []) (p, tt) (lent p ∷ [], tt)) ∷ []) ∵ join ! $ frame ! $ done !) $ frame ! $ done !
-
-  count-said : (p : RefT (List ℤ)) (n : ℕ) → ent 𝓤 (ensured 𝓤 H A count.ended (count.clauses 𝓤 H A mem run) (κ, tt) (p, tt) tt n) (fact 𝓤 (n ≡ length (now p) - 1))
-  count-said p n = exE 𝓤 _ (λ ws. snd∗ 𝓤 (sem 𝓤 H A (lasts count.ended (κ, tt) (p, tt) ws)) (fact 𝓤 (n ≡ length (now p) - 1)))
-
   exits : (p : RefT (List ℤ)) (n : ℕ) → (now p ≡ seen) × (n ≡ seenRegions (x .d) (x .b) (now (x .marks)) (x .j)) → n < 2 ^ 64
       → ent 𝓤 (⋆ 𝓤 H A ((‵ (flft κ q) ⊛ ‵ ftrue) ∷ ‵ (Own κ p) ∷ ‵ (Own κ (x .marks)) ∷ [])) (Post (T′.lowered (made p n)))
   exits p n e fits =
@@ -117,7 +102,7 @@ module _ {M : Type 1} (𝓤 : URA M) (H : Heap 𝓤) (A : Atoms 𝓤) (W : Given
       -- [what the part owns]: with the facts of the number of regions it is what the view owns
       nothing ! $ owned ! usize (Is usize) (uint-makes 𝓤 H A W w64) n _ (refl, fits) $ fjoin ! $ move ! (1 ∷ 0 ∷ []) $ fjoin ! $ by ! (own-shut 𝓤 H A W (T.the-type α) (T′.the-laws α) (p, (n, tt)))
 
-  module _ (C : Calls 𝓤 H) (Λ : Loops 𝓤 H) (fm : FmC 𝓤 H (W .laws) C) (known-part : Triple 𝓤 (C #partition·marks·checked-part) (Part 𝓤 H A mem run)) (known-count : Triple 𝓤 (C #partition·view·regions-between) (Count 𝓤 H A mem run)) where
+  module _ (C : Calls 𝓤 H) (Λ : Loops 𝓤 H) (fm : FmC 𝓤 H (W .laws) C) (known-part : Triple 𝓤 (C #partition·marks·checked-part) (Part 𝓤 H A mem run)) (known-count : Triple 𝓤 (C #partition·marks·regions-between) (Count 𝓤 H A mem run)) where
     walk : Is (Slice κ) (x .marks) (lent (x .marks) ∷ []) → ent 𝓤 (onEntry 𝓤 H A view-of.signature (κ, tt) (q, tt) (args κ [] x tt) (vals κ [] x tt)) (WpFn 𝓤 H C Λ code.function (vint w64 (x .d) ∷ vint w64 (x .b) ∷ lent (x .marks) ∷ vint w64 (x .j) ∷ []) Post)
     walk g =
         qed W (raw (onEntry 𝓤 H A view-of.signature (κ, tt) (q, tt) (args κ [] x tt) (vals κ [] x tt)) ∷ []) ∵ enter ! C Λ code.function (vint w64 (x .d) ∷ vint w64 (x .b) ∷ lent (x .marks) ∷ vint w64 (x .j) ∷ []) _ $
@@ -131,10 +116,10 @@ module _ {M : Type 1} (𝓤 : URA M) (H : Heap 𝓤) (A : Atoms 𝓤) (W : Given
         peeks ! (Slice κ) (Is (Slice κ)) (shows 𝓤 H A (Slice κ)) p (u ∷ []) (λ is.
         land ! (from ! (stop !)) (init ! 5 refl (shr-slice-lawful 𝓤 H A W erased κ i32 .typed p _ is .0)) $
         rewrite ! 5 (λ (w : Val). ‵ (fat fullShare (sliceTy (tyRef erased imm (pointee (i32 .written)))) l₅ 0 w)) (ap only (is .0 .0)) refl $ rewrite ! 0 (λ (ws : List Val). ‵ (Slice κ .own p ws)) (is .0 .0) refl $
-        use2 W (raw (Count 𝓤 H A mem run .pre (to-count p)) ⊛ ‵ (Own κ p)) (goes-count p) $ split ! $
-        calls-at ! fm (Count 𝓤 H A mem run) known-count (to-count p) (and-then ! (load ! (from ! (stop !)) (look ! 5 refl)) (no-more !)) (λ u′.
+        use2 W (raw (Count 𝓤 H A mem run .pre (to-count 𝓤 H A mem run κ q p)) ⊛ ‵ (Own κ p)) (goes-count 𝓤 H A mem run W κ q p) $ split ! $
+        calls-at ! fm (Count 𝓤 H A mem run) known-count (to-count 𝓤 H A mem run κ q p) (and-then ! (load ! (from ! (stop !)) (look ! 5 refl)) (no-more !)) (λ u′.
         use1 W (later (some (λ (n : ℕ). ((‵ (flft κ q) ⊛ ‵ ftrue) ⊛ ‵ (usize .own n (u′ ∷ []))) ⊛ raw (ensured 𝓤 H A count.ended (count.clauses 𝓤 H A mem run) (κ, tt) (p, tt) tt n)))) (id⊢ 𝓤 _) $ await ! tt $ pick ! (λ n.
-        split ! $ move ! (1 ∷ []) $ use1 W (raw (fact 𝓤 (n ≡ length (now p) - 1))) (count-said p n) $ heard ! (n ≡ length (now p) - 1) (λ e′. split ! $ move ! (1 ∷ []) $
+        split ! $ move ! (1 ∷ []) $ use1 W (raw (fact 𝓤 (n ≡ length (now p) - 1))) (count-said 𝓤 H A mem run κ p n) $ heard ! (n ≡ length (now p) - 1) (λ e′. split ! $ move ! (1 ∷ []) $
         -- [what the number owns; the token; what the part owns; what the marks own; room for _6; …; _5; …; _4; …; _3; …; _2; …; _1; …; room for _0; …]
         peeks ! usize (Is usize) (shows 𝓤 H A usize) n (u′ ∷ []) (λ is′.
         land ! (from ! (stop !)) (init ! 4 refl (uint-lawful 𝓤 H A W w64 .typed n _ is′ .0)) $ rewrite ! 4 (λ (w : Val). ‵ (fat fullShare (tyInt w64) l₆ 0 w)) (ap only (is′ .0)) refl $ drop ! $
@@ -144,7 +129,7 @@ module _ {M : Type 1} (𝓤 : URA M) (H : Heap 𝓤) (A : Atoms 𝓤) (W : Given
         by ! (exits p n (e, e′ ∙ (ap (λ (l : List ℤ). length l - 1) e ∙ regions-between (x .d) (x .b) (now (x .marks)) (x .j))) (is′ .1)))))))))))))))))
 
 module _ {M : Type 1} (𝓤 : URA M) (H : Heap 𝓤) (A : Atoms 𝓤) (W : Given 𝓤 H A) (mem : Memory → SProp 𝓤) (run : Routine → Fun 𝓤) where
-  view-of-walks : (C : Calls 𝓤 H) (Λ : Loops 𝓤 H) → FmC 𝓤 H (W .laws) C → Triple 𝓤 (C #partition·marks·checked-part) (Part 𝓤 H A mem run) → Triple 𝓤 (C #partition·view·regions-between) (Count 𝓤 H A mem run)
+  view-of-walks : (C : Calls 𝓤 H) (Λ : Loops 𝓤 H) → FmC 𝓤 H (W .laws) C → Triple 𝓤 (C #partition·marks·checked-part) (Part 𝓤 H A mem run) → Triple 𝓤 (C #partition·marks·regions-between) (Count 𝓤 H A mem run)
       → Walks 𝓤 H A view-of.ended stayed (WpFn 𝓤 H C Λ code.function) (view-of.clauses 𝓤 H A mem run)
   view-of-walks C Λ fm known-part known-count = walked 𝓤 H A view-of.ended stayed (view-of.clauses 𝓤 H A mem run) (WpFn 𝓤 H C Λ code.function)
       (λ κs. (uint-vals w64, (uint-vals w64, (slice-vals, (uint-vals w64, tt))))) (λ κs. (uint-tells w64, (uint-tells w64, (shr-slice-tells (named 0) (κs .0) i32, (uint-tells w64, tt)))))
@@ -152,7 +137,7 @@ module _ {M : Type 1} (𝓤 : URA M) (H : Heap 𝓤) (A : Atoms 𝓤) (W : Given
       (record { d = a .0; b = a .1 .0; marks = a .1 .1 .0; j = a .1 .1 .1 .0; d-fits = are .0 .1; b-fits = are .1 .0 .1; j-fits = are .1 .1 .1 .0 .1 }) C Λ fm known-part known-count (are .1 .1 .0)))
 
 view-of-meets : {M : Type 1} (𝓤 : URA M) (H : Heap 𝓤) (A : Atoms 𝓤) (W : Given 𝓤 H A) (mem : Memory → SProp 𝓤) (run : Routine → Fun 𝓤) (𝓣 : Tables 𝓤 H)
-    → Triple 𝓤 (𝓣 .C #partition·marks·checked-part) (Part 𝓤 H A mem run) → Triple 𝓤 (𝓣 .C #partition·view·regions-between) (Count 𝓤 H A mem run)
+    → Triple 𝓤 (𝓣 .C #partition·marks·checked-part) (Part 𝓤 H A mem run) → Triple 𝓤 (𝓣 .C #partition·marks·regions-between) (Count 𝓤 H A mem run)
     → Meets 𝓤 H A view-of.signature (WpFn 𝓤 H (𝓣 .C) (𝓣 .Λ) code.function) (view-of.spec 𝓤 H A mem run)
 view-of-meets 𝓤 H A W mem run 𝓣 known-part known-count = walk-meets 𝓤 H A view-of.ended stayed W
     (goes-none 𝓤 H A W 1 (λ _. usize) yes (λ κs x f. refl), (goes-none 𝓤 H A W 1 (λ _. usize) yes (λ κs x f. refl), (goes-none-slice 𝓤 H A W 1 (0 ∷ []) tt (plain (λ _. i32)) yes, (goes-none 𝓤 H A W 1 (λ _. usize) yes (λ κs x f. refl), tt))))
@@ -165,4 +150,4 @@ view-of-spec 𝓤 H 𝓜 𝓖 𝓡 =
     (tables 𝓤 H 𝓜 𝓡 code.env .C) (tables 𝓤 H 𝓜 𝓡 code.env .Λ) #partition·view·view-of code.function (code.unfolded 𝓤 H 𝓜 𝓡)
     (view-of-meets 𝓤 H (𝓖 .A) (givenOf 𝓤 H 𝓜 𝓖) (𝓜 .mem) (𝓡 .run) (tablesOf 𝓤 H 𝓜 (tables 𝓤 H 𝓜 𝓡 code.env))
     (cited 𝓤 H (Part 𝓤 H (𝓖 .A) (𝓜 .mem) (𝓡 .run)) 𝓜 𝓡 code.env #partition·marks·checked-part part-def.routine code.calls-partition·marks·checked-part (part-thm.met 𝓤 H 𝓜 𝓖 𝓡))
-    (cited 𝓤 H (Count 𝓤 H (𝓖 .A) (𝓜 .mem) (𝓡 .run)) 𝓜 𝓡 code.env #partition·view·regions-between count-def.routine code.calls-partition·view·regions-between (count-thm.met 𝓤 H 𝓜 𝓖 𝓡)))
+    (cited 𝓤 H (Count 𝓤 H (𝓖 .A) (𝓜 .mem) (𝓡 .run)) 𝓜 𝓡 code.env #partition·marks·regions-between count-def.routine code.calls-partition·marks·regions-between (count-thm.met 𝓤 H 𝓜 𝓖 𝓡)))
