@@ -9,14 +9,17 @@ ghost use Rattle.whole.specs.Components.{areComponents};
 pub fn are_components(s: &[i32]) -> bool
     ensures { λ r. ⌜ r ≡ areComponents (now (s .entry)) ⌝ }
 {
+    let mut all = true;
     let mut i = 0;
     while i < s.len() {
-        if !is_component(s[i]) {
-            return false;
+        if is_component(s[i]) {
+            i += 1;
+        } else {
+            all = false;
+            i += 1;
         }
-        i += 1;
     }
-    true
+    all
 }
 
 // Whether a number is one.
