@@ -1,5 +1,5 @@
 -- `scan` meets its contract: a walk of its MIR, by hand. Two local arrays are lent to `arrays::scan`, come back, and are lent to `fill` beside the entries.
--- Of each callee the proof knows the contract alone. Assumes nothing.
+-- Of each callee the proof knows the contract alone. In the notes on the context, [x] is the token of x's lifetime. Assumes nothing.
 use mathlib.Core.Path.{_≡_, refl, ap, _∙_}
 use Prim.Native.Nat.{ℕ, _≤_, _<_, _^_}
 use mathlib.Core.List.{List, [], _∷_}
@@ -198,7 +198,7 @@ module _ {M : Type 1} (𝓤 : URA M) (H : Heap 𝓤) (A : Atoms 𝓤) (W : Given
         move ! (42 ∷ []) $ split ! $ move ! (1 ∷ []) $ split ! $ move ! (1 ∷ []) $ split ! $ move ! (1 ∷ []) $ drop ! $ nothing ! $ nothing ! $
         owned ! usize (Is usize) (uint-makes 𝓤 H A W w64) (length (now entries)) _ (refl, room-entries .0) $ move ! (48 ∷ 49 ∷ 50 ∷ 51 ∷ 52 ∷ 0 ∷ 8 ∷ 6 ∷ 2 ∷ []) $ group ! 9 $
         move ! (4 ∷ 3 ∷ 8 ∷ 7 ∷ 1 ∷ []) $ group ! 5 $ join ! $ use1 W (raw (Core 𝓤 H A mem run .pre (to l₇ l₈ γ₁ γ₂ α₁ α₂))) (asked l₇ l₈ γ₁ γ₂ α₁ α₂) $
-        -- [pre; [entries]; lent distances; lent numbers; own entries; nil₀; the locals]
+        -- [pre; [entries]; lent distances; lent numbers; own entries; true; the locals]
         calls-at ! fm (Core 𝓤 H A mem run) known-core (to l₇ l₈ γ₁ γ₂ α₁ α₂) (and-then ! (load ! (from ! (stop !)) (look ! 36 refl)) (and-then ! (load ! (from ! (stop !)) (look ! 34 refl)) (and-then ! (load ! (from ! (stop !)) (look ! 32 refl)) (and-then ! (load ! (from ! (stop !)) (look ! 30 refl)) (and-then ! (load ! (from ! (stop !)) (look ! 28 refl)) (and-then ! (load ! (from ! (stop !)) (look ! 18 refl)) (and-then ! (load ! (from ! (stop !)) (look ! 16 refl)) (and-then ! (load ! (from ! (stop !)) (look ! 14 refl)) (no-more !))))))))) (λ u.
         use1 W (later (some (λ (r : Answer). (Tokens α₁ α₂ ⊛ ‵ (Row .own r (u ∷ []))) ⊛ some (λ (ws : Lasts core.ended (lfts l₇ l₈ γ₁ γ₂ α₁ α₂) (given l₇ l₈ γ₁ γ₂ α₁ α₂)). ‵ (lasts core.ended (lfts l₇ l₈ γ₁ γ₂ α₁ α₂) (given l₇ l₈ γ₁ γ₂ α₁ α₂) ws) ⊛ raw (fact 𝓤 (Told r (ws .1 .1 .1 .1 .1 .1 .0) (ws .1 .1 .1 .1 .1 .1 .1 .0))))))) (id⊢ 𝓤 _) $
         await ! tt $ pick ! (λ r. split ! $ move ! (1 ∷ []) $ pick ! (λ ws. split ! $ move ! (1 ∷ []) $
@@ -225,7 +225,7 @@ module _ {M : Type 1} (𝓤 : URA M) (H : Heap 𝓤) (A : Atoms 𝓤) (W : Given
         lent-shr ! tt Distances (β₂ ∷ []) (ws .1 .1 .1 .1 .1 .1 .1 .0) l₈ (λ δ₂.
         nothing ! $ nothing ! $ move ! (49 ∷ 4 ∷ 2 ∷ 8 ∷ 1 ∷ []) $ group ! 5 $ move ! (9 ∷ 5 ∷ 4 ∷ 1 ∷ []) $ group ! 4 $ join ! $
         use1 W (raw (Fill 𝓤 H A mem run .pre (to-fill κ-entries q-entries entries l₇ l₈ δ₁ δ₂ β₁ β₂ (ws .1 .1 .1 .1 .1 .1 .0) (ws .1 .1 .1 .1 .1 .1 .1 .0) c u₂ 𝓤 H A mem run))) (asked-fill κ-entries q-entries entries l₇ l₈ δ₁ δ₂ β₁ β₂ (ws .1 .1 .1 .1 .1 .1 .0) (ws .1 .1 .1 .1 .1 .1 .1 .0) c u₂ 𝓤 H A mem run W (room-for r (ws .1 .1 .1 .1 .1 .1 .0) (ws .1 .1 .1 .1 .1 .1 .1 .0) c e e₂)) $
-        -- [pre; lent distances; lent numbers; own r; [vectors]; [query]; nil₀; the locals]
+        -- [pre; lent distances; lent numbers; own r; [vectors]; [query]; true; the locals]
         calls-at ! fm (Fill 𝓤 H A mem run) known-fill (to-fill κ-entries q-entries entries l₇ l₈ δ₁ δ₂ β₁ β₂ (ws .1 .1 .1 .1 .1 .1 .0) (ws .1 .1 .1 .1 .1 .1 .1 .0) c u₂ 𝓤 H A mem run) (and-then ! (load ! (from ! (stop !)) (look ! 10 refl)) (and-then ! (load ! (from ! (stop !)) (look ! 8 refl)) (and-then ! (load ! (from ! (stop !)) (look ! 6 refl)) (and-then ! (load ! (from ! (stop !)) (look ! 22 refl)) (no-more !))))) (λ u₃.
         use1 W (later (some (λ (z : Unit {0}). (TokensFill 𝓤 κ-entries q-entries β₁ β₂ ⊛ ‵ (unit .own z (u₃ ∷ []))) ⊛ some (λ (zs : Lasts fill.ended (lfts-fill κ-entries q-entries entries l₇ l₈ δ₁ δ₂ β₁ β₂ (ws .1 .1 .1 .1 .1 .1 .0) (ws .1 .1 .1 .1 .1 .1 .1 .0) c u₂) (given-fill κ-entries q-entries entries l₇ l₈ δ₁ δ₂ β₁ β₂ (ws .1 .1 .1 .1 .1 .1 .0) (ws .1 .1 .1 .1 .1 .1 .1 .0) c u₂)). ‵ (lasts fill.ended (lfts-fill κ-entries q-entries entries l₇ l₈ δ₁ δ₂ β₁ β₂ (ws .1 .1 .1 .1 .1 .1 .0) (ws .1 .1 .1 .1 .1 .1 .1 .0) c u₂) (given-fill κ-entries q-entries entries l₇ l₈ δ₁ δ₂ β₁ β₂ (ws .1 .1 .1 .1 .1 .1 .0) (ws .1 .1 .1 .1 .1 .1 .1 .0) c u₂) zs) ⊛ raw (fact 𝓤 (zs .0 ≡ filled (ws .1 .1 .1 .1 .1 .1 .0) (ws .1 .1 .1 .1 .1 .1 .1 .0) (now entries) c)))))) (id⊢ 𝓤 _) $
         await ! tt $ pick ! (λ z. split ! $ move ! (1 ∷ []) $ pick ! (λ zs. split ! $ move ! (1 ∷ []) $

@@ -1,5 +1,5 @@
 -- `search` meets its contract: a walk of its MIR, by hand. Two local arrays are lent to `arrays::search`, come back, and are lent to `fill` beside the entries.
--- Of each callee the proof knows the contract alone. Assumes nothing.
+-- Of each callee the proof knows the contract alone. In the notes on the context, [x] is the token of x's lifetime. Assumes nothing.
 use mathlib.Core.Path.{_≡_, refl, ap, _∙_}
 use Prim.Native.Nat.{ℕ, _≤_, _<_, _^_}
 use mathlib.Core.List.{List, [], _∷_}
@@ -208,7 +208,7 @@ module _ {M : Type 1} (𝓤 : URA M) (H : Heap 𝓤) (A : Atoms 𝓤) (W : Given
         move ! (1 ∷ []) $ drop ! $ nothing ! $ nothing ! $ owned ! usize (Is usize) (uint-makes 𝓤 H A W w64) (length (now entries)) _ (refl, room-entries .0) $
         move ! (63 ∷ 64 ∷ 65 ∷ 66 ∷ 67 ∷ 68 ∷ 69 ∷ 70 ∷ 0 ∷ 11 ∷ 9 ∷ 72 ∷ 2 ∷ []) $ group ! 13 $ move ! (7 ∷ 6 ∷ 5 ∷ 4 ∷ 11 ∷ 10 ∷ 2 ∷ 1 ∷ []) $ group ! 8 $ join ! $
         use1 W (raw (Core 𝓤 H A mem run .pre (to l₁₁ l₁₂ γ₁ γ₂ α₁ α₂))) (asked l₁₁ l₁₂ γ₁ γ₂ α₁ α₂) $
-        -- [pre; [entries]; lent distances; lent numbers; own entries; nil₀; the locals]
+        -- [pre; [entries]; lent distances; lent numbers; own entries; true; the locals]
         calls-at ! fm (Core 𝓤 H A mem run) known-core (to l₁₁ l₁₂ γ₁ γ₂ α₁ α₂) (and-then ! (load ! (from ! (stop !)) (look ! 48 refl)) (and-then ! (load ! (from ! (stop !)) (look ! 46 refl)) (and-then ! (load ! (from ! (stop !)) (look ! 44 refl)) (and-then ! (load ! (from ! (stop !)) (look ! 42 refl)) (and-then ! (load ! (from ! (stop !)) (look ! 40 refl)) (and-then ! (load ! (from ! (stop !)) (look ! 38 refl)) (and-then ! (load ! (from ! (stop !)) (look ! 36 refl)) (and-then ! (load ! (from ! (stop !)) (look ! 34 refl)) (and-then ! (load ! (from ! (stop !)) (look ! 22 refl)) (and-then ! (load ! (from ! (stop !)) (look ! 20 refl)) (and-then ! (load ! (from ! (stop !)) (look ! 18 refl)) (and-then ! (load ! (from ! (stop !)) (look ! 14 refl)) (no-more !))))))))))))) (λ u.
         use1 W (later (some (λ (r : Answer). (Tokens α₁ α₂ ⊛ ‵ (Row .own r (u ∷ []))) ⊛ some (λ (ws : Lasts core.ended (lfts l₁₁ l₁₂ γ₁ γ₂ α₁ α₂) (given l₁₁ l₁₂ γ₁ γ₂ α₁ α₂)). ‵ (lasts core.ended (lfts l₁₁ l₁₂ γ₁ γ₂ α₁ α₂) (given l₁₁ l₁₂ γ₁ γ₂ α₁ α₂) ws) ⊛ raw (fact 𝓤 (Told r (ws .1 .1 .1 .1 .1 .1 .1 .1 .1 .0) (ws .1 .1 .1 .1 .1 .1 .1 .1 .1 .1 .0) (ws .1 .1 .1 .1 .1 .1 .1 .1 .1 .1 .1 .0))))))) (id⊢ 𝓤 _) $
         await ! tt $ pick ! (λ r. split ! $ move ! (1 ∷ []) $ pick ! (λ ws. split ! $ move ! (1 ∷ []) $
@@ -236,7 +236,7 @@ module _ {M : Type 1} (𝓤 : URA M) (H : Heap 𝓤) (A : Atoms 𝓤) (W : Given
         lent-shr ! tt Distances (β₂ ∷ []) (ws .1 .1 .1 .1 .1 .1 .1 .1 .1 .1 .0) l₁₂ (λ δ₂.
         nothing ! $ nothing ! $ move ! (65 ∷ 4 ∷ 2 ∷ 8 ∷ 1 ∷ []) $ group ! 5 $ move ! (13 ∷ 5 ∷ 4 ∷ 1 ∷ []) $ group ! 4 $ join ! $
         use1 W (raw (Fill 𝓤 H A mem run .pre (to-fill κ-entries q-entries entries l₁₁ l₁₂ δ₁ δ₂ β₁ β₂ (ws .1 .1 .1 .1 .1 .1 .1 .1 .1 .0) (ws .1 .1 .1 .1 .1 .1 .1 .1 .1 .1 .0) c u₂ 𝓤 H A mem run))) (asked-fill κ-entries q-entries entries l₁₁ l₁₂ δ₁ δ₂ β₁ β₂ (ws .1 .1 .1 .1 .1 .1 .1 .1 .1 .0) (ws .1 .1 .1 .1 .1 .1 .1 .1 .1 .1 .0) c u₂ 𝓤 H A mem run W (room-for r (ws .1 .1 .1 .1 .1 .1 .1 .1 .1 .0) (ws .1 .1 .1 .1 .1 .1 .1 .1 .1 .1 .0) (ws .1 .1 .1 .1 .1 .1 .1 .1 .1 .1 .1 .0) c e e₂)) $
-        -- [pre; lent distances; lent numbers; own r; [reads]; [vectors]; [codes]; [marks]; [query]; last reads; nil₀; the locals]
+        -- [pre; lent distances; lent numbers; own r; [reads]; [vectors]; [codes]; [marks]; [query]; last reads; true; the locals]
         calls-at ! fm (Fill 𝓤 H A mem run) known-fill (to-fill κ-entries q-entries entries l₁₁ l₁₂ δ₁ δ₂ β₁ β₂ (ws .1 .1 .1 .1 .1 .1 .1 .1 .1 .0) (ws .1 .1 .1 .1 .1 .1 .1 .1 .1 .1 .0) c u₂ 𝓤 H A mem run) (and-then ! (load ! (from ! (stop !)) (look ! 14 refl)) (and-then ! (load ! (from ! (stop !)) (look ! 12 refl)) (and-then ! (load ! (from ! (stop !)) (look ! 10 refl)) (and-then ! (load ! (from ! (stop !)) (look ! 30 refl)) (no-more !))))) (λ u₃.
         use1 W (later (some (λ (z : Unit {0}). (TokensFill 𝓤 κ-entries q-entries β₁ β₂ ⊛ ‵ (unit .own z (u₃ ∷ []))) ⊛ some (λ (zs : Lasts fill.ended (lfts-fill κ-entries q-entries entries l₁₁ l₁₂ δ₁ δ₂ β₁ β₂ (ws .1 .1 .1 .1 .1 .1 .1 .1 .1 .0) (ws .1 .1 .1 .1 .1 .1 .1 .1 .1 .1 .0) c u₂) (given-fill κ-entries q-entries entries l₁₁ l₁₂ δ₁ δ₂ β₁ β₂ (ws .1 .1 .1 .1 .1 .1 .1 .1 .1 .0) (ws .1 .1 .1 .1 .1 .1 .1 .1 .1 .1 .0) c u₂)). ‵ (lasts fill.ended (lfts-fill κ-entries q-entries entries l₁₁ l₁₂ δ₁ δ₂ β₁ β₂ (ws .1 .1 .1 .1 .1 .1 .1 .1 .1 .0) (ws .1 .1 .1 .1 .1 .1 .1 .1 .1 .1 .0) c u₂) (given-fill κ-entries q-entries entries l₁₁ l₁₂ δ₁ δ₂ β₁ β₂ (ws .1 .1 .1 .1 .1 .1 .1 .1 .1 .0) (ws .1 .1 .1 .1 .1 .1 .1 .1 .1 .1 .0) c u₂) zs) ⊛ raw (fact 𝓤 (zs .0 ≡ filled (ws .1 .1 .1 .1 .1 .1 .1 .1 .1 .0) (ws .1 .1 .1 .1 .1 .1 .1 .1 .1 .1 .0) (now entries) c)))))) (id⊢ 𝓤 _) $
         await ! tt $ pick ! (λ z. split ! $ move ! (1 ∷ []) $ pick ! (λ zs. split ! $ move ! (1 ∷ []) $
