@@ -1,5 +1,5 @@
 -- `scan` meets its contract: a walk of its MIR, by hand. Two local arrays are lent to `arrays::scan`, come back, and are lent to `fill` beside the entries.
--- Of each callee the proof knows the contract alone. Assumes nothing.
+-- Of each callee the proof knows the contract alone. In the notes on the context, [x] is the token of x's lifetime. Assumes nothing.
 use mathlib.Core.Path.{_≡_, refl, ap, _∙_}
 use Prim.Native.Nat.{ℕ, _≤_, _<_, _^_}
 use mathlib.Core.List.{List, [], _∷_}
@@ -19,16 +19,15 @@ use ghost.Atoms.{Atoms, sem}
 use contract.Lifetimes.{Lfts}
 use contract.Monad.{Fun, fact}
 use contract.Running.{givenOf, tables, tablesOf}
-use types.Kit.{Given, ‵, raw, _⊛_, some, later, ⋆, _$_, _∵_, !, qed, by, move, keep, drop, use1, split, join, pick, fsplit, fjoin, feqL, suffices, frame, await, done}
+use types.Kit.{Given, Item, ‵, raw, _⊛_, some, later, ⋆, _$_, _∵_, !, qed, by, move, keep, drop, use1, split, join, group, pick, fsplit, feqL, suffices, frame, await, done}
 use types.Part.{whole, sub, look-in, agg}
 use types.Tokens.{lft-new, lft-end, lent-back}
 use types.Run.{look, init, forget, stop, hop, fld, from, load, of-opd, addr, and-then, no-more, assigns, land, returns, enter, alloc1, alloc0, params1, pass1, pass0, free1, free0}
 use sound.WpLaws.{FmC, fmOf, WpFn-mono}
-use denote.RattleType.{RattleType, owns}
+use denote.RattleType.{RattleType}
 use denote.Laws.{Is, shows}
 use denote.Plain.{uint-makes, uint-vals, uint-tells, uint-lawful, nothing-lawful}
-use denote.Builtin.{u32, u64, i32, usize, unit}
-use denote.Array.{Array}
+use denote.Builtin.{i32, usize, unit}
 use denote.Ref.{RefT, now, name, ptr-vals}
 use denote.Slice.{sliceVal, MutSlice, ShrSlice, Room, finally, slice-vals, mut-slice-tells, shr-slice-tells}
 use denote.Signature.{plain, shrSliceOf}
@@ -55,7 +54,7 @@ use Rattle.nearest.specs.Entries.{entriesOf, filled}
 use Rattle.nearest.specs.Finding.{Stands}
 use Rattle.nearest.specs.Filled.{outcome-filled, outcome-room}
 use Rattle.nearest.proofs.Local.{zeros, blank, blank-typed, lies, lent-mut, back-mut, lent-shr, room-again}
-use Rattle.nearest.proofs.Entry as S
+use Rattle.nearest.proofs.ToFill.{R, Numbers, Distances, Fill, lfts-fill, given-fill, to-fill, TokensFill, asked-fill}
 use Rattle.nearest.proofs.arrays.scan as core
 use Rattle.nearest.proofs.arrays.scan.Symbol as core-def
 use Rattle.nearest.proofs.arrays.scan.Symbol.{name as #core}
@@ -73,20 +72,11 @@ use Rattle.nearest.proofs.scan as face
 use Rattle.nearest.proofs.scan.Statement as stated
 use Rattle.nearest.proofs.scan.Code as code
 
-abbrev R : RattleType
-R = S.the-row
-
 abbrev Answer : Type 0
 Answer = Verdict
 
 abbrev Row : RattleType
 Row = Ans.the-row
-
-abbrev Numbers : RattleType
-Numbers = Array u32 maxVectors
-
-abbrev Distances : RattleType
-Distances = Array u64 maxVectors
 
 abbrev stayed : Stays (face.ended .signature .params) (face.ended .kept)
 stayed = (stay-dropped (plain (λ _. usize)) yes, (stay-dropped (plain (λ _. usize)) yes, (stay-dropped (plain (λ _. usize)) yes, (stay-dropped (shrSliceOf (0 ∷ []) tt (plain (λ _. i32))) yes, (stay-dropped (shrSliceOf (1 ∷ []) tt (plain (λ _. i32))) yes, (gave-slice (2 ∷ []) tt (plain (λ _. R)), tt))))))
@@ -98,9 +88,6 @@ module _ {M : Type 1} (𝓤 : URA M) (H : Heap 𝓤) (A : Atoms 𝓤) (mem : Mem
 
   abbrev Count : Contract 𝓤
   Count = tripleOf 𝓤 H A count.signature (count.spec 𝓤 H A mem run)
-
-  abbrev Fill : Contract 𝓤
-  Fill = tripleOf 𝓤 H A fill.signature (fill.spec 𝓤 H A mem run)
 
 module _ {M : Type 1} (𝓤 : URA M) (H : Heap 𝓤) (A : Atoms 𝓤) (W : Given 𝓤 H A) (mem : Memory → SProp 𝓤) (run : Routine → Fun 𝓤) (κ-query κ-vectors κ-entries : Lft) (q-query q-vectors q-entries : Share) (d : ℕ) (n : ℕ) (k : ℕ) (query : RefT (List ℤ)) (vectors : RefT (List ℤ)) (entries : RefT (List Entry)) where
   -- the parameters' machine values
@@ -144,25 +131,13 @@ module _ {M : Type 1} (𝓤 : URA M) (H : Heap 𝓤) (A : Atoms 𝓤) (W : Given
   exits r u zs size claim =
       qed W (‵ (finally R (name entries) zs) ∷ ‵ (Row .own r (u ∷ [])) ∷ ‵ (flft κ-query q-query) ∷ ‵ (flft κ-vectors q-vectors) ∷ ‵ (flft κ-entries q-entries) ∷ []) ∵
       suffices ! _ (ends-at 𝓤 H A face.ended stayed (face.clauses 𝓤 H A mem run) W bound u r (tt, (tt, (tt, (tt, (tt, (zs, tt)))))) (tt, (tt, (tt, (tt, (tt, (size, tt))))))) $ says ! claim $
-      nothing ! $
-      move ! (5 ∷ 0 ∷ []) $
-      join ! $
-      move ! (4 ∷ 0 ∷ []) $
-      join ! $
-      move ! (3 ∷ 0 ∷ []) $
-      join ! $
-      frame ! $
-      nothing ! $
-      move ! (1 ∷ 0 ∷ []) $
-      fjoin ! $
-      nothing ! $ fjoin ! $
-      nothing ! $ fjoin ! $
-      nothing ! $ fjoin ! $
-      nothing ! $ fjoin ! $
-      nothing ! $ fjoin ! $
-      frame ! $ done !
+      nothing ! $ move ! (3 ∷ 4 ∷ 5 ∷ 0 ∷ []) $ group ! 4 $ frame ! $ nothing ! $ nothing ! $ nothing ! $ nothing ! $ nothing ! $ nothing ! $
+      move ! (5 ∷ 4 ∷ 3 ∷ 2 ∷ 1 ∷ 6 ∷ 0 ∷ []) $ group ! 7 $ frame ! $ done !
 
-  -- ---- what each callee is passed
+  -- ---- what each callee is passed, and the tokens that come back
+  abbrev Tokens : ℕ → ℕ → Item 𝓤
+  Tokens α₁ α₂ = ‵ (flft κ-query q-query) ⊛ (‵ (flft κ-vectors q-vectors) ⊛ (‵ (flft (α₁ ∷ []) fullShare) ⊛ (‵ (flft (α₂ ∷ []) fullShare) ⊛ ‵ ftrue)))
+
   module _ (l₁ l₂ : ℕ) (γ₁ γ₂ : GName) (α₁ α₂ : ℕ) where
     abbrev ns : RefT (List ℕ)
     ns = record { ptr = (l₁, 0); name = γ₁; now = zeros maxVectors }
@@ -195,22 +170,6 @@ module _ {M : Type 1} (𝓤 : URA M) (H : Heap 𝓤) (A : Atoms 𝓤) (W : Given
   said-count : (r : Answer) (c : ℕ) → ent 𝓤 (ensured 𝓤 H A count.ended (count.clauses 𝓤 H A mem run) tt (r, (k, tt)) tt c) (fact 𝓤 (c ≡ Counted r))
   said-count r c = exE 𝓤 _ (λ ws. snd∗ 𝓤 (sem 𝓤 H A (lasts count.ended tt (r, (k, tt)) ws)) (fact 𝓤 (c ≡ Counted r)))
 
-  module _ (l₁ l₂ : ℕ) (δ₁ δ₂ : GName) (β₁ β₂ : ℕ) (ns′ ds′ : List ℕ) (c : ℕ) (u : Val) where
-    abbrev lfts-fill : Lfts (fill.signature .lifetimes)
-    lfts-fill = (κ-entries, (β₁ ∷ [], (β₂ ∷ [], tt)))
-
-    abbrev given-fill : Args fill.signature lfts-fill
-    given-fill = (entries, (record { ptr = (l₁, 0); name = δ₁; now = ns′ }, (record { ptr = (l₂, 0); name = δ₂; now = ds′ }, (c, tt))))
-
-    abbrev passed-fill : Vals fill.signature lfts-fill
-    passed-fill = (slice-vals entries, (ptr-vals (given-fill .1 .0), (ptr-vals (given-fill .1 .1 .0), (u ∷ [], tt))))
-
-    abbrev to-fill : Fill 𝓤 H A mem run .Ghost
-    to-fill = ((lfts-fill, (q-entries, (fullShare, (fullShare, tt))), tt, given-fill, passed-fill), tt)
-
-    asked-fill : (c ≤ length (now entries)) × (c ≤ maxVectors) → ent 𝓤 (onEntry 𝓤 H A fill.signature lfts-fill (q-entries, (fullShare, (fullShare, tt))) given-fill passed-fill) (Fill 𝓤 H A mem run .pre to-fill)
-    asked-fill room = qed W (raw (onEntry 𝓤 H A fill.signature lfts-fill (q-entries, (fullShare, (fullShare, tt))) given-fill passed-fill) ∷ []) ∵ says ! room $ done !
-
   typed : (r : Answer) (u : Val) → Is Row r (u ∷ []) → T (hasTy Ans′.mir u) × WT u
   typed r u is = EL.lawful Ans.the-type Ans′.the-laws 𝓤 H A W tt .typed r _ is .0
 
@@ -220,257 +179,65 @@ module _ {M : Type 1} (𝓤 : URA M) (H : Heap 𝓤) (A : Atoms 𝓤) (W : Given
 
     walk : ent 𝓤 (onEntry 𝓤 H A face.signature (κ-query, (κ-vectors, (κ-entries, tt))) (q-query, (q-vectors, (q-entries, tt))) (d, (n, (k, (query, (vectors, (entries, tt)))))) at) (WpFn 𝓤 H (𝓣 .C) (𝓣 .Λ) code.function (vint w64 d ∷ vint w64 n ∷ vint w64 k ∷ sliceVal (query .ptr) (length (now query)) ∷ sliceVal (vectors .ptr) (length (now vectors)) ∷ sliceVal (entries .ptr) (length (now entries)) ∷ []) Post)
     walk =
-        qed W ((‵ (flft κ-query q-query) ⊛ (‵ (flft κ-vectors q-vectors) ⊛ (‵ (flft κ-entries q-entries) ⊛ ‵ ftrue))) ∷ ‵ (owns (usize ∷ usize ∷ usize ∷ ShrSlice (named 0) κ-query i32 ∷ ShrSlice (named 1) κ-vectors i32 ∷ MutSlice (named 2) κ-entries R ∷ []) (d, (n, (k, (query, (vectors, (entries, tt)))))) at) ∷ []) ∵ enter ! (𝓣 .C) (𝓣 .Λ) code.function (vint w64 d ∷ vint w64 n ∷ vint w64 k ∷ sliceVal (query .ptr) (length (now query)) ∷ sliceVal (vectors .ptr) (length (now vectors)) ∷ sliceVal (entries .ptr) (length (now entries)) ∷ []) _ $
-        alloc1 ! (λ l₀.
-        alloc1 ! (λ l₁.
-        alloc1 ! (λ l₂.
-        alloc1 ! (λ l₃.
-        alloc1 ! (λ l₄.
-        alloc1 ! (λ l₅.
-        alloc1 ! (λ l₆.
-        alloc1 ! (λ l₇.
-        alloc1 ! (λ l₈.
-        alloc1 ! (λ l₉.
-        alloc1 ! (λ l₁₀.
-        alloc1 ! (λ l₁₁.
-        alloc1 ! (λ l₁₂.
-        alloc1 ! (λ l₁₃.
-        alloc1 ! (λ l₁₄.
-        alloc1 ! (λ l₁₅.
-        alloc1 ! (λ l₁₆.
-        alloc1 ! (λ l₁₇.
-        alloc1 ! (λ l₁₈.
-        alloc0 ! $ params1 ! $
-        pass1 ! (init ! 34 refl (tt, record { fits = fits-d })) $
-        pass1 ! (init ! 32 refl (tt, record { fits = fits-n })) $
-        pass1 ! (init ! 30 refl (tt, record { fits = fits-k })) $
-        pass1 ! (init ! 28 refl (tt, (tt, (record { fits = room-query .0 }, tt)))) $
-        pass1 ! (init ! 26 refl (tt, (tt, (record { fits = room-vectors .0 }, tt)))) $
-        pass1 ! (init ! 24 refl (tt, (tt, (record { fits = room-entries .0 }, tt)))) $
-        pass0 ! $
-        assigns ! (blank ! w32 maxVectors) (from ! (stop !)) (init ! 22 refl (blank-typed W w32 maxVectors)) $
-        move ! (22 ∷ []) $
-        lies ! w32 maxVectors l₇ $
-        assigns ! (blank ! w64 maxVectors) (from ! (stop !)) (init ! 21 refl (blank-typed W w64 maxVectors)) $
-        move ! (21 ∷ []) $
-        lies ! w64 maxVectors l₈ $
+        qed W ((‵ (flft κ-query q-query) ⊛ (‵ (flft κ-vectors q-vectors) ⊛ (‵ (flft κ-entries q-entries) ⊛ ‵ ftrue))) ∷ ‵ (usize .own d (vint w64 d ∷ [])) ∷ ‵ (usize .own n (vint w64 n ∷ [])) ∷ ‵ (usize .own k (vint w64 k ∷ [])) ∷ ‵ (ShrSlice (named 0) κ-query i32 .own query (slice-vals query)) ∷ ‵ (ShrSlice (named 1) κ-vectors i32 .own vectors (slice-vals vectors)) ∷ ‵ (MutSlice (named 2) κ-entries R .own entries (slice-vals entries)) ∷ ‵ ftrue ∷ []) ∵
+        enter ! (𝓣 .C) (𝓣 .Λ) code.function (vint w64 d ∷ vint w64 n ∷ vint w64 k ∷ sliceVal (query .ptr) (length (now query)) ∷ sliceVal (vectors .ptr) (length (now vectors)) ∷ sliceVal (entries .ptr) (length (now entries)) ∷ []) _ $
+        alloc1 ! (λ l₀. alloc1 ! (λ l₁. alloc1 ! (λ l₂. alloc1 ! (λ l₃. alloc1 ! (λ l₄. alloc1 ! (λ l₅. alloc1 ! (λ l₆. alloc1 ! (λ l₇. alloc1 ! (λ l₈. alloc1 ! (λ l₉.
+        alloc1 ! (λ l₁₀. alloc1 ! (λ l₁₁. alloc1 ! (λ l₁₂. alloc1 ! (λ l₁₃. alloc1 ! (λ l₁₄. alloc1 ! (λ l₁₅. alloc1 ! (λ l₁₆. alloc1 ! (λ l₁₇. alloc1 ! (λ l₁₈.
+        alloc0 ! $ params1 ! $ pass1 ! (init ! 34 refl (tt, record { fits = fits-d })) $ pass1 ! (init ! 32 refl (tt, record { fits = fits-n })) $
+        pass1 ! (init ! 30 refl (tt, record { fits = fits-k })) $ pass1 ! (init ! 28 refl (tt, (tt, (record { fits = room-query .0 }, tt)))) $
+        pass1 ! (init ! 26 refl (tt, (tt, (record { fits = room-vectors .0 }, tt)))) $ pass1 ! (init ! 24 refl (tt, (tt, (record { fits = room-entries .0 }, tt)))) $ pass0 ! $
+        -- the arrays
+        assigns ! (blank ! w32 maxVectors) (from ! (stop !)) (init ! 22 refl (blank-typed W w32 maxVectors)) $ move ! (22 ∷ []) $ lies ! w32 maxVectors l₇ $
+        assigns ! (blank ! w64 maxVectors) (from ! (stop !)) (init ! 21 refl (blank-typed W w64 maxVectors)) $ move ! (21 ∷ []) $ lies ! w64 maxVectors l₈ $
+        -- what the core is passed
         assigns ! (of-opd ! (load ! (from ! (fld ! refl (stop !))) (look-in ! 24 (sub ! 1 refl (whole !))))) (from ! (stop !)) (init ! 16 refl (tt, record { fits = room-entries .0 })) $
-        assigns ! (addr ! (from ! (stop !))) (from ! (stop !)) (init ! 14 refl (tt, tt)) $
-        assigns ! (addr ! (from ! (stop !))) (from ! (stop !)) (init ! 12 refl (tt, tt)) $
-        lft-new ! tt (λ α₁.
-        lft-new ! tt (λ α₂.
-        move ! (3 ∷ []) $
-        lent-mut ! tt Numbers (α₁ ∷ []) (zeros maxVectors) l₇ (λ γ₁.
-        move ! (4 ∷ []) $
+        assigns ! (addr ! (from ! (stop !))) (from ! (stop !)) (init ! 14 refl (tt, tt)) $ assigns ! (addr ! (from ! (stop !))) (from ! (stop !)) (init ! 12 refl (tt, tt)) $
+        -- the arrays are lent, each for a lifetime of its own
+        lft-new ! tt (λ α₁. lft-new ! tt (λ α₂. move ! (3 ∷ []) $ lent-mut ! tt Numbers (α₁ ∷ []) (zeros maxVectors) l₇ (λ γ₁. move ! (4 ∷ []) $
         lent-mut ! tt Distances (α₂ ∷ []) (zeros maxVectors) l₈ (λ γ₂.
-        move ! (42 ∷ []) $
-        split ! $
-        move ! (1 ∷ []) $
-        split ! $
-        move ! (1 ∷ []) $
-        split ! $
-        move ! (1 ∷ []) $
-        drop ! $
-        move ! (45 ∷ []) $
-        fsplit ! $
-        move ! (1 ∷ []) $
-        fsplit ! $
-        move ! (1 ∷ []) $
-        fsplit ! $
-        move ! (1 ∷ []) $
-        fsplit ! $
-        move ! (1 ∷ []) $
-        fsplit ! $
-        move ! (1 ∷ []) $
-        fsplit ! $
-        move ! (1 ∷ []) $
-        drop ! $
-        move ! (5 ∷ []) $
-        drop ! $
-        move ! (4 ∷ []) $
-        drop ! $
-        move ! (3 ∷ []) $
-        drop ! $
-        nothing ! $
-        move ! (7 ∷ 0 ∷ []) $
-        fjoin ! $
-        move ! (8 ∷ 0 ∷ []) $
-        fjoin ! $
-        owned ! usize (Is usize) (uint-makes 𝓤 H A W w64) (length (now entries)) _ (refl, room-entries .0) $
-        fjoin ! $
-        move ! (2 ∷ 0 ∷ []) $
-        fjoin ! $
-        move ! (2 ∷ 0 ∷ []) $
-        fjoin ! $
-        owned ! usize (Is usize) (uint-makes 𝓤 H A W w64) k _ (refl, fits-k) $
-        fjoin ! $
-        owned ! usize (Is usize) (uint-makes 𝓤 H A W w64) n _ (refl, fits-n) $
-        fjoin ! $
-        owned ! usize (Is usize) (uint-makes 𝓤 H A W w64) d _ (refl, fits-d) $
-        fjoin ! $
-        nothing ! $
-        move ! (8 ∷ 0 ∷ []) $
-        join ! $
-        move ! (8 ∷ 0 ∷ []) $
-        join ! $
-        move ! (4 ∷ 0 ∷ []) $
-        join ! $
-        move ! (4 ∷ 0 ∷ []) $
-        join ! $
-        join ! $
-        use1 W (raw (Core 𝓤 H A mem run .pre (to l₇ l₈ γ₁ γ₂ α₁ α₂))) (asked l₇ l₈ γ₁ γ₂ α₁ α₂) $
-        -- [pre; o_entries; t_entries; lent2; lent1; _18; _17; _16; _15; _14; _13; _12; _11; _10; _9; _6; _5; _4; _3; _2; _1; _0]
-        calls-at ! fm (Core 𝓤 H A mem run) known-core (to l₇ l₈ γ₁ γ₂ α₁ α₂) (and-then ! (load ! (from ! (stop !)) (look ! 37 refl)) (and-then ! (load ! (from ! (stop !)) (look ! 35 refl)) (and-then ! (load ! (from ! (stop !)) (look ! 33 refl)) (and-then ! (load ! (from ! (stop !)) (look ! 31 refl)) (and-then ! (load ! (from ! (stop !)) (look ! 29 refl)) (and-then ! (load ! (from ! (stop !)) (look ! 19 refl)) (and-then ! (load ! (from ! (stop !)) (look ! 17 refl)) (and-then ! (load ! (from ! (stop !)) (look ! 15 refl)) (no-more !))))))))) (λ u.
-        use1 W (later (some (λ (r : Answer). ((‵ (flft κ-query q-query) ⊛ (‵ (flft κ-vectors q-vectors) ⊛ (‵ (flft (α₁ ∷ []) fullShare) ⊛ (‵ (flft (α₂ ∷ []) fullShare) ⊛ ‵ ftrue)))) ⊛ ‵ (Row .own r (u ∷ []))) ⊛ some (λ (ws : Lasts core.ended (lfts l₇ l₈ γ₁ γ₂ α₁ α₂) (given l₇ l₈ γ₁ γ₂ α₁ α₂)). ‵ (lasts core.ended (lfts l₇ l₈ γ₁ γ₂ α₁ α₂) (given l₇ l₈ γ₁ γ₂ α₁ α₂) ws) ⊛ raw (fact 𝓤 (Told r (ws .1 .1 .1 .1 .1 .1 .0) (ws .1 .1 .1 .1 .1 .1 .1 .0))))))) (id⊢ 𝓤 _) $
-        await ! tt $
-        pick ! (λ r.
-        split ! $
-        move ! (1 ∷ []) $
-        pick ! (λ ws.
-        split ! $
-        move ! (1 ∷ []) $
+        move ! (42 ∷ []) $ split ! $ move ! (1 ∷ []) $ split ! $ move ! (1 ∷ []) $ split ! $ move ! (1 ∷ []) $ drop ! $ nothing ! $ nothing ! $
+        owned ! usize (Is usize) (uint-makes 𝓤 H A W w64) (length (now entries)) _ (refl, room-entries .0) $ move ! (48 ∷ 49 ∷ 50 ∷ 51 ∷ 52 ∷ 0 ∷ 8 ∷ 6 ∷ 2 ∷ []) $ group ! 9 $
+        move ! (4 ∷ 3 ∷ 8 ∷ 7 ∷ 1 ∷ []) $ group ! 5 $ join ! $ use1 W (raw (Core 𝓤 H A mem run .pre (to l₇ l₈ γ₁ γ₂ α₁ α₂))) (asked l₇ l₈ γ₁ γ₂ α₁ α₂) $
+        -- [pre; [entries]; lent distances; lent numbers; own entries; true; the locals]
+        calls-at ! fm (Core 𝓤 H A mem run) known-core (to l₇ l₈ γ₁ γ₂ α₁ α₂) (and-then ! (load ! (from ! (stop !)) (look ! 36 refl)) (and-then ! (load ! (from ! (stop !)) (look ! 34 refl)) (and-then ! (load ! (from ! (stop !)) (look ! 32 refl)) (and-then ! (load ! (from ! (stop !)) (look ! 30 refl)) (and-then ! (load ! (from ! (stop !)) (look ! 28 refl)) (and-then ! (load ! (from ! (stop !)) (look ! 18 refl)) (and-then ! (load ! (from ! (stop !)) (look ! 16 refl)) (and-then ! (load ! (from ! (stop !)) (look ! 14 refl)) (no-more !))))))))) (λ u.
+        use1 W (later (some (λ (r : Answer). (Tokens α₁ α₂ ⊛ ‵ (Row .own r (u ∷ []))) ⊛ some (λ (ws : Lasts core.ended (lfts l₇ l₈ γ₁ γ₂ α₁ α₂) (given l₇ l₈ γ₁ γ₂ α₁ α₂)). ‵ (lasts core.ended (lfts l₇ l₈ γ₁ γ₂ α₁ α₂) (given l₇ l₈ γ₁ γ₂ α₁ α₂) ws) ⊛ raw (fact 𝓤 (Told r (ws .1 .1 .1 .1 .1 .1 .0) (ws .1 .1 .1 .1 .1 .1 .1 .0))))))) (id⊢ 𝓤 _) $
+        await ! tt $ pick ! (λ r. split ! $ move ! (1 ∷ []) $ pick ! (λ ws. split ! $ move ! (1 ∷ []) $
         heard ! (Told r (ws .1 .1 .1 .1 .1 .1 .0) (ws .1 .1 .1 .1 .1 .1 .1 .0)) (λ e.
-        fsplit ! $
-        move ! (1 ∷ []) $
-        fsplit ! $
-        move ! (1 ∷ []) $
-        fsplit ! $
-        move ! (1 ∷ []) $
-        fsplit ! $
-        move ! (1 ∷ []) $
-        fsplit ! $
-        move ! (1 ∷ []) $
-        fsplit ! $
-        move ! (1 ∷ []) $
-        fsplit ! $
-        move ! (1 ∷ []) $
-        fsplit ! $
-        move ! (1 ∷ []) $
-        drop ! $
-        move ! (7 ∷ []) $
-        drop ! $
-        move ! (6 ∷ []) $
-        drop ! $
-        move ! (5 ∷ []) $
-        drop ! $
-        move ! (4 ∷ []) $
-        drop ! $
-        move ! (3 ∷ []) $
-        drop ! $
-        move ! (2 ∷ []) $
-        drop ! $
-        move ! (2 ∷ []) $
-        split ! $
-        split ! $
-        move ! (1 ∷ []) $
-        split ! $
-        move ! (1 ∷ []) $
-        split ! $
-        move ! (1 ∷ []) $
-        split ! $
-        move ! (1 ∷ []) $
-        drop ! $
-        move ! (4 ∷ []) $
-        use1 W (‵ (Row .own r (u ∷ [])) ⊛ ‵ (Row .own r (u ∷ []))) (EL.copy Ans.the-type Ans′.the-copy 𝓤 H A W .twice r _) $
-        split ! $
-        peeks ! Row (Is Row) (shows 𝓤 H A Row) r (u ∷ []) (λ is.
-        land ! (from ! (stop !)) (init ! 30 refl (typed r u is)) $
-        move ! (3 ∷ []) $
-        lft-end ! tt $
-        move ! (0 ∷ 11 ∷ 7 ∷ []) $
-        back-mut ! tt Numbers (α₁ ∷ []) (ws .1 .1 .1 .1 .1 .1 .0) l₇ $
-        move ! (3 ∷ []) $
-        lft-end ! tt $
-        move ! (0 ∷ 9 ∷ 6 ∷ []) $
-        back-mut ! tt Distances (α₂ ∷ []) (ws .1 .1 .1 .1 .1 .1 .1 .0) l₈ $
-        nothing ! $
-        owned ! usize (Is usize) (uint-makes 𝓤 H A W w64) k _ (refl, fits-k) $
-        fjoin ! $
-        move ! (4 ∷ 0 ∷ []) $
-        fjoin ! $
-        nothing ! $
-        join ! $
+        fsplit ! $ drop ! $ fsplit ! $ drop ! $ fsplit ! $ drop ! $ fsplit ! $ drop ! $ fsplit ! $ drop ! $ fsplit ! $ drop ! $ fsplit ! $ move ! (1 ∷ []) $ fsplit ! $
+        move ! (1 ∷ []) $ drop ! $ move ! (2 ∷ []) $ split ! $ split ! $ move ! (1 ∷ []) $ split ! $ move ! (1 ∷ []) $ split ! $ move ! (1 ∷ []) $ split ! $ move ! (1 ∷ []) $
+        drop ! $ move ! (4 ∷ []) $ use1 W (‵ (Row .own r (u ∷ [])) ⊛ ‵ (Row .own r (u ∷ []))) (EL.copy Ans.the-type Ans′.the-copy 𝓤 H A W .twice r _) $ split ! $
+        peeks ! Row (Is Row) (shows 𝓤 H A Row) r (u ∷ []) (λ is. land ! (from ! (stop !)) (init ! 29 refl (typed r u is)) $
+        -- the arrays come back
+        move ! (3 ∷ []) $ lft-end ! tt $ move ! (0 ∷ 10 ∷ 7 ∷ []) $ back-mut ! tt Numbers (α₁ ∷ []) (ws .1 .1 .1 .1 .1 .1 .0) l₇ $ move ! (3 ∷ []) $ lft-end ! tt $
+        move ! (0 ∷ 8 ∷ 6 ∷ []) $ back-mut ! tt Distances (α₂ ∷ []) (ws .1 .1 .1 .1 .1 .1 .1 .0) l₈ $
+        -- how many entries there are to fill
+        nothing ! $ nothing ! $ owned ! usize (Is usize) (uint-makes 𝓤 H A W w64) k _ (refl, fits-k) $ move ! (6 ∷ 0 ∷ 2 ∷ []) $ group ! 3 $ move ! (1 ∷ []) $ join ! $
         use1 W (raw (Count 𝓤 H A mem run .pre (to-count r u))) (asked-count r u) $
-        calls-at ! fm (Count 𝓤 H A mem run) known-count (to-count r u) (and-then ! (load ! (from ! (stop !)) (look ! 26 refl)) (and-then ! (load ! (from ! (stop !)) (look ! 36 refl)) (no-more !))) (λ u₂.
+        calls-at ! fm (Count 𝓤 H A mem run) known-count (to-count r u) (and-then ! (load ! (from ! (stop !)) (look ! 25 refl)) (and-then ! (load ! (from ! (stop !)) (look ! 35 refl)) (no-more !))) (λ u₂.
         use1 W (later (some (λ (c : ℕ). (‵ ftrue ⊛ ‵ (usize .own c (u₂ ∷ []))) ⊛ raw (ensured 𝓤 H A count.ended (count.clauses 𝓤 H A mem run) tt (r, (k, tt)) tt c)))) (id⊢ 𝓤 _) $
-        await ! tt $
-        pick ! (λ c.
-        split ! $
-        move ! (1 ∷ []) $
-        use1 W (raw (fact 𝓤 (c ≡ Counted r))) (said-count r c) $
-        heard ! (c ≡ Counted r) (λ e₂.
-        split ! $
-        drop ! $
-        peeks ! usize (Is usize) (shows 𝓤 H A usize) c (u₂ ∷ []) (λ is₂.
-        land ! (from ! (stop !)) (init ! 24 refl (uint-lawful 𝓤 H A W w64 .typed c _ is₂ .0)) $
-        assigns ! (addr ! (from ! (fld ! refl (hop ! (look-in ! 30 (sub ! 0 refl (whole !))) (stop !))))) (from ! (stop !)) (init ! 14 refl (tt, tt)) $
-        assigns ! (agg ! (and-then ! (load ! (from ! (stop !)) (look ! 14 refl)) (and-then ! (load ! (from ! (fld ! refl (stop !))) (look-in ! 30 (sub ! 1 refl (whole !)))) (no-more !)))) (from ! (stop !)) (init ! 12 refl (tt, (tt, (record { fits = room-entries .0 }, tt)))) $
-        assigns ! (addr ! (from ! (stop !))) (from ! (stop !)) (init ! 10 refl (tt, tt)) $
-        assigns ! (addr ! (from ! (stop !))) (from ! (stop !)) (init ! 8 refl (tt, tt)) $
-        lft-new ! tt (λ β₁.
-        lft-new ! tt (λ β₂.
-        move ! (4 ∷ []) $
-        lent-shr ! tt Numbers (β₁ ∷ []) (ws .1 .1 .1 .1 .1 .1 .0) l₇ (λ δ₁.
-        move ! (5 ∷ []) $
+        await ! tt $ pick ! (λ c. split ! $ move ! (1 ∷ []) $ use1 W (raw (fact 𝓤 (c ≡ Counted r))) (said-count r c) $ heard ! (c ≡ Counted r) (λ e₂. split ! $ drop ! $
+        peeks ! usize (Is usize) (shows 𝓤 H A usize) c (u₂ ∷ []) (λ is₂. land ! (from ! (stop !)) (init ! 23 refl (uint-lawful 𝓤 H A W w64 .typed c _ is₂ .0)) $
+        -- the arrays are shared, and the entries filled from them
+        assigns ! (addr ! (from ! (fld ! refl (hop ! (look-in ! 29 (sub ! 0 refl (whole !))) (stop !))))) (from ! (stop !)) (init ! 13 refl (tt, tt)) $
+        assigns ! (agg ! (and-then ! (load ! (from ! (stop !)) (look ! 13 refl)) (and-then ! (load ! (from ! (fld ! refl (stop !))) (look-in ! 29 (sub ! 1 refl (whole !)))) (no-more !)))) (from ! (stop !)) (init ! 11 refl (tt, (tt, (record { fits = room-entries .0 }, tt)))) $
+        assigns ! (addr ! (from ! (stop !))) (from ! (stop !)) (init ! 9 refl (tt, tt)) $ assigns ! (addr ! (from ! (stop !))) (from ! (stop !)) (init ! 7 refl (tt, tt)) $
+        lft-new ! tt (λ β₁. lft-new ! tt (λ β₂. move ! (4 ∷ []) $ lent-shr ! tt Numbers (β₁ ∷ []) (ws .1 .1 .1 .1 .1 .1 .0) l₇ (λ δ₁. move ! (5 ∷ []) $
         lent-shr ! tt Distances (β₂ ∷ []) (ws .1 .1 .1 .1 .1 .1 .1 .0) l₈ (λ δ₂.
-        nothing ! $
-        move ! (7 ∷ 0 ∷ []) $
-        fjoin ! $
-        move ! (1 ∷ 0 ∷ []) $
-        fjoin ! $
-        move ! (2 ∷ 0 ∷ []) $
-        fjoin ! $
-        move ! (8 ∷ 0 ∷ []) $
-        fjoin ! $
-        nothing ! $
-        move ! (4 ∷ 0 ∷ []) $
-        join ! $
-        move ! (4 ∷ 0 ∷ []) $
-        join ! $
-        move ! (7 ∷ 0 ∷ []) $
-        join ! $
-        join ! $
-        use1 W (raw (Fill 𝓤 H A mem run .pre (to-fill l₇ l₈ δ₁ δ₂ β₁ β₂ (ws .1 .1 .1 .1 .1 .1 .0) (ws .1 .1 .1 .1 .1 .1 .1 .0) c u₂))) (asked-fill l₇ l₈ δ₁ δ₂ β₁ β₂ (ws .1 .1 .1 .1 .1 .1 .0) (ws .1 .1 .1 .1 .1 .1 .1 .0) c u₂ (room-for r (ws .1 .1 .1 .1 .1 .1 .0) (ws .1 .1 .1 .1 .1 .1 .1 .0) c e e₂)) $
-        calls-at ! fm (Fill 𝓤 H A mem run) known-fill (to-fill l₇ l₈ δ₁ δ₂ β₁ β₂ (ws .1 .1 .1 .1 .1 .1 .0) (ws .1 .1 .1 .1 .1 .1 .1 .0) c u₂) (and-then ! (load ! (from ! (stop !)) (look ! 10 refl)) (and-then ! (load ! (from ! (stop !)) (look ! 8 refl)) (and-then ! (load ! (from ! (stop !)) (look ! 6 refl)) (and-then ! (load ! (from ! (stop !)) (look ! 22 refl)) (no-more !))))) (λ u₃.
-        use1 W (later (some (λ (z : Unit {0}). ((‵ (flft κ-entries q-entries) ⊛ (‵ (flft (β₁ ∷ []) fullShare) ⊛ (‵ (flft (β₂ ∷ []) fullShare) ⊛ ‵ ftrue))) ⊛ ‵ (unit .own z (u₃ ∷ []))) ⊛ some (λ (zs : Lasts fill.ended (lfts-fill l₇ l₈ δ₁ δ₂ β₁ β₂ (ws .1 .1 .1 .1 .1 .1 .0) (ws .1 .1 .1 .1 .1 .1 .1 .0) c u₂) (given-fill l₇ l₈ δ₁ δ₂ β₁ β₂ (ws .1 .1 .1 .1 .1 .1 .0) (ws .1 .1 .1 .1 .1 .1 .1 .0) c u₂)). ‵ (lasts fill.ended (lfts-fill l₇ l₈ δ₁ δ₂ β₁ β₂ (ws .1 .1 .1 .1 .1 .1 .0) (ws .1 .1 .1 .1 .1 .1 .1 .0) c u₂) (given-fill l₇ l₈ δ₁ δ₂ β₁ β₂ (ws .1 .1 .1 .1 .1 .1 .0) (ws .1 .1 .1 .1 .1 .1 .1 .0) c u₂) zs) ⊛ raw (fact 𝓤 (zs .0 ≡ filled (ws .1 .1 .1 .1 .1 .1 .0) (ws .1 .1 .1 .1 .1 .1 .1 .0) (now entries) c)))))) (id⊢ 𝓤 _) $
-        await ! tt $
-        pick ! (λ z.
-        split ! $
-        move ! (1 ∷ []) $
-        pick ! (λ zs.
-        split ! $
-        move ! (1 ∷ []) $
+        nothing ! $ nothing ! $ move ! (49 ∷ 4 ∷ 2 ∷ 8 ∷ 1 ∷ []) $ group ! 5 $ move ! (9 ∷ 5 ∷ 4 ∷ 1 ∷ []) $ group ! 4 $ join ! $
+        use1 W (raw (Fill 𝓤 H A mem run .pre (to-fill κ-entries q-entries entries l₇ l₈ δ₁ δ₂ β₁ β₂ (ws .1 .1 .1 .1 .1 .1 .0) (ws .1 .1 .1 .1 .1 .1 .1 .0) c u₂ 𝓤 H A mem run))) (asked-fill κ-entries q-entries entries l₇ l₈ δ₁ δ₂ β₁ β₂ (ws .1 .1 .1 .1 .1 .1 .0) (ws .1 .1 .1 .1 .1 .1 .1 .0) c u₂ 𝓤 H A mem run W (room-for r (ws .1 .1 .1 .1 .1 .1 .0) (ws .1 .1 .1 .1 .1 .1 .1 .0) c e e₂)) $
+        -- [pre; lent distances; lent numbers; own r; [vectors]; [query]; true; the locals]
+        calls-at ! fm (Fill 𝓤 H A mem run) known-fill (to-fill κ-entries q-entries entries l₇ l₈ δ₁ δ₂ β₁ β₂ (ws .1 .1 .1 .1 .1 .1 .0) (ws .1 .1 .1 .1 .1 .1 .1 .0) c u₂ 𝓤 H A mem run) (and-then ! (load ! (from ! (stop !)) (look ! 10 refl)) (and-then ! (load ! (from ! (stop !)) (look ! 8 refl)) (and-then ! (load ! (from ! (stop !)) (look ! 6 refl)) (and-then ! (load ! (from ! (stop !)) (look ! 22 refl)) (no-more !))))) (λ u₃.
+        use1 W (later (some (λ (z : Unit {0}). (TokensFill 𝓤 κ-entries q-entries β₁ β₂ ⊛ ‵ (unit .own z (u₃ ∷ []))) ⊛ some (λ (zs : Lasts fill.ended (lfts-fill κ-entries q-entries entries l₇ l₈ δ₁ δ₂ β₁ β₂ (ws .1 .1 .1 .1 .1 .1 .0) (ws .1 .1 .1 .1 .1 .1 .1 .0) c u₂) (given-fill κ-entries q-entries entries l₇ l₈ δ₁ δ₂ β₁ β₂ (ws .1 .1 .1 .1 .1 .1 .0) (ws .1 .1 .1 .1 .1 .1 .1 .0) c u₂)). ‵ (lasts fill.ended (lfts-fill κ-entries q-entries entries l₇ l₈ δ₁ δ₂ β₁ β₂ (ws .1 .1 .1 .1 .1 .1 .0) (ws .1 .1 .1 .1 .1 .1 .1 .0) c u₂) (given-fill κ-entries q-entries entries l₇ l₈ δ₁ δ₂ β₁ β₂ (ws .1 .1 .1 .1 .1 .1 .0) (ws .1 .1 .1 .1 .1 .1 .1 .0) c u₂) zs) ⊛ raw (fact 𝓤 (zs .0 ≡ filled (ws .1 .1 .1 .1 .1 .1 .0) (ws .1 .1 .1 .1 .1 .1 .1 .0) (now entries) c)))))) (id⊢ 𝓤 _) $
+        await ! tt $ pick ! (λ z. split ! $ move ! (1 ∷ []) $ pick ! (λ zs. split ! $ move ! (1 ∷ []) $
         heard ! (zs .0 ≡ filled (ws .1 .1 .1 .1 .1 .1 .0) (ws .1 .1 .1 .1 .1 .1 .1 .0) (now entries) c) (λ e₃.
-        fsplit ! $
-        move ! (1 ∷ []) $
-        drop ! $
-        fsplit ! $
-        move ! (1 ∷ []) $
-        feqL ! (λ size.
-        move ! (1 ∷ []) $
-        split ! $
-        split ! $
-        move ! (1 ∷ []) $
-        split ! $
-        move ! (1 ∷ []) $
-        split ! $
-        move ! (1 ∷ []) $
-        drop ! $
-        move ! (3 ∷ []) $
-        peeks ! unit (Is unit) (shows 𝓤 H A unit) z (u₃ ∷ []) (λ is₃.
+        fsplit ! $ move ! (1 ∷ []) $ drop ! $ fsplit ! $ move ! (1 ∷ []) $ feqL ! (λ size. move ! (1 ∷ []) $ split ! $ split ! $ move ! (1 ∷ []) $ split ! $ move ! (1 ∷ []) $
+        split ! $ move ! (1 ∷ []) $ drop ! $ move ! (3 ∷ []) $ peeks ! unit (Is unit) (shows 𝓤 H A unit) z (u₃ ∷ []) (λ is₃.
         land ! (from ! (stop !)) (init ! 18 refl (nothing-lawful 𝓤 H A W .typed z _ is₃ .0)) $
-        move ! (2 ∷ []) $
-        lft-end ! tt $
-        move ! (0 ∷ 6 ∷ []) $
-        lent-back ! tt $
-        room-again ! Numbers refl (tyArray (tyInt w32) maxVectors) refl (ws .1 .1 .1 .1 .1 .1 .0) l₇ $
-        move ! (2 ∷ []) $
-        lft-end ! tt $
-        move ! (0 ∷ 5 ∷ []) $
-        lent-back ! tt $
+        -- the arrays are room again
+        move ! (2 ∷ []) $ lft-end ! tt $ move ! (0 ∷ 6 ∷ []) $ lent-back ! tt $ room-again ! Numbers refl (tyArray (tyInt w32) maxVectors) refl (ws .1 .1 .1 .1 .1 .1 .0) l₇ $
+        move ! (2 ∷ []) $ lft-end ! tt $ move ! (0 ∷ 5 ∷ []) $ lent-back ! tt $
         room-again ! Distances refl (tyArray (tyInt w64) maxVectors) refl (ws .1 .1 .1 .1 .1 .1 .1 .0) l₈ $
-        assigns ! (of-opd ! (load ! (from ! (stop !)) (look ! 26 refl))) (from ! (stop !)) (init ! 42 refl (typed r u is)) $
-        returns ! (look ! 42 refl) $
+        assigns ! (of-opd ! (load ! (from ! (stop !)) (look ! 26 refl))) (from ! (stop !)) (init ! 42 refl (typed r u is)) $ returns ! (look ! 42 refl) $
         forget ! 8 refl $ forget ! 10 refl $ forget ! 12 refl $ forget ! 14 refl $ forget ! 16 refl $ forget ! 18 refl $ forget ! 20 refl $ forget ! 22 refl $ forget ! 24 refl $ forget ! 26 refl $ forget ! 30 refl $ forget ! 32 refl $ forget ! 34 refl $ forget ! 36 refl $ forget ! 38 refl $ forget ! 40 refl $ forget ! 42 refl $
         move ! (42 ∷ 43 ∷ []) $ free1 ! $ move ! (40 ∷ 41 ∷ []) $ free1 ! $ move ! (38 ∷ 39 ∷ []) $ free1 ! $ move ! (36 ∷ 37 ∷ []) $ free1 ! $ move ! (34 ∷ 35 ∷ []) $ free1 ! $ move ! (32 ∷ 33 ∷ []) $ free1 ! $ move ! (30 ∷ 31 ∷ []) $ free1 ! $ move ! (1 ∷ 29 ∷ []) $ free1 ! $ move ! (0 ∷ 27 ∷ []) $ free1 ! $ move ! (24 ∷ 25 ∷ []) $ free1 ! $ move ! (22 ∷ 23 ∷ []) $ free1 ! $ move ! (20 ∷ 21 ∷ []) $ free1 ! $ move ! (18 ∷ 19 ∷ []) $ free1 ! $ move ! (16 ∷ 17 ∷ []) $ free1 ! $ move ! (14 ∷ 15 ∷ []) $ free1 ! $ move ! (12 ∷ 13 ∷ []) $ free1 ! $ move ! (10 ∷ 11 ∷ []) $ free1 ! $ move ! (8 ∷ 9 ∷ []) $ free1 ! $ move ! (6 ∷ 7 ∷ []) $ free1 ! $ free0 ! $
         keep ! (2 ∷ 3 ∷ 5 ∷ 4 ∷ 1 ∷ []) $

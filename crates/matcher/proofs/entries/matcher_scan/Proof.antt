@@ -1,5 +1,5 @@
 -- `matcher_scan` meets its contract: a walk of its MIR, by hand. The entries go on to `nearest::scan`, and the number is that of its verdict.
--- Of each callee the proof knows the contract alone. Assumes nothing.
+-- Of each callee the proof knows the contract alone. In the notes on the context, [x] is the token of x's lifetime. Assumes nothing.
 use mathlib.Core.Path.{_≡_, refl, ap, _∙_}
 use Prim.Native.Nat.{ℕ, _<_, _^_}
 use mathlib.Core.List.{List, [], _∷_}
@@ -17,18 +17,18 @@ use ghost.Atoms.{Atoms}
 use contract.Lifetimes.{Lfts}
 use contract.Monad.{Fun, fact}
 use contract.Running.{givenOf, tables, tablesOf}
-use types.Kit.{Given, ‵, raw, _⊛_, some, later, ⋆, _$_, _∵_, !, qed, by, move, keep, drop, use1, split, join, pick, fsplit, fjoin, feqL, suffices, frame, await, done}
+use types.Kit.{Given, Item, ‵, raw, _⊛_, some, later, ⋆, _$_, _∵_, !, qed, by, move, keep, drop, use1, split, join, group, pick, fsplit, feqL, suffices, frame, await, done}
 use types.Part.{whole, sub, look-in, agg}
 use types.Run.{look, init, forget, stop, hop, fld, from, load, addr, and-then, no-more, assigns, land, returns, enter, alloc1, alloc0, params1, pass1, pass0, free1, free0}
 use sound.WpLaws.{FmC, fmOf, WpFn-mono}
 use denote.RattleType.{RattleType, owns}
 use denote.Laws.{Is, shows}
-use denote.Plain.{uint-makes, uint-vals, uint-tells, uint-lawful}
+use denote.Plain.{uint-vals, uint-tells, uint-lawful}
 use denote.Builtin.{u32, i32, usize}
 use denote.Ref.{RefT, now, name}
 use denote.Slice.{sliceVal, MutSlice, ShrSlice, Room, finally, slice-vals, mut-slice-tells, shr-slice-tells}
 use denote.Signature.{plain, shrSliceOf}
-use denote.Steps.{owned, peeks, heard, nothing}
+use denote.Steps.{peeks, heard, nothing}
 use denote.Enum.Laws as EL
 use denote.Triple.Statement.{Contract, Triple}
 use denote.Triple.Call.{calls-at}
@@ -105,30 +105,18 @@ module _ {M : Type 1} (𝓤 : URA M) (H : Heap 𝓤) (A : Atoms 𝓤) (W : Given
   abbrev Claim : ℕ → List Entry → Type 0
   Claim m zs = (m ≡ verdictNumber verdict) × (zs ≡ outcome verdict (entriesOf (scanAnswer d n k (now query) (now vectors))) (λ _. now entries))
 
+  -- the tokens that the core hands back
+  abbrev Tokens : Item 𝓤
+  Tokens = ‵ (flft κ-query q-query) ⊛ (‵ (flft κ-vectors q-vectors) ⊛ (‵ (flft κ-entries q-entries) ⊛ ‵ ftrue))
+
   told : (r : Answer) (m : ℕ) (zs : List Entry) → Told r zs → Numbered r m → Claim m zs
   told r m zs e e₂ = (e₂ ∙ ap verdictNumber (e .0), e .1)
 
-  exits : (m : ℕ) (u : Val) (zs : List Entry) → length zs ≡ length (now entries) → Claim m zs → ent 𝓤 (⋆ 𝓤 H A (‵ (finally R (name entries) zs) ∷ ‵ (u32 .own m (u ∷ [])) ∷ ‵ (flft κ-query q-query) ∷ ‵ (flft κ-vectors q-vectors) ∷ ‵ (flft κ-entries q-entries) ∷ [])) (Post u)
+  exits : (m : ℕ) (u : Val) (zs : List Entry) → length zs ≡ length (now entries) → Claim m zs → ent 𝓤 (⋆ 𝓤 H A (‵ (finally R (name entries) zs) ∷ ‵ (u32 .own m (u ∷ [])) ∷ Tokens ∷ [])) (Post u)
   exits m u zs size claim =
-      qed W (‵ (finally R (name entries) zs) ∷ ‵ (u32 .own m (u ∷ [])) ∷ ‵ (flft κ-query q-query) ∷ ‵ (flft κ-vectors q-vectors) ∷ ‵ (flft κ-entries q-entries) ∷ []) ∵
+      qed W (‵ (finally R (name entries) zs) ∷ ‵ (u32 .own m (u ∷ [])) ∷ Tokens ∷ []) ∵
       suffices ! _ (ends-at 𝓤 H A face.ended stayed (face.clauses 𝓤 H A mem run) W bound u m (tt, (tt, (tt, (tt, (tt, (zs, tt)))))) (tt, (tt, (tt, (tt, (tt, (size, tt))))))) $ says ! claim $
-      nothing ! $
-      move ! (5 ∷ 0 ∷ []) $
-      join ! $
-      move ! (4 ∷ 0 ∷ []) $
-      join ! $
-      move ! (3 ∷ 0 ∷ []) $
-      join ! $
-      frame ! $
-      nothing ! $
-      move ! (1 ∷ 0 ∷ []) $
-      fjoin ! $
-      nothing ! $ fjoin ! $
-      nothing ! $ fjoin ! $
-      nothing ! $ fjoin ! $
-      nothing ! $ fjoin ! $
-      nothing ! $ fjoin ! $
-      frame ! $ done !
+      move ! (2 ∷ []) $ frame ! $ nothing ! $ nothing ! $ nothing ! $ nothing ! $ nothing ! $ nothing ! $ move ! (5 ∷ 4 ∷ 3 ∷ 2 ∷ 1 ∷ 6 ∷ 0 ∷ []) $ group ! 7 $ frame ! $ done !
 
   -- ---- what each callee is passed
   abbrev lfts : Lfts (core.signature .lifetimes)
@@ -167,152 +155,33 @@ module _ {M : Type 1} (𝓤 : URA M) (H : Heap 𝓤) (A : Atoms 𝓤) (W : Given
 
     walk : ent 𝓤 (onEntry 𝓤 H A face.signature (κ-query, (κ-vectors, (κ-entries, tt))) (q-query, (q-vectors, (q-entries, tt))) (d, (n, (k, (query, (vectors, (entries, tt)))))) at) (WpFn 𝓤 H (𝓣 .C) (𝓣 .Λ) code.function (vint w64 d ∷ vint w64 n ∷ vint w64 k ∷ sliceVal (query .ptr) (length (now query)) ∷ sliceVal (vectors .ptr) (length (now vectors)) ∷ sliceVal (entries .ptr) (length (now entries)) ∷ []) Post)
     walk =
-        qed W ((‵ (flft κ-query q-query) ⊛ (‵ (flft κ-vectors q-vectors) ⊛ (‵ (flft κ-entries q-entries) ⊛ ‵ ftrue))) ∷ ‵ (owns (usize ∷ usize ∷ usize ∷ ShrSlice (named 0) κ-query i32 ∷ ShrSlice (named 1) κ-vectors i32 ∷ MutSlice (named 2) κ-entries R ∷ []) (d, (n, (k, (query, (vectors, (entries, tt)))))) at) ∷ []) ∵ enter ! (𝓣 .C) (𝓣 .Λ) code.function (vint w64 d ∷ vint w64 n ∷ vint w64 k ∷ sliceVal (query .ptr) (length (now query)) ∷ sliceVal (vectors .ptr) (length (now vectors)) ∷ sliceVal (entries .ptr) (length (now entries)) ∷ []) _ $
-        alloc1 ! (λ l₀.
-        alloc1 ! (λ l₁.
-        alloc1 ! (λ l₂.
-        alloc1 ! (λ l₃.
-        alloc1 ! (λ l₄.
-        alloc1 ! (λ l₅.
-        alloc1 ! (λ l₆.
-        alloc1 ! (λ l₇.
-        alloc1 ! (λ l₈.
-        alloc1 ! (λ l₉.
-        alloc0 ! $ params1 ! $
-        pass1 ! (init ! 16 refl (tt, record { fits = fits-d })) $
-        pass1 ! (init ! 14 refl (tt, record { fits = fits-n })) $
-        pass1 ! (init ! 12 refl (tt, record { fits = fits-k })) $
-        pass1 ! (init ! 10 refl (tt, (tt, (record { fits = room-query .0 }, tt)))) $
-        pass1 ! (init ! 8 refl (tt, (tt, (record { fits = room-vectors .0 }, tt)))) $
-        pass1 ! (init ! 6 refl (tt, (tt, (record { fits = room-entries .0 }, tt)))) $
-        pass0 ! $
+        qed W (Tokens ∷ ‵ (owns (usize ∷ usize ∷ usize ∷ ShrSlice (named 0) κ-query i32 ∷ ShrSlice (named 1) κ-vectors i32 ∷ MutSlice (named 2) κ-entries R ∷ []) (d, (n, (k, (query, (vectors, (entries, tt)))))) at) ∷ []) ∵
+        enter ! (𝓣 .C) (𝓣 .Λ) code.function (vint w64 d ∷ vint w64 n ∷ vint w64 k ∷ sliceVal (query .ptr) (length (now query)) ∷ sliceVal (vectors .ptr) (length (now vectors)) ∷ sliceVal (entries .ptr) (length (now entries)) ∷ []) _ $
+        alloc1 ! (λ l₀. alloc1 ! (λ l₁. alloc1 ! (λ l₂. alloc1 ! (λ l₃. alloc1 ! (λ l₄. alloc1 ! (λ l₅. alloc1 ! (λ l₆. alloc1 ! (λ l₇. alloc1 ! (λ l₈. alloc1 ! (λ l₉.
+        alloc0 ! $ params1 ! $ pass1 ! (init ! 16 refl (tt, record { fits = fits-d })) $ pass1 ! (init ! 14 refl (tt, record { fits = fits-n })) $
+        pass1 ! (init ! 12 refl (tt, record { fits = fits-k })) $ pass1 ! (init ! 10 refl (tt, (tt, (record { fits = room-query .0 }, tt)))) $
+        pass1 ! (init ! 8 refl (tt, (tt, (record { fits = room-vectors .0 }, tt)))) $ pass1 ! (init ! 6 refl (tt, (tt, (record { fits = room-entries .0 }, tt)))) $ pass0 ! $
+        -- what the core is passed
         assigns ! (addr ! (from ! (fld ! refl (hop ! (look-in ! 6 (sub ! 0 refl (whole !))) (stop !))))) (from ! (stop !)) (init ! 2 refl (tt, tt)) $
         assigns ! (agg ! (and-then ! (load ! (from ! (stop !)) (look ! 2 refl)) (and-then ! (load ! (from ! (fld ! refl (stop !))) (look-in ! 6 (sub ! 1 refl (whole !)))) (no-more !)))) (from ! (stop !)) (init ! 0 refl (tt, (tt, (record { fits = room-entries .0 }, tt)))) $
-        move ! (20 ∷ []) $
-        split ! $
-        move ! (1 ∷ []) $
-        split ! $
-        move ! (1 ∷ []) $
-        split ! $
-        move ! (1 ∷ []) $
-        drop ! $
-        move ! (23 ∷ []) $
-        fsplit ! $
-        move ! (1 ∷ []) $
-        fsplit ! $
-        move ! (1 ∷ []) $
-        fsplit ! $
-        move ! (1 ∷ []) $
-        fsplit ! $
-        move ! (1 ∷ []) $
-        fsplit ! $
-        move ! (1 ∷ []) $
-        fsplit ! $
-        move ! (1 ∷ []) $
-        drop ! $
-        move ! (5 ∷ []) $
-        drop ! $
-        move ! (4 ∷ []) $
-        drop ! $
-        move ! (3 ∷ []) $
-        drop ! $
-        nothing ! $
-        move ! (1 ∷ 0 ∷ []) $
-        fjoin ! $
-        move ! (1 ∷ 0 ∷ []) $
-        fjoin ! $
-        move ! (1 ∷ 0 ∷ []) $
-        fjoin ! $
-        owned ! usize (Is usize) (uint-makes 𝓤 H A W w64) k _ (refl, fits-k) $
-        fjoin ! $
-        owned ! usize (Is usize) (uint-makes 𝓤 H A W w64) n _ (refl, fits-n) $
-        fjoin ! $
-        owned ! usize (Is usize) (uint-makes 𝓤 H A W w64) d _ (refl, fits-d) $
-        fjoin ! $
-        nothing ! $
-        move ! (2 ∷ 0 ∷ []) $
-        join ! $
-        move ! (2 ∷ 0 ∷ []) $
-        join ! $
-        move ! (2 ∷ 0 ∷ []) $
-        join ! $
-        join ! $
-        use1 W (raw (Core 𝓤 H A mem run .pre to)) (asked) $
-        -- [pre; _9; _8; _7; _6; _5; _4; _3; _2; _1; _0]
+        move ! (20 ∷ 21 ∷ []) $ join ! $ use1 W (raw (Core 𝓤 H A mem run .pre to)) (asked) $
+        -- [pre; the locals]
         calls-at ! fm (Core 𝓤 H A mem run) known-core to (and-then ! (load ! (from ! (stop !)) (look ! 17 refl)) (and-then ! (load ! (from ! (stop !)) (look ! 15 refl)) (and-then ! (load ! (from ! (stop !)) (look ! 13 refl)) (and-then ! (load ! (from ! (stop !)) (look ! 11 refl)) (and-then ! (load ! (from ! (stop !)) (look ! 9 refl)) (and-then ! (load ! (from ! (stop !)) (look ! 1 refl)) (no-more !))))))) (λ u.
-        use1 W (later (some (λ (r : Answer). ((‵ (flft κ-query q-query) ⊛ (‵ (flft κ-vectors q-vectors) ⊛ (‵ (flft κ-entries q-entries) ⊛ ‵ ftrue))) ⊛ ‵ (Row .own r (u ∷ []))) ⊛ some (λ (ws : Lasts core.ended lfts given). ‵ (lasts core.ended lfts given ws) ⊛ raw (fact 𝓤 (Told r (ws .1 .1 .1 .1 .1 .0))))))) (id⊢ 𝓤 _) $
-        await ! tt $
-        pick ! (λ r.
-        split ! $
-        move ! (1 ∷ []) $
-        pick ! (λ ws.
-        split ! $
-        move ! (1 ∷ []) $
-        heard ! (Told r (ws .1 .1 .1 .1 .1 .0)) (λ e.
-        fsplit ! $
-        move ! (1 ∷ []) $
-        fsplit ! $
-        move ! (1 ∷ []) $
-        fsplit ! $
-        move ! (1 ∷ []) $
-        fsplit ! $
-        move ! (1 ∷ []) $
-        fsplit ! $
-        move ! (1 ∷ []) $
-        fsplit ! $
-        move ! (1 ∷ []) $
-        drop ! $
-        move ! (5 ∷ []) $
-        drop ! $
-        move ! (4 ∷ []) $
-        drop ! $
-        move ! (3 ∷ []) $
-        drop ! $
-        move ! (2 ∷ []) $
-        drop ! $
-        move ! (1 ∷ []) $
-        drop ! $
-        fsplit ! $
-        move ! (1 ∷ []) $
-        feqL ! (λ size.
-        move ! (1 ∷ []) $
-        split ! $
-        split ! $
-        move ! (1 ∷ []) $
-        split ! $
-        move ! (1 ∷ []) $
-        split ! $
-        move ! (1 ∷ []) $
-        drop ! $
-        move ! (3 ∷ []) $
-        peeks ! Row (Is Row) (shows 𝓤 H A Row) r (u ∷ []) (λ is.
-        land ! (from ! (stop !)) (init ! 9 refl (EL.lawful Ans.the-type Ans′.the-laws 𝓤 H A W tt .typed r _ is .0)) $
-        nothing ! $
-        move ! (1 ∷ 0 ∷ []) $
-        fjoin ! $
-        nothing ! $
-        join ! $
-        use1 W (raw (Number 𝓤 H A mem run .pre (to-number r u))) (asked-number r u) $
-        calls-at ! fm (Number 𝓤 H A mem run) known-number (to-number r u) (and-then ! (load ! (from ! (stop !)) (look ! 9 refl)) (no-more !)) (λ u₂.
-        use1 W (later (some (λ (m : ℕ). ((‵ ftrue) ⊛ ‵ (u32 .own m (u₂ ∷ []))) ⊛ some (λ (vs : Lasts number.ended lfts-number (given-number r)). ‵ (lasts number.ended lfts-number (given-number r) vs) ⊛ raw (fact 𝓤 (Numbered r m)))))) (id⊢ 𝓤 _) $
-        await ! tt $
-        pick ! (λ m.
-        split ! $
-        move ! (1 ∷ []) $
-        pick ! (λ vs.
-        split ! $
-        move ! (1 ∷ []) $
-        heard ! (Numbered r m) (λ e₂.
-        drop ! $
-        split ! $
-        drop ! $
-        peeks ! u32 (Is u32) (shows 𝓤 H A u32) m (u₂ ∷ []) (λ is₂.
-        land ! (from ! (stop !)) (init ! 23 refl (uint-lawful 𝓤 H A W w32 .typed m _ is₂ .0)) $
-        returns ! (look ! 23 refl) $
-        forget ! 5 refl $ forget ! 7 refl $ forget ! 9 refl $ forget ! 11 refl $ forget ! 13 refl $ forget ! 15 refl $ forget ! 17 refl $ forget ! 19 refl $ forget ! 21 refl $ forget ! 23 refl $
-        move ! (23 ∷ 24 ∷ []) $ free1 ! $ move ! (21 ∷ 22 ∷ []) $ free1 ! $ move ! (19 ∷ 20 ∷ []) $ free1 ! $ move ! (17 ∷ 18 ∷ []) $ free1 ! $ move ! (15 ∷ 16 ∷ []) $ free1 ! $ move ! (13 ∷ 14 ∷ []) $ free1 ! $ move ! (11 ∷ 12 ∷ []) $ free1 ! $ move ! (9 ∷ 10 ∷ []) $ free1 ! $ move ! (7 ∷ 8 ∷ []) $ free1 ! $ move ! (5 ∷ 6 ∷ []) $ free1 ! $ free0 ! $
-        keep ! (4 ∷ 0 ∷ 3 ∷ 2 ∷ 1 ∷ []) $
-        by ! (exits m u₂ (ws .1 .1 .1 .1 .1 .0) size (told r m (ws .1 .1 .1 .1 .1 .0) e e₂)))))))))))))))))))))))
+        use1 W (later (some (λ (r : Answer). (Tokens ⊛ ‵ (Row .own r (u ∷ []))) ⊛ some (λ (ws : Lasts core.ended lfts given). ‵ (lasts core.ended lfts given ws) ⊛ raw (fact 𝓤 (Told r (ws .1 .1 .1 .1 .1 .0))))))) (id⊢ 𝓤 _) $
+        await ! tt $ pick ! (λ r. split ! $ move ! (1 ∷ []) $ pick ! (λ ws. split ! $ move ! (1 ∷ []) $ heard ! (Told r (ws .1 .1 .1 .1 .1 .0)) (λ e.
+        fsplit ! $ drop ! $ fsplit ! $ drop ! $ fsplit ! $ drop ! $ fsplit ! $ drop ! $ fsplit ! $ drop ! $ fsplit ! $ move ! (1 ∷ []) $ drop ! $ fsplit ! $ move ! (1 ∷ []) $
+        feqL ! (λ size. move ! (1 ∷ []) $ split ! $ move ! (1 ∷ []) $ peeks ! Row (Is Row) (shows 𝓤 H A Row) r (u ∷ []) (λ is.
+        land ! (from ! (stop !)) (init ! 7 refl (EL.lawful Ans.the-type Ans′.the-laws 𝓤 H A W tt .typed r _ is .0)) $
+        -- the number
+        nothing ! $ nothing ! $ move ! (2 ∷ 1 ∷ []) $ group ! 2 $ move ! (1 ∷ []) $ join ! $ use1 W (raw (Number 𝓤 H A mem run .pre (to-number r u))) (asked-number r u) $
+        calls-at ! fm (Number 𝓤 H A mem run) known-number (to-number r u) (and-then ! (load ! (from ! (stop !)) (look ! 7 refl)) (no-more !)) (λ u₂.
+        use1 W (later (some (λ (m : ℕ). (‵ ftrue ⊛ ‵ (u32 .own m (u₂ ∷ []))) ⊛ some (λ (vs : Lasts number.ended lfts-number (given-number r)). ‵ (lasts number.ended lfts-number (given-number r) vs) ⊛ raw (fact 𝓤 (Numbered r m)))))) (id⊢ 𝓤 _) $
+        await ! tt $ pick ! (λ m. split ! $ move ! (1 ∷ []) $ pick ! (λ vs. split ! $ move ! (1 ∷ []) $ heard ! (Numbered r m) (λ e₂.
+        drop ! $ split ! $ drop ! $ peeks ! u32 (Is u32) (shows 𝓤 H A u32) m (u₂ ∷ []) (λ is₂.
+        land ! (from ! (stop !)) (init ! 21 refl (uint-lawful 𝓤 H A W w32 .typed m _ is₂ .0)) $ returns ! (look ! 21 refl) $
+        forget ! 3 refl $ forget ! 5 refl $ forget ! 7 refl $ forget ! 9 refl $ forget ! 11 refl $ forget ! 13 refl $ forget ! 15 refl $ forget ! 17 refl $ forget ! 19 refl $ forget ! 21 refl $
+        move ! (21 ∷ 22 ∷ []) $ free1 ! $ move ! (19 ∷ 20 ∷ []) $ free1 ! $ move ! (17 ∷ 18 ∷ []) $ free1 ! $ move ! (15 ∷ 16 ∷ []) $ free1 ! $ move ! (13 ∷ 14 ∷ []) $ free1 ! $ move ! (11 ∷ 12 ∷ []) $ free1 ! $ move ! (9 ∷ 10 ∷ []) $ free1 ! $ move ! (7 ∷ 8 ∷ []) $ free1 ! $ move ! (5 ∷ 6 ∷ []) $ free1 ! $ move ! (3 ∷ 4 ∷ []) $ free1 ! $ free0 ! $
+        keep ! (2 ∷ 0 ∷ 1 ∷ []) $ by ! (exits m u₂ (ws .1 .1 .1 .1 .1 .0) size (told r m (ws .1 .1 .1 .1 .1 .0) e e₂)))))))))))))))))))))))
 
 module _ {M : Type 1} (𝓤 : URA M) (H : Heap 𝓤) (A : Atoms 𝓤) (W : Given 𝓤 H A) (mem : Memory → SProp 𝓤) (run : Routine → Fun 𝓤) (𝓣 : Tables 𝓤 H) (known-core : Triple 𝓤 (𝓣 .C #core) (Core 𝓤 H A mem run)) (known-number : Triple 𝓤 (𝓣 .C #number) (Number 𝓤 H A mem run)) where
   walks : Walks 𝓤 H A face.ended stayed (WpFn 𝓤 H (𝓣 .C) (𝓣 .Λ) code.function) (face.clauses 𝓤 H A mem run)

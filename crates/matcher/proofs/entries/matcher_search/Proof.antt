@@ -1,5 +1,5 @@
 -- `matcher_search` meets its contract: a walk of its MIR, by hand. The buffers go on to `nearest::search`, and `told` puts the count in its place.
--- Of each callee the proof knows the contract alone. Assumes nothing.
+-- Of each callee the proof knows the contract alone. In the notes on the context, [x] is the token of x's lifetime. Assumes nothing.
 use mathlib.Core.Path.{_≡_, refl, _∙_}
 use Prim.Native.Nat.{ℕ, _<_, _^_}
 use mathlib.Core.List.{List, [], _∷_, _++_}
@@ -17,18 +17,18 @@ use ghost.Atoms.{Atoms}
 use contract.Lifetimes.{Lfts}
 use contract.Monad.{Fun, fact}
 use contract.Running.{givenOf, tables, tablesOf}
-use types.Kit.{Given, ‵, raw, _⊛_, some, later, ⋆, _$_, _∵_, !, qed, by, move, keep, drop, use1, split, join, pick, fsplit, fjoin, feqL, suffices, frame, await, done}
+use types.Kit.{Given, Item, ‵, raw, _⊛_, some, later, ⋆, _$_, _∵_, !, qed, by, move, keep, drop, use1, split, join, group, pick, fsplit, feqL, suffices, frame, await, done}
 use types.Part.{whole, sub, look-in, agg}
 use types.Run.{look, init, forget, stop, hop, fld, from, load, addr, and-then, no-more, assigns, land, returns, enter, alloc1, alloc0, params1, pass1, pass0, free1, free0}
 use sound.WpLaws.{FmC, fmOf, WpFn-mono}
-use denote.RattleType.{RattleType, owns}
+use denote.RattleType.{RattleType}
 use denote.Laws.{Is, shows}
-use denote.Plain.{uint-makes, uint-vals, uint-tells, uint-lawful}
+use denote.Plain.{uint-vals, uint-tells, uint-lawful}
 use denote.Builtin.{u8, u32, i32, usize}
 use denote.Ref.{RefT, MutRef, now, name, ptr-vals, mut-tells}
 use denote.Slice.{sliceVal, MutSlice, ShrSlice, Room, finally, slice-vals, mut-slice-tells, shr-slice-tells}
 use denote.Signature.{plain, shrSliceOf}
-use denote.Steps.{owned, peeks, heard, nothing}
+use denote.Steps.{peeks, heard, nothing}
 use denote.Enum.Laws as EL
 use denote.Triple.Statement.{Contract, Triple}
 use denote.Triple.Call.{calls-at}
@@ -116,6 +116,10 @@ module _ {M : Type 1} (𝓤 : URA M) (H : Heap 𝓤) (A : Atoms 𝓤) (W : Given
       × (zs ≡ outcome verdict (entriesOf (searched l (now query) k .best)) (λ _. now entries))
       × (rs ≡ outcome verdict (searched l (now query) k .reads ++ rest (length (searched l (now query) k .reads)) (now reads)) (λ _. now reads))
 
+  -- the tokens that the core hands back
+  abbrev Tokens : Item 𝓤
+  Tokens = ‵ (flft κ-query q-query) ⊛ (‵ (flft κ-marks q-marks) ⊛ (‵ (flft κ-codes q-codes) ⊛ (‵ (flft κ-vectors q-vectors) ⊛ (‵ (flft κ-entries q-entries) ⊛ (‵ (flft κ-reads q-reads) ⊛ ‵ ftrue)))))
+
   told : (r : Answer) (m : ℕ) (zs : List Entry) (rs : List ℕ) (w : ℕ) → Told r zs rs → Numbered r m w → Claim m zs rs w
   told r m zs rs w e e₂ = (e₂ .0 ∙ told-number searchedNumber _ _ refl (λ cause. refl) verdict (e .answer), e₂ .1 ∙ told-value searchedCount _ _ verdict (e .answer), e .entries-are, e .reads-are)
 
@@ -123,38 +127,8 @@ module _ {M : Type 1} (𝓤 : URA M) (H : Heap 𝓤) (A : Atoms 𝓤) (W : Given
   exits m u zs rs w size-reads size claim =
       qed W (‵ (finally R (name entries) zs) ∷ ‵ (finally u32 (name reads) rs) ∷ ‵ (fres (name count) (usize .coded .code w)) ∷ ‵ (u32 .own m (u ∷ [])) ∷ ‵ (flft κ-query q-query) ∷ ‵ (flft κ-marks q-marks) ∷ ‵ (flft κ-codes q-codes) ∷ ‵ (flft κ-vectors q-vectors) ∷ ‵ (flft κ-entries q-entries) ∷ ‵ (flft κ-reads q-reads) ∷ ‵ (flft κ-count q-count) ∷ []) ∵
       suffices ! _ (ends-at 𝓤 H A face.ended stayed (face.clauses 𝓤 H A mem run) W bound u m (tt, (tt, (tt, (tt, (tt, (tt, (tt, (tt, (zs, (rs, (w, tt))))))))))) (tt, (tt, (tt, (tt, (tt, (tt, (tt, (tt, (size, (size-reads, (tt, tt)))))))))))) $ says ! claim $
-      nothing ! $
-      move ! (11 ∷ 0 ∷ []) $
-      join ! $
-      move ! (10 ∷ 0 ∷ []) $
-      join ! $
-      move ! (9 ∷ 0 ∷ []) $
-      join ! $
-      move ! (8 ∷ 0 ∷ []) $
-      join ! $
-      move ! (7 ∷ 0 ∷ []) $
-      join ! $
-      move ! (6 ∷ 0 ∷ []) $
-      join ! $
-      move ! (5 ∷ 0 ∷ []) $
-      join ! $
-      frame ! $
-      nothing ! $
-      move ! (3 ∷ 0 ∷ []) $
-      fjoin ! $
-      move ! (2 ∷ 0 ∷ []) $
-      fjoin ! $
-      move ! (1 ∷ 0 ∷ []) $
-      fjoin ! $
-      nothing ! $ fjoin ! $
-      nothing ! $ fjoin ! $
-      nothing ! $ fjoin ! $
-      nothing ! $ fjoin ! $
-      nothing ! $ fjoin ! $
-      nothing ! $ fjoin ! $
-      nothing ! $ fjoin ! $
-      nothing ! $ fjoin ! $
-      frame ! $ done !
+      nothing ! $ move ! (5 ∷ 6 ∷ 7 ∷ 8 ∷ 9 ∷ 10 ∷ 11 ∷ 0 ∷ []) $ group ! 8 $ frame ! $ nothing ! $ nothing ! $ nothing ! $ nothing ! $ nothing ! $ nothing ! $ nothing ! $
+      nothing ! $ nothing ! $ move ! (8 ∷ 7 ∷ 6 ∷ 5 ∷ 4 ∷ 3 ∷ 2 ∷ 1 ∷ 9 ∷ 10 ∷ 11 ∷ 0 ∷ []) $ group ! 12 $ frame ! $ done !
 
   -- ---- what each callee is passed
   abbrev lfts : Lfts (core.signature .lifetimes)
@@ -193,234 +167,42 @@ module _ {M : Type 1} (𝓤 : URA M) (H : Heap 𝓤) (A : Atoms 𝓤) (W : Given
 
     walk : ent 𝓤 (onEntry 𝓤 H A face.signature (κ-query, (κ-marks, (κ-codes, (κ-vectors, (κ-entries, (κ-reads, (κ-count, tt))))))) (q-query, (q-marks, (q-codes, (q-vectors, (q-entries, (q-reads, (q-count, tt))))))) (d, (b, (n, (k, (query, (marks, (codes, (vectors, (entries, (reads, (count, tt))))))))))) at) (WpFn 𝓤 H (𝓣 .C) (𝓣 .Λ) code.function (vint w64 d ∷ vint w64 b ∷ vint w64 n ∷ vint w64 k ∷ sliceVal (query .ptr) (length (now query)) ∷ sliceVal (marks .ptr) (length (now marks)) ∷ sliceVal (codes .ptr) (length (now codes)) ∷ sliceVal (vectors .ptr) (length (now vectors)) ∷ sliceVal (entries .ptr) (length (now entries)) ∷ sliceVal (reads .ptr) (length (now reads)) ∷ vptr (count .ptr .0) (count .ptr .1) ∷ []) Post)
     walk =
-        qed W ((‵ (flft κ-query q-query) ⊛ (‵ (flft κ-marks q-marks) ⊛ (‵ (flft κ-codes q-codes) ⊛ (‵ (flft κ-vectors q-vectors) ⊛ (‵ (flft κ-entries q-entries) ⊛ (‵ (flft κ-reads q-reads) ⊛ (‵ (flft κ-count q-count) ⊛ ‵ ftrue))))))) ∷ ‵ (owns (usize ∷ usize ∷ usize ∷ usize ∷ ShrSlice (named 0) κ-query i32 ∷ ShrSlice (named 1) κ-marks i32 ∷ ShrSlice (named 2) κ-codes u8 ∷ ShrSlice (named 3) κ-vectors i32 ∷ MutSlice (named 4) κ-entries R ∷ MutSlice (named 5) κ-reads u32 ∷ MutRef (named 6) κ-count usize ∷ []) (d, (b, (n, (k, (query, (marks, (codes, (vectors, (entries, (reads, (count, tt))))))))))) at) ∷ []) ∵ enter ! (𝓣 .C) (𝓣 .Λ) code.function (vint w64 d ∷ vint w64 b ∷ vint w64 n ∷ vint w64 k ∷ sliceVal (query .ptr) (length (now query)) ∷ sliceVal (marks .ptr) (length (now marks)) ∷ sliceVal (codes .ptr) (length (now codes)) ∷ sliceVal (vectors .ptr) (length (now vectors)) ∷ sliceVal (entries .ptr) (length (now entries)) ∷ sliceVal (reads .ptr) (length (now reads)) ∷ vptr (count .ptr .0) (count .ptr .1) ∷ []) _ $
-        alloc1 ! (λ l₀.
-        alloc1 ! (λ l₁.
-        alloc1 ! (λ l₂.
-        alloc1 ! (λ l₃.
-        alloc1 ! (λ l₄.
-        alloc1 ! (λ l₅.
-        alloc1 ! (λ l₆.
-        alloc1 ! (λ l₇.
-        alloc1 ! (λ l₈.
-        alloc1 ! (λ l₉.
-        alloc1 ! (λ l₁₀.
-        alloc1 ! (λ l₁₁.
-        alloc1 ! (λ l₁₂.
-        alloc1 ! (λ l₁₃.
-        alloc1 ! (λ l₁₄.
-        alloc1 ! (λ l₁₅.
-        alloc1 ! (λ l₁₆.
-        alloc1 ! (λ l₁₇.
-        alloc0 ! $ params1 ! $
-        pass1 ! (init ! 32 refl (tt, record { fits = fits-d })) $
-        pass1 ! (init ! 30 refl (tt, record { fits = fits-b })) $
-        pass1 ! (init ! 28 refl (tt, record { fits = fits-n })) $
-        pass1 ! (init ! 26 refl (tt, record { fits = fits-k })) $
-        pass1 ! (init ! 24 refl (tt, (tt, (record { fits = room-query .0 }, tt)))) $
-        pass1 ! (init ! 22 refl (tt, (tt, (record { fits = room-marks .0 }, tt)))) $
-        pass1 ! (init ! 20 refl (tt, (tt, (record { fits = room-codes .0 }, tt)))) $
-        pass1 ! (init ! 18 refl (tt, (tt, (record { fits = room-vectors .0 }, tt)))) $
-        pass1 ! (init ! 16 refl (tt, (tt, (record { fits = room-entries .0 }, tt)))) $
-        pass1 ! (init ! 14 refl (tt, (tt, (record { fits = room-reads .0 }, tt)))) $
-        pass1 ! (init ! 12 refl (tt, tt)) $
-        pass0 ! $
+        qed W ((‵ (flft κ-query q-query) ⊛ (‵ (flft κ-marks q-marks) ⊛ (‵ (flft κ-codes q-codes) ⊛ (‵ (flft κ-vectors q-vectors) ⊛ (‵ (flft κ-entries q-entries) ⊛ (‵ (flft κ-reads q-reads) ⊛ (‵ (flft κ-count q-count) ⊛ ‵ ftrue))))))) ∷ ‵ (usize .own d (vint w64 d ∷ [])) ∷ ‵ (usize .own b (vint w64 b ∷ [])) ∷ ‵ (usize .own n (vint w64 n ∷ [])) ∷ ‵ (usize .own k (vint w64 k ∷ [])) ∷ ‵ (ShrSlice (named 0) κ-query i32 .own query (slice-vals query)) ∷ ‵ (ShrSlice (named 1) κ-marks i32 .own marks (slice-vals marks)) ∷ ‵ (ShrSlice (named 2) κ-codes u8 .own codes (slice-vals codes)) ∷ ‵ (ShrSlice (named 3) κ-vectors i32 .own vectors (slice-vals vectors)) ∷ ‵ (MutSlice (named 4) κ-entries R .own entries (slice-vals entries)) ∷ ‵ (MutSlice (named 5) κ-reads u32 .own reads (slice-vals reads)) ∷ ‵ (MutRef (named 6) κ-count usize .own count (ptr-vals count)) ∷ ‵ ftrue ∷ []) ∵
+        enter ! (𝓣 .C) (𝓣 .Λ) code.function (vint w64 d ∷ vint w64 b ∷ vint w64 n ∷ vint w64 k ∷ sliceVal (query .ptr) (length (now query)) ∷ sliceVal (marks .ptr) (length (now marks)) ∷ sliceVal (codes .ptr) (length (now codes)) ∷ sliceVal (vectors .ptr) (length (now vectors)) ∷ sliceVal (entries .ptr) (length (now entries)) ∷ sliceVal (reads .ptr) (length (now reads)) ∷ vptr (count .ptr .0) (count .ptr .1) ∷ []) _ $
+        alloc1 ! (λ l₀. alloc1 ! (λ l₁. alloc1 ! (λ l₂. alloc1 ! (λ l₃. alloc1 ! (λ l₄. alloc1 ! (λ l₅. alloc1 ! (λ l₆. alloc1 ! (λ l₇. alloc1 ! (λ l₈. alloc1 ! (λ l₉.
+        alloc1 ! (λ l₁₀. alloc1 ! (λ l₁₁. alloc1 ! (λ l₁₂. alloc1 ! (λ l₁₃. alloc1 ! (λ l₁₄. alloc1 ! (λ l₁₅. alloc1 ! (λ l₁₆. alloc1 ! (λ l₁₇. alloc0 ! $ params1 ! $
+        pass1 ! (init ! 32 refl (tt, record { fits = fits-d })) $ pass1 ! (init ! 30 refl (tt, record { fits = fits-b })) $
+        pass1 ! (init ! 28 refl (tt, record { fits = fits-n })) $ pass1 ! (init ! 26 refl (tt, record { fits = fits-k })) $
+        pass1 ! (init ! 24 refl (tt, (tt, (record { fits = room-query .0 }, tt)))) $ pass1 ! (init ! 22 refl (tt, (tt, (record { fits = room-marks .0 }, tt)))) $
+        pass1 ! (init ! 20 refl (tt, (tt, (record { fits = room-codes .0 }, tt)))) $ pass1 ! (init ! 18 refl (tt, (tt, (record { fits = room-vectors .0 }, tt)))) $
+        pass1 ! (init ! 16 refl (tt, (tt, (record { fits = room-entries .0 }, tt)))) $ pass1 ! (init ! 14 refl (tt, (tt, (record { fits = room-reads .0 }, tt)))) $
+        pass1 ! (init ! 12 refl (tt, tt)) $ pass0 ! $
+        -- what the core is passed
         assigns ! (addr ! (from ! (fld ! refl (hop ! (look-in ! 16 (sub ! 0 refl (whole !))) (stop !))))) (from ! (stop !)) (init ! 8 refl (tt, tt)) $
         assigns ! (agg ! (and-then ! (load ! (from ! (stop !)) (look ! 8 refl)) (and-then ! (load ! (from ! (fld ! refl (stop !))) (look-in ! 16 (sub ! 1 refl (whole !)))) (no-more !)))) (from ! (stop !)) (init ! 6 refl (tt, (tt, (record { fits = room-entries .0 }, tt)))) $
         assigns ! (addr ! (from ! (fld ! refl (hop ! (look-in ! 14 (sub ! 0 refl (whole !))) (stop !))))) (from ! (stop !)) (init ! 4 refl (tt, tt)) $
         assigns ! (agg ! (and-then ! (load ! (from ! (stop !)) (look ! 4 refl)) (and-then ! (load ! (from ! (fld ! refl (stop !))) (look-in ! 14 (sub ! 1 refl (whole !)))) (no-more !)))) (from ! (stop !)) (init ! 2 refl (tt, (tt, (record { fits = room-reads .0 }, tt)))) $
-        move ! (36 ∷ []) $
-        split ! $
-        move ! (1 ∷ []) $
-        split ! $
-        move ! (1 ∷ []) $
-        split ! $
-        move ! (1 ∷ []) $
-        split ! $
-        move ! (1 ∷ []) $
-        split ! $
-        move ! (1 ∷ []) $
-        split ! $
-        move ! (1 ∷ []) $
-        split ! $
-        move ! (1 ∷ []) $
-        drop ! $
-        move ! (43 ∷ []) $
-        fsplit ! $
-        move ! (1 ∷ []) $
-        fsplit ! $
-        move ! (1 ∷ []) $
-        fsplit ! $
-        move ! (1 ∷ []) $
-        fsplit ! $
-        move ! (1 ∷ []) $
-        fsplit ! $
-        move ! (1 ∷ []) $
-        fsplit ! $
-        move ! (1 ∷ []) $
-        fsplit ! $
-        move ! (1 ∷ []) $
-        fsplit ! $
-        move ! (1 ∷ []) $
-        fsplit ! $
-        move ! (1 ∷ []) $
-        fsplit ! $
-        move ! (1 ∷ []) $
-        fsplit ! $
-        move ! (1 ∷ []) $
-        drop ! $
-        move ! (10 ∷ []) $
-        drop ! $
-        move ! (9 ∷ []) $
-        drop ! $
-        move ! (8 ∷ []) $
-        drop ! $
-        move ! (7 ∷ []) $
-        drop ! $
-        nothing ! $
-        move ! (2 ∷ 0 ∷ []) $
-        fjoin ! $
-        move ! (2 ∷ 0 ∷ []) $
-        fjoin ! $
-        move ! (2 ∷ 0 ∷ []) $
-        fjoin ! $
-        move ! (2 ∷ 0 ∷ []) $
-        fjoin ! $
-        move ! (2 ∷ 0 ∷ []) $
-        fjoin ! $
-        move ! (2 ∷ 0 ∷ []) $
-        fjoin ! $
-        owned ! usize (Is usize) (uint-makes 𝓤 H A W w64) k _ (refl, fits-k) $
-        fjoin ! $
-        owned ! usize (Is usize) (uint-makes 𝓤 H A W w64) n _ (refl, fits-n) $
-        fjoin ! $
-        owned ! usize (Is usize) (uint-makes 𝓤 H A W w64) b _ (refl, fits-b) $
-        fjoin ! $
-        owned ! usize (Is usize) (uint-makes 𝓤 H A W w64) d _ (refl, fits-d) $
-        fjoin ! $
-        nothing ! $
-        move ! (4 ∷ 0 ∷ []) $
-        join ! $
-        move ! (4 ∷ 0 ∷ []) $
-        join ! $
-        move ! (4 ∷ 0 ∷ []) $
-        join ! $
-        move ! (4 ∷ 0 ∷ []) $
-        join ! $
-        move ! (4 ∷ 0 ∷ []) $
-        join ! $
-        move ! (4 ∷ 0 ∷ []) $
-        join ! $
-        join ! $
-        use1 W (raw (Core 𝓤 H A mem run .pre to)) (asked) $
-        -- [pre; o_count; t_count; _17; _16; _15; _14; _13; _12; _11; _10; _9; _8; _7; _6; _5; _4; _3; _2; _1; _0]
-        calls-at ! fm (Core 𝓤 H A mem run) known-core to (and-then ! (load ! (from ! (stop !)) (look ! 35 refl)) (and-then ! (load ! (from ! (stop !)) (look ! 33 refl)) (and-then ! (load ! (from ! (stop !)) (look ! 31 refl)) (and-then ! (load ! (from ! (stop !)) (look ! 29 refl)) (and-then ! (load ! (from ! (stop !)) (look ! 27 refl)) (and-then ! (load ! (from ! (stop !)) (look ! 25 refl)) (and-then ! (load ! (from ! (stop !)) (look ! 23 refl)) (and-then ! (load ! (from ! (stop !)) (look ! 21 refl)) (and-then ! (load ! (from ! (stop !)) (look ! 9 refl)) (and-then ! (load ! (from ! (stop !)) (look ! 5 refl)) (no-more !))))))))))) (λ u.
-        use1 W (later (some (λ (r : Answer). ((‵ (flft κ-query q-query) ⊛ (‵ (flft κ-marks q-marks) ⊛ (‵ (flft κ-codes q-codes) ⊛ (‵ (flft κ-vectors q-vectors) ⊛ (‵ (flft κ-entries q-entries) ⊛ (‵ (flft κ-reads q-reads) ⊛ ‵ ftrue)))))) ⊛ ‵ (Row .own r (u ∷ []))) ⊛ some (λ (ws : Lasts core.ended lfts given). ‵ (lasts core.ended lfts given ws) ⊛ raw (fact 𝓤 (Told r (ws .1 .1 .1 .1 .1 .1 .1 .1 .0) (ws .1 .1 .1 .1 .1 .1 .1 .1 .1 .0))))))) (id⊢ 𝓤 _) $
-        await ! tt $
-        pick ! (λ r.
-        split ! $
-        move ! (1 ∷ []) $
-        pick ! (λ ws.
-        split ! $
-        move ! (1 ∷ []) $
+        move ! (36 ∷ []) $ split ! $ move ! (1 ∷ []) $ split ! $ move ! (1 ∷ []) $ split ! $ move ! (1 ∷ []) $ split ! $ move ! (1 ∷ []) $ split ! $ move ! (1 ∷ []) $ split ! $
+        move ! (1 ∷ []) $ split ! $ move ! (1 ∷ []) $ drop ! $ nothing ! $ nothing ! $ move ! (45 ∷ 46 ∷ 47 ∷ 48 ∷ 49 ∷ 50 ∷ 51 ∷ 52 ∷ 53 ∷ 54 ∷ 1 ∷ []) $ group ! 11 $
+        move ! (8 ∷ 7 ∷ 6 ∷ 5 ∷ 4 ∷ 3 ∷ 1 ∷ []) $ group ! 7 $ join ! $ use1 W (raw (Core 𝓤 H A mem run .pre to)) (asked) $
+        -- [pre; [count]; own count; true; the locals]
+        calls-at ! fm (Core 𝓤 H A mem run) known-core to (and-then ! (load ! (from ! (stop !)) (look ! 34 refl)) (and-then ! (load ! (from ! (stop !)) (look ! 32 refl)) (and-then ! (load ! (from ! (stop !)) (look ! 30 refl)) (and-then ! (load ! (from ! (stop !)) (look ! 28 refl)) (and-then ! (load ! (from ! (stop !)) (look ! 26 refl)) (and-then ! (load ! (from ! (stop !)) (look ! 24 refl)) (and-then ! (load ! (from ! (stop !)) (look ! 22 refl)) (and-then ! (load ! (from ! (stop !)) (look ! 20 refl)) (and-then ! (load ! (from ! (stop !)) (look ! 8 refl)) (and-then ! (load ! (from ! (stop !)) (look ! 4 refl)) (no-more !))))))))))) (λ u.
+        use1 W (later (some (λ (r : Answer). (Tokens ⊛ ‵ (Row .own r (u ∷ []))) ⊛ some (λ (ws : Lasts core.ended lfts given). ‵ (lasts core.ended lfts given ws) ⊛ raw (fact 𝓤 (Told r (ws .1 .1 .1 .1 .1 .1 .1 .1 .0) (ws .1 .1 .1 .1 .1 .1 .1 .1 .1 .0))))))) (id⊢ 𝓤 _) $
+        await ! tt $ pick ! (λ r. split ! $ move ! (1 ∷ []) $ pick ! (λ ws. split ! $ move ! (1 ∷ []) $
         heard ! (Told r (ws .1 .1 .1 .1 .1 .1 .1 .1 .0) (ws .1 .1 .1 .1 .1 .1 .1 .1 .1 .0)) (λ e.
-        fsplit ! $
-        move ! (1 ∷ []) $
-        fsplit ! $
-        move ! (1 ∷ []) $
-        fsplit ! $
-        move ! (1 ∷ []) $
-        fsplit ! $
-        move ! (1 ∷ []) $
-        fsplit ! $
-        move ! (1 ∷ []) $
-        fsplit ! $
-        move ! (1 ∷ []) $
-        fsplit ! $
-        move ! (1 ∷ []) $
-        fsplit ! $
-        move ! (1 ∷ []) $
-        fsplit ! $
-        move ! (1 ∷ []) $
-        fsplit ! $
-        move ! (1 ∷ []) $
-        drop ! $
-        move ! (9 ∷ []) $
-        drop ! $
-        move ! (8 ∷ []) $
-        drop ! $
-        move ! (7 ∷ []) $
-        drop ! $
-        move ! (6 ∷ []) $
-        drop ! $
-        move ! (5 ∷ []) $
-        drop ! $
-        move ! (4 ∷ []) $
-        drop ! $
-        move ! (3 ∷ []) $
-        drop ! $
-        move ! (2 ∷ []) $
-        drop ! $
-        move ! (1 ∷ []) $
-        fsplit ! $
-        move ! (1 ∷ []) $
-        feqL ! (λ size.
-        move ! (1 ∷ []) $
-        fsplit ! $
-        move ! (1 ∷ []) $
-        feqL ! (λ size-reads.
-        move ! (2 ∷ []) $
-        split ! $
-        split ! $
-        move ! (1 ∷ []) $
-        split ! $
-        move ! (1 ∷ []) $
-        split ! $
-        move ! (1 ∷ []) $
-        split ! $
-        move ! (1 ∷ []) $
-        split ! $
-        move ! (1 ∷ []) $
-        split ! $
-        move ! (1 ∷ []) $
-        drop ! $
-        move ! (6 ∷ []) $
-        peeks ! Row (Is Row) (shows 𝓤 H A Row) r (u ∷ []) (λ is.
-        land ! (from ! (stop !)) (init ! 21 refl (EL.lawful Ans.the-type Ans′.the-laws 𝓤 H A W tt .typed r _ is .0)) $
-        assigns ! (addr ! (from ! (hop ! (look ! 23 refl) (stop !)))) (from ! (stop !)) (init ! 11 refl (tt, tt)) $
-        nothing ! $
-        move ! (10 ∷ 0 ∷ []) $
-        fjoin ! $
-        move ! (1 ∷ 0 ∷ []) $
-        fjoin ! $
-        nothing ! $
-        move ! (10 ∷ 0 ∷ []) $
-        join ! $
-        join ! $
-        use1 W (raw (Number 𝓤 H A mem run .pre (to-number r u))) (asked-number r u) $
+        fsplit ! $ drop ! $ fsplit ! $ drop ! $ fsplit ! $ drop ! $ fsplit ! $ drop ! $ fsplit ! $ drop ! $ fsplit ! $ drop ! $ fsplit ! $ drop ! $ fsplit ! $ drop ! $ fsplit ! $
+        move ! (1 ∷ []) $ fsplit ! $ move ! (1 ∷ []) $ drop ! $ move ! (1 ∷ []) $ fsplit ! $ move ! (1 ∷ []) $ feqL ! (λ size. move ! (1 ∷ []) $ fsplit ! $ move ! (1 ∷ []) $
+        feqL ! (λ size-reads. move ! (2 ∷ []) $ split ! $ split ! $ move ! (1 ∷ []) $ split ! $ move ! (1 ∷ []) $ split ! $ move ! (1 ∷ []) $ split ! $ move ! (1 ∷ []) $
+        split ! $ move ! (1 ∷ []) $ split ! $ move ! (1 ∷ []) $ drop ! $ move ! (6 ∷ []) $ peeks ! Row (Is Row) (shows 𝓤 H A Row) r (u ∷ []) (λ is.
+        land ! (from ! (stop !)) (init ! 20 refl (EL.lawful Ans.the-type Ans′.the-laws 𝓤 H A W tt .typed r _ is .0)) $
+        -- the number
+        assigns ! (addr ! (from ! (hop ! (look ! 22 refl) (stop !)))) (from ! (stop !)) (init ! 10 refl (tt, tt)) $ nothing ! $ nothing ! $ move ! (2 ∷ 48 ∷ 1 ∷ []) $ group ! 3 $
+        move ! (10 ∷ 1 ∷ []) $ group ! 2 $ join ! $ use1 W (raw (Number 𝓤 H A mem run .pre (to-number r u))) (asked-number r u) $
         calls-at ! fm (Number 𝓤 H A mem run) known-number (to-number r u) (and-then ! (load ! (from ! (stop !)) (look ! 19 refl)) (and-then ! (load ! (from ! (stop !)) (look ! 9 refl)) (no-more !))) (λ u₂.
         use1 W (later (some (λ (m : ℕ). ((‵ (flft κ-count q-count) ⊛ ‵ ftrue) ⊛ ‵ (u32 .own m (u₂ ∷ []))) ⊛ some (λ (vs : Lasts number.ended lfts-number (given-number r)). ‵ (lasts number.ended lfts-number (given-number r) vs) ⊛ raw (fact 𝓤 (Numbered r m (vs .1 .0))))))) (id⊢ 𝓤 _) $
-        await ! tt $
-        pick ! (λ m.
-        split ! $
-        move ! (1 ∷ []) $
-        pick ! (λ vs.
-        split ! $
-        move ! (1 ∷ []) $
-        heard ! (Numbered r m (vs .1 .0)) (λ e₂.
-        fsplit ! $
-        drop ! $
-        fsplit ! $
-        move ! (1 ∷ []) $
-        drop ! $
-        move ! (1 ∷ []) $
-        split ! $
-        split ! $
-        move ! (1 ∷ []) $
-        drop ! $
-        move ! (1 ∷ []) $
-        peeks ! u32 (Is u32) (shows 𝓤 H A u32) m (u₂ ∷ []) (λ is₂.
-        land ! (from ! (stop !)) (init ! 45 refl (uint-lawful 𝓤 H A W w32 .typed m _ is₂ .0)) $
+        await ! tt $ pick ! (λ m. split ! $ move ! (1 ∷ []) $ pick ! (λ vs. split ! $ move ! (1 ∷ []) $ heard ! (Numbered r m (vs .1 .0)) (λ e₂.
+        fsplit ! $ drop ! $ fsplit ! $ move ! (1 ∷ []) $ drop ! $ move ! (1 ∷ []) $ split ! $ split ! $ move ! (1 ∷ []) $ drop ! $ move ! (1 ∷ []) $
+        peeks ! u32 (Is u32) (shows 𝓤 H A u32) m (u₂ ∷ []) (λ is₂. land ! (from ! (stop !)) (init ! 45 refl (uint-lawful 𝓤 H A W w32 .typed m _ is₂ .0)) $
         returns ! (look ! 45 refl) $
         forget ! 11 refl $ forget ! 13 refl $ forget ! 15 refl $ forget ! 17 refl $ forget ! 19 refl $ forget ! 21 refl $ forget ! 23 refl $ forget ! 25 refl $ forget ! 27 refl $ forget ! 29 refl $ forget ! 31 refl $ forget ! 33 refl $ forget ! 35 refl $ forget ! 37 refl $ forget ! 39 refl $ forget ! 41 refl $ forget ! 43 refl $ forget ! 45 refl $
         move ! (45 ∷ 46 ∷ []) $ free1 ! $ move ! (43 ∷ 44 ∷ []) $ free1 ! $ move ! (41 ∷ 42 ∷ []) $ free1 ! $ move ! (39 ∷ 40 ∷ []) $ free1 ! $ move ! (37 ∷ 38 ∷ []) $ free1 ! $ move ! (35 ∷ 36 ∷ []) $ free1 ! $ move ! (33 ∷ 34 ∷ []) $ free1 ! $ move ! (31 ∷ 32 ∷ []) $ free1 ! $ move ! (29 ∷ 30 ∷ []) $ free1 ! $ move ! (27 ∷ 28 ∷ []) $ free1 ! $ move ! (25 ∷ 26 ∷ []) $ free1 ! $ move ! (23 ∷ 24 ∷ []) $ free1 ! $ move ! (21 ∷ 22 ∷ []) $ free1 ! $ move ! (19 ∷ 20 ∷ []) $ free1 ! $ move ! (17 ∷ 18 ∷ []) $ free1 ! $ move ! (15 ∷ 16 ∷ []) $ free1 ! $ move ! (13 ∷ 14 ∷ []) $ free1 ! $ move ! (11 ∷ 12 ∷ []) $ free1 ! $ free0 ! $
