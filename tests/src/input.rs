@@ -2,7 +2,8 @@
 
 use std::thread;
 
-/// Vectors stand in a row, n rows of d components; `codes` has each vector's code, `regions` its region numbers.
+/// Vectors stand in a row, n rows of d components; `codes` has each vector's code, `regions` its region numbers,
+/// `settings` its settings number.
 #[derive(Clone, PartialEq, Eq, Debug)]
 pub struct Input {
     /// where the input comes from
@@ -18,6 +19,7 @@ pub struct Input {
     pub query: Vec<i32>,
     pub marks: Vec<i32>,
     pub vectors: Vec<i32>,
+    pub settings: Vec<u32>,
     pub regions: Vec<u8>,
     pub codes: Vec<u8>,
     pub one: One,
@@ -60,6 +62,15 @@ pub struct Room {
     pub numbers: usize,
     pub distances: usize,
     pub reads: usize,
+    pub bytes: usize,
+}
+
+/// The lengths of the buffers that loading fills.
+#[derive(Clone, Copy, PartialEq, Eq, Debug)]
+pub struct LoadRoom {
+    pub marks: usize,
+    pub settings: usize,
+    pub components: usize,
 }
 
 /// Where a dimension's marks begin in the marks buffer, and how many bits it has.
@@ -84,4 +95,16 @@ pub type Entry = (u32, u64);
 pub struct Found {
     pub entries: Vec<Entry>,
     pub reads: Vec<u32>,
+}
+
+/// A library that was loaded, and how many bytes it is.
+#[derive(Clone, PartialEq, Eq, Debug)]
+pub struct Loaded {
+    pub d: usize,
+    pub b: usize,
+    pub n: usize,
+    pub marks: Vec<i32>,
+    pub settings: Vec<u32>,
+    pub components: Vec<i32>,
+    pub used: usize,
 }
