@@ -1,0 +1,134 @@
+//! include/matcher.h: C takes it alone, and it says what the crates say.
+
+use std::{
+    fs,
+    path::{Path, PathBuf},
+    process::Command,
+};
+use tests::{
+    c,
+    declarations::{declared, exported, without_comments},
+    reference,
+    samples::shapes,
+};
+
+fn read(path: impl AsRef<Path>) -> String {
+    let path = c::root().join(path);
+    fs::read_to_string(&path).unwrap_or_else(|error| panic!("{}: {error}", path.display()))
+}
+
+#[test]
+fn no_c_compiler_refuses_the_header_alone() {
+    for standard in ["-std=c99", "-std=c11"] {
+        c::output(c::compiler(standard).args(["-fsyntax-only", "-x", "c"]).arg(c::root().join("include/matcher.h")));
+    }
+}
+
+/// Name, parameters and answer of each.
+#[test]
+fn no_exported_function_is_left_out_and_none_is_made_up() {
+    let folder = c::root().join("crates/matcher/src");
+    let sources = fs::read_dir(folder).expect("crates/matcher/src is there").map(|entry| entry.unwrap().path());
+    let mut exported: Vec<String> = sources.flat_map(|source: PathBuf| exported(&read(source))).collect();
+    let mut declared = declared(&read("include/matcher.h"));
+    exported.sort();
+    declared.sort();
+    assert!(exported.len() > 20, "{exported:?}");
+    assert_eq!(declared, exported, "the header, and what crates/matcher exports");
+}
+
+/// `NotANumber` is `NOT_A_NUMBER`.
+fn in_capitals(name: &str) -> String {
+    let letter = |(place, letter): (usize, char)| match letter.is_uppercase() && place > 0 {
+        true => format!("_{letter}"),
+        false => letter.to_uppercase().to_string(),
+    };
+    name.chars().enumerate().map(letter).collect()
+}
+
+#[test]
+fn no_refusal_has_another_number() {
+    let source = read("crates/refusal/src/lib.rt");
+    let rows =
+        source.lines().filter_map(|line| line.trim().strip_prefix("Refusal::")?.strip_suffix(',')?.split_once(" => "));
+    let mut numbers: Vec<String> =
+        rows.map(|(name, number)| format!("MATCHER_{} = {number}", in_capitals(name))).collect();
+    numbers.insert(0, "MATCHER_ACCEPTED = 0".to_string());
+
+    let header = without_comments(&read("include/matcher.h"));
+    let (_, rest) = header.split_once("enum matcher_refusal {").expect("the header has the refusals");
+    let (listed, _) = rest.split_once('}').expect("the list ends");
+    let listed: Vec<&str> = listed.split(',').map(str::trim).collect();
+    assert_eq!(listed.len(), 18);
+    assert_eq!(listed, numbers, "the header, and crates/refusal");
+}
+
+/// The constants of a crate: name and value.
+fn constants(path: &str) -> Vec<(String, String)> {
+    let source = read(path);
+    let lines = source.lines().filter_map(|line| line.trim().strip_prefix("pub const ")?.strip_suffix(';'));
+    let constant = |line: &str| {
+        let (name, rest) = line.split_once(": ")?;
+        Some((name.to_string(), rest.split_once(" = ")?.1.to_string()))
+    };
+    lines.filter_map(constant).collect()
+}
+
+/// Compiles and runs a C program of statements that print, and gives its lines.
+fn printed(name: &str, statements: &str) -> Vec<String> {
+    let folder = Path::new(env!("CARGO_TARGET_TMPDIR"));
+    let source = folder.join(name);
+    let text =
+        format!("#include \"matcher.h\"\n#include <stdio.h>\n\nint main(void)\n{{\n{statements}    return 0;\n}}\n");
+    fs::write(&source, text).expect("the source can be written");
+    let output = c::output(&mut Command::new(c::compiled(&source, folder)));
+    output.lines().map(str::to_string).collect()
+}
+
+#[test]
+fn no_limit_is_another() {
+    let mut limits = constants("crates/limits/src/lib.rt");
+    limits.extend(constants("crates/reading/src/lib.rt"));
+    let print = |(name, _): &(String, String)| format!("    printf(\"%lld\\n\", (long long)(MATCHER_{name}));\n");
+    let lines = printed("limits.c", &limits.iter().map(print).collect::<String>());
+    let named: Vec<(String, String)> = limits.iter().map(|(name, _)| name.clone()).zip(lines).collect();
+    assert_eq!(named.len(), 9);
+    assert_eq!(named, limits, "the header, and crates/limits and crates/reading");
+}
+
+/// Every number of dimensions with every number of bits.
+#[test]
+fn no_length_is_another() {
+    let mut lines = printed(
+        "lengths.c",
+        "    static const size_t counts[] = {1, 2, 3, 7, 8, 511, 512};
+    for (size_t d = 1; d <= MATCHER_MAX_DIMENSIONS; d++)
+        for (size_t b = 0; b <= MATCHER_MAX_DIMENSION_BITS * d; b++)
+            for (size_t i = 0; i < 7; i++) {
+                size_t n = counts[i];
+                printf(\"%zu %zu %zu: \", d, b, n);
+                printf(\"%zu %zu %zu\\n\", MATCHER_MARKS(d, b), MATCHER_CODES(b, n), MATCHER_LIBRARY(d, b, n));
+            }
+    printf(\"%d %d %d %d %d\\n\", MATCHER_MAX_MARKS, MATCHER_MAX_COMPONENTS, MATCHER_MAX_CODES, MATCHER_MAX_LIBRARY,
+           MATCHER_MAX_QUERY);
+",
+    );
+    let largest = [
+        reference::marks_length(32, 192),
+        512 * 32,
+        reference::codes_length(512, 192),
+        reference::library_length(32, 192, 512),
+        32 * (1 + 4 + 1),
+    ];
+    let expected = largest.map(|length| length.to_string()).join(" ");
+    assert_eq!(lines.pop(), Some(expected), "the largest, and on the right by the reference");
+    let counts = [1, 2, 3, 7, 8, 511, 512];
+    let of_shape = |(d, b): (usize, usize)| {
+        counts.map(|n| {
+            let (marks, codes) = (reference::marks_length(d, b), reference::codes_length(n, b));
+            format!("{d} {b} {n}: {marks} {codes} {}", reference::library_length(d, b, n))
+        })
+    };
+    let expected: Vec<String> = shapes().flat_map(of_shape).collect();
+    assert_eq!(lines, expected, "the header's, and on the right the reference's");
+}
