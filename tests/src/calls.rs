@@ -107,5 +107,4 @@ pub const SEARCH: Call = call!(
     [D, B, N, K, Query, Marks, Codes, Vectors, Cells, RoomNumbers, RoomDistances, RoomReads],
     [1, 2, 3, 4, 5, 6, 7, 9, 10]
 );
-pub const WRITE: Call =
-    call!(write, [D, B, N, Marks, Settings, Vectors, Components, RoomBytes], [1, 2, 3, 5, 6, 7, 8]);
+pub const WRITE: Call = call!(write, [D, B, N, Marks, Settings, Vectors, Components, RoomBytes], [1, 2, 3, 5, 6, 7, 8]);

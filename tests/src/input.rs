@@ -1,6 +1,6 @@
 //! What the calls are given: one record with everything, of which each call takes its part.
 
-use std::thread;
+use std::{fmt::Debug, thread};
 
 /// Vectors stand in a row, n rows of d components; `codes` has each vector's code, `regions` its region numbers,
 /// `settings` its settings number.
@@ -28,15 +28,20 @@ pub struct Input {
 
 impl Input {
     /// From here to the end of the block, a failing test tells the input.
-    pub fn told(&self) -> Told<'_> {
-        Told(self)
+    pub fn told(&self) -> Told<'_, Input> {
+        told(self)
     }
 }
 
-/// Tells the input if the test is failing when this goes.
-pub struct Told<'a>(&'a Input);
+/// From here to the end of the block, a failing test tells what was given.
+pub fn told<T: Debug + ?Sized>(given: &T) -> Told<'_, T> {
+    Told(given)
+}
 
-impl Drop for Told<'_> {
+/// Tells what was given if the test is failing when this goes.
+pub struct Told<'a, T: Debug + ?Sized>(&'a T);
+
+impl<T: Debug + ?Sized> Drop for Told<'_, T> {
     fn drop(&mut self) {
         if thread::panicking() {
             eprintln!("failed on {:?}", self.0);

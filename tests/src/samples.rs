@@ -238,3 +238,21 @@ pub fn vector_inside(random: &mut Random, d: usize, b: usize, marks: &[i32]) -> 
     let mut component = |part: Range<usize>| random.between(marks[part.start], marks[part.end - 1] - 1);
     reference::parts(d, b).into_iter().map(&mut component).collect()
 }
+
+/// The bytes of an input's library.
+pub fn file(input: &Input) -> Vec<u8> {
+    reference::write(input).expect("the input is right")
+}
+
+/// Records of readings that have these components: fresh or held, each of a value near its component.
+pub fn readings(random: &mut Random, components: &[i32]) -> Vec<u8> {
+    let mut record = |&component: &i32| {
+        let near = random.one_of(&[0.0, 0.0, -0.4, 0.3]);
+        let value = ((component as f32 + near) / 256.0).to_le_bytes();
+        match random.below(3) {
+            0 => [&[6], &value[..], &[random.below(21) as u8]].concat(),
+            _ => [&[5], &value[..]].concat(),
+        }
+    };
+    components.iter().flat_map(&mut record).collect()
+}

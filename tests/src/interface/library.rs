@@ -34,13 +34,7 @@ extern "C" {
         n: *mut usize,
         used: *mut usize,
     ) -> u32;
-    fn matcher_query(
-        d: usize,
-        bytes: *const u8,
-        bytes_len: usize,
-        components: *mut i32,
-        components_len: usize,
-    ) -> u32;
+    fn matcher_query(d: usize, bytes: *const u8, bytes_len: usize, components: *mut i32, components_len: usize) -> u32;
 }
 
 pub fn write(input: &Input) -> Result<Vec<u8>, u32> {

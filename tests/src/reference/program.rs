@@ -44,3 +44,33 @@ fn cell(library: &Loaded, vector: &[i32]) -> Cell {
     };
     parts(library.d, library.b).into_iter().zip(vector).map(values).collect()
 }
+
+#[cfg(test)]
+mod tests {
+    use super::program;
+    use crate::samples::{file, library_a};
+
+    /// Document 01, "Cases": "A written out (391 bytes), 02 00, then 05 00 00 40 3D 05 00 00 C0 3C".
+    const REST: [u8; 12] = [0x02, 0x00, 0x05, 0x00, 0x00, 0x40, 0x3D, 0x05, 0x00, 0x00, 0xC0, 0x3C];
+
+    fn with_a(rest: &[u8]) -> String {
+        program(&[&file(&library_a([0, 0], 1)), rest].concat())
+    }
+
+    #[test]
+    fn the_case_prints_its_three_lines() {
+        assert_eq!(with_a(&REST), "2 3\n3 104 1\n4 105 61\n");
+    }
+
+    #[test]
+    fn the_first_fault_from_the_left_is_told() {
+        assert_eq!(program(&[]), "refused 12\n");
+        assert_eq!(with_a(&[]), "refused 12\n", "before k");
+        assert_eq!(with_a(&REST[..1]), "refused 12\n", "inside k");
+        assert_eq!(with_a(&[0, 0, 7]), "refused 4\n", "k is 0, and the reading lost");
+        assert_eq!(with_a(&[6, 0, 7]), "refused 4\n", "k above n");
+        assert_eq!(with_a(&[5, 0, 7]), "refused 13\n");
+        assert_eq!(with_a(&REST[..11]), "refused 12\n", "inside the query");
+        assert_eq!(with_a(&[&REST[..], &[0]].concat()), "refused 16\n");
+    }
+}

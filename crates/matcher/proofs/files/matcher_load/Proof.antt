@@ -22,12 +22,12 @@ returns c =
     let v = verdict (asked .before .before .before .before .before .before) in
     let outcome = asked .load .ensures in
     let is = outcome .0 in
-    let counts = (
-      told-value (λ (l : Loaded). l .d) _ _ v is,
-      (told-value (λ (l : Loaded). l .b) _ _ v is, (told-value (λ (l : Loaded). l .n) _ _ v is, told-value (λ (l : Loaded). l .used) _ _ v is)),
-    ) in (
+    let d-is = told-value (λ (l : Loaded). l .d) _ _ v is in
+    let b-is = told-value (λ (l : Loaded). l .b) _ _ v is in
+    let n-is = told-value (λ (l : Loaded). l .n) _ _ v is in
+    let used-is = told-value (λ (l : Loaded). l .used) _ _ v is in (
       c .number .ensures ∙ told-number (λ (l : Loaded). verdictNumber (l .verdict)) _ _ refl (λ cause. refl) v is,
-      (outcome .1 .0, (outcome .1 .1 .0, (outcome .1 .1 .1, counts))),
+      (outcome .1 .0, (outcome .1 .1 .0, (outcome .1 .1 .1, (d-is, (b-is, (n-is, used-is)))))),
     )
 
 pub matcher-load-spec : {M : Type 1} → statement M
