@@ -1,13 +1,13 @@
 //! Inputs of the program: a library, k, a query.
 
 use crate::{
-    input::Input,
+    input::{LoadRoom, Loaded},
     random::Random,
     reference,
-    samples::{self, GREATEST, LEAST},
+    samples::{file, random_input, readings},
 };
 
-/// The three parts of an input.
+/// The parts of an input whose library is right.
 #[derive(Clone, PartialEq, Eq, Debug)]
 pub struct Match {
     pub library: Vec<u8>,
@@ -16,15 +16,27 @@ pub struct Match {
 }
 
 impl Match {
-    pub fn bytes(&self) -> Vec<u8> {
-        [&self.library[..], &self.k.to_le_bytes(), &self.query].concat()
-    }
-
-    /// The parts of an input whose library is right.
+    /// The parts of a whole input.
     pub fn of(bytes: &[u8]) -> Match {
-        let used = reference::load(bytes, reference::LOAD_ROOM).expect("the library is right").used;
-        let (library, rest) = bytes.split_at(used);
+        let (library, rest) = bytes.split_at(loaded(bytes).used);
         let (k, query) = rest.split_first_chunk().expect("there is a k");
         Match { library: library.to_vec(), k: u16::from_le_bytes(*k), query: query.to_vec() }
     }
+
+    /// A random one of at most this many vectors.
+    pub fn random(seed: u64, most: usize) -> Match {
+        let input = random_input(seed, most);
+        let query = readings(&mut Random::new(seed), &input.query);
+        Match { library: file(&input), k: input.k as u16, query }
+    }
+
+    pub fn bytes(&self) -> Vec<u8> {
+        [&self.library, &self.k.to_le_bytes()[..], &self.query].concat()
+    }
+}
+
+/// The library that an input begins with.
+pub fn loaded(bytes: &[u8]) -> Loaded {
+    let room = LoadRoom { marks: 2080, settings: 512, components: 16_384 };
+    reference::load(bytes, room).expect("the library is right")
 }

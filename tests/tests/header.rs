@@ -7,6 +7,7 @@ use std::{
 };
 use tests::{
     c,
+    calls::{self, Call},
     declarations::{declared, exported, without_comments},
     reference,
     samples::shapes,
@@ -63,6 +64,44 @@ fn no_refusal_has_another_number() {
     assert_eq!(listed, numbers, "the header, and crates/refusal");
 }
 
+/// The numbers under "Refusals" in the comment before a function's declaration.
+fn refusals(header: &str, function: &str) -> Vec<u32> {
+    let (before, _) = header.split_once(&format!("\nuint32_t {function}(")).expect("the function is declared");
+    let (_, comment) = before.rsplit_once("/*").expect("a comment stands before it");
+    let (_, listed) = comment.split_once("Refusals: ").expect("the comment lists refusals");
+    let listed = listed.split('.').next().expect("the list ends");
+    // what stands in brackets says more of a number
+    let plain: String = listed.split('(').map(|piece| piece.split_once(')').map_or(piece, |(_, rest)| rest)).collect();
+    plain.split(',').map(|number| number.trim().parse().expect("a list of numbers")).collect()
+}
+
+/// The calls on numbers, whose causes are tried one by one and two by two elsewhere.
+#[test]
+fn no_call_lists_other_refusals() {
+    let header = read("include/matcher.h");
+    let calls: [&Call; 15] = [
+        &calls::STRETCH,
+        &calls::CHECK_MARKS,
+        &calls::PART,
+        &calls::REGION,
+        &calls::MAKE_MARKS,
+        &calls::REGIONS,
+        &calls::PACK,
+        &calls::PACK_VECTORS,
+        &calls::UNPACK,
+        &calls::CHECK_CODES,
+        &calls::DISTANCE,
+        &calls::BOUNDS,
+        &calls::SCAN,
+        &calls::SEARCH,
+        &calls::WRITE,
+    ];
+    for call in calls {
+        let name = if call.name == "part" { "check_part" } else { call.name };
+        assert_eq!(refusals(&header, &format!("matcher_{name}")), call.causes, "matcher_{name}");
+    }
+}
+
 /// The constants of a crate: name and value.
 fn constants(path: &str) -> Vec<(String, String)> {
     let source = read(path);
@@ -94,6 +133,24 @@ fn no_limit_is_another() {
     let named: Vec<(String, String)> = limits.iter().map(|(name, _)| name.clone()).zip(lines).collect();
     assert_eq!(named.len(), 9);
     assert_eq!(named, limits, "the header, and crates/limits and crates/reading");
+}
+
+/// "The calls use no heap, keep nothing from one call to the next, and do no input or output": the library has code and
+/// constants alone, and asks for nothing but to copy and to fill memory.
+#[test]
+fn no_call_reaches_past_what_it_is_given() {
+    let symbols = c::output(Command::new("nm").arg("-P").arg(c::root().join("target/staticlib/libmatcher.a")));
+    let mut functions = 0;
+    for line in symbols.lines().filter(|line| !line.is_empty() && !line.ends_with(':')) {
+        let words: Vec<&str> = line.split(' ').collect();
+        match words[..] {
+            [name, "U", ..] => assert!(["memcpy", "memmove", "memset"].contains(&name), "the library asks for {name}"),
+            [_, kind, ..] => assert!(["T", "t", "R", "r"].contains(&kind), "neither code nor a constant: {line}"),
+            _ => panic!("no symbol: {line}"),
+        }
+        functions += i32::from(words[1] == "T");
+    }
+    assert!(functions > 20, "{functions} functions");
 }
 
 /// Every number of dimensions with every number of bits.
