@@ -3,6 +3,8 @@ pub mod EachLaws
 pub mod Library
 pub mod Write
 pub mod Load
+pub mod Loadable
+pub mod Filled
 pub mod Places
 pub mod ReadWritten
 pub mod Writable

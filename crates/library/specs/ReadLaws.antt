@@ -1,21 +1,18 @@
--- Where the values of a library's records stand, and the keys of signed values from their bits. Assumes nothing.
-use mathlib.Core.Path.{_≡_, refl, sym, ap, _∙_}
-use mathlib.Core.Bool.{Bool, true, false}
-use mathlib.Core.List.{List, [], _∷_}
-use Prim.Native.Nat.{ℕ, zero, suc, _+_, _-_, _*_, _%_, _^_, _≤_, _<_}
+-- Where the values of a library's records stand, and signed values from their bits. Assumes nothing.
+use mathlib.Core.Path.{_≡_, refl, _∙_}
+use mathlib.Core.List.{List}
+use Prim.Native.Nat.{ℕ, zero, suc, _+_, _-_, _*_, _^_, _≤_, _<_}
 use native.Mathlib.Nat.{add-zero}
 use native.Mathlib.Omega.{arith}
-use borrow.Author.Tests.{ltb-true, ltb-false}
 use lib.Dec.{lit<, ltb}
 use lib.IntN.{ℤ, pos, negsuc}
 use lib.Signed.{mag}
 use lib.ListN.{length, getD, take, drop, replicate, length-replicate, getD-replicate}
 use lib.Seq.{getD-drop, drop-drop}
 use mir.Syntax.{w16, w32}
-use mir.Val.{Fits, toZ, sel}
+use mir.Val.{toZ, sel}
 use mir.ValLaws.{toZ-fits}
 use Rattle.limits.specs.Limits.{maxDimensions}
-use Rattle.whole.specs.Keys.{keyOf}
 use Rattle.records.specs.Bytes.{fromLowFirst, AreBytes}
 use Rattle.records.specs.ByteLaws.{bytes-drop}
 use Rattle.records.specs.Records.{headKind, markKind, vectorKind, widthsOf, sum, valueOf}
@@ -43,7 +40,7 @@ head-n bytes = value-at headKind 2 bytes (rw head-widths (lit< tt)) ∙ rw head-
 pub mark-bits : (bytes : List ℕ) (i : ℕ) → markAt bytes i ≡ toZ w32 (fromLowFirst 4 (drop (markPlace i + 1) bytes))
 unfolding markAt sum
 mark-bits bytes i =
-    ap (toZ w32) (value-at markKind 0 (drop (markPlace i) bytes) (rw mark-widths (lit< tt)) ∙ rw (mark-widths, drop-drop 1 (markPlace i) bytes))
+    rw (value-at markKind 0 (drop (markPlace i) bytes) (rw mark-widths (lit< tt)), mark-widths, drop-drop 1 (markPlace i) bytes)
 
 pub settings-value : (m : ℕ) (bytes : List ℕ) (i : ℕ) → settingsAt m bytes i ≡ fromLowFirst 4 (drop (vectorPlace m i + 1) bytes)
 unfolding settingsAt sum
@@ -64,7 +61,11 @@ component-value bytes at t few =
     value-at vectorKind (suc t) (drop at bytes) within
     ∙ rw (vector-widths, getD-replicate {A = ℕ} maxDimensions t 2 0 few, sum-twos maxDimensions t (omega arith), drop-drop (suc (4 + 2 * t)) at bytes, place)
 
--- ---- keys
+-- ---- signed values
+
+-- the number that bits stand for in two's complement, where those from half on are negative
+abbrev pub twosComplement : ℕ → ℕ → ℤ
+twosComplement half bits = sel (ltb bits half) (pos bits) (negsuc (2 * half - suc bits))
 
 module _ (bytes : List ℕ) (are : AreBytes bytes) where
   pub mark-fits : (i : ℕ) → mag (markAt bytes i) < 2 ^ 31
@@ -86,31 +87,3 @@ module _ (bytes : List ℕ) (are : AreBytes bytes) where
   component-fits at t few =
       let small = toZ-fits w16 (valueOf vectorKind (suc t) (drop at bytes)) (record { fits = component-below at t few }) .sfits in
       omega arith
-
-pub key-of-32 : (bits : ℕ) → bits < 2 ^ 32 → keyOf (toZ w32 bits) ≡ (bits + 2 ^ 31) % 2 ^ 32
-unfolding keyOf
-key-of-32 bits few = go (ltb bits (2 ^ 31)) refl
-  where
-    go : (t : Bool) → ltb bits (2 ^ 31) ≡ t → keyOf (sel t (pos bits) (negsuc (2 ^ 32 - suc bits))) ≡ (bits + 2 ^ 31) % 2 ^ 32
-    go true e = omega (arith, ltb-true bits (2 ^ 31) e)
-    go false e = omega (arith, ltb-false bits (2 ^ 31) e)
-
-pub key-of-16 : (bits : ℕ) → bits < 2 ^ 16 → keyOf (toZ w16 bits) ≡ 2 ^ 31 - 2 ^ 15 + (bits + 2 ^ 15) % 2 ^ 16
-unfolding keyOf
-key-of-16 bits few = go (ltb bits (2 ^ 15)) refl
-  where
-    go : (t : Bool) → ltb bits (2 ^ 15) ≡ t → keyOf (sel t (pos bits) (negsuc (2 ^ 16 - suc bits))) ≡ 2 ^ 31 - 2 ^ 15 + (bits + 2 ^ 15) % 2 ^ 16
-    go true e = omega (arith, ltb-true bits (2 ^ 15) e)
-    go false e = omega (arith, ltb-false bits (2 ^ 15) e)
-
--- a number of 32 bits is told by its key
-pub key-tells : (a b : ℤ) → mag a < 2 ^ 31 → mag b < 2 ^ 31 → keyOf a ≡ keyOf b → a ≡ b
-unfolding keyOf
-key-tells (pos a) (pos b) ha hb e =
-    let same : a ≡ b = omega arith in
-    ap pos same
-key-tells (pos a) (negsuc b) ha hb e = absurd (omega arith)
-key-tells (negsuc a) (pos b) ha hb e = absurd (omega arith)
-key-tells (negsuc a) (negsuc b) ha hb e =
-    let same : a ≡ b = omega arith in
-    ap negsuc same

@@ -1,8 +1,7 @@
 // The buffers of a library that is loaded.
 use crate::sizes::vector_place;
-use crate::values::component_key;
-use crate::values::mark_key;
-use crate::values::number_of;
+use crate::values::component_at;
+use crate::values::mark_at;
 ghost use mathlib.Core.Path.{_≡_};
 ghost use mathlib.Core.List.{_++_};
 ghost use Prim.Native.Nat.{_*_, _/_, _%_, _^_, _≤_, _<_};
@@ -18,7 +17,7 @@ pub(crate) fn fill_marks(bytes: &[u8], m: usize, marks: &mut [i32])
 {
     let mut i = 0;
     while i < m {
-        marks[i] = number_of(mark_key(bytes, i));
+        marks[i] = mark_at(bytes, i);
         i += 1;
     }
 }
@@ -41,9 +40,10 @@ pub(crate) fn fill_components(bytes: &[u8], m: usize, d: usize, n: usize, compon
     ensures { λ _. ⌜ now (components .exit)
         ≡ tabulate (n * d) (λ k. componentAt m (now (bytes .entry)) (k / d) (k % d)) ++ drop (n * d) (now (components .entry)) ⌝ }
 {
+    let count = n * d;
     let mut k = 0;
-    while k < n * d {
-        components[k] = number_of(component_key(bytes, vector_place(m, k / d), k % d));
+    while k < count {
+        components[k] = component_at(bytes, vector_place(m, k / d), k % d);
         k += 1;
     }
 }

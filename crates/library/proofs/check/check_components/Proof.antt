@@ -1,5 +1,4 @@
 -- `check_components` meets its contract: the tests in their order. Assumes nothing.
-use mathlib.Core.Path.{_≡_}
 use Rattle.refusal.specs.First.{first}
 use Rattle.library.proofs.check.check_components.Statement.{statement}
 use Rattle.library.proofs.check.check_components.Tie as tie

@@ -2,7 +2,6 @@
 use mathlib.Core.Path.{_≡_, _∙_}
 use native.Mathlib.Omega.{arith}
 use mathlib.Core.List.{append-nil}
-use lib.ListN.{drop}
 use borrow.Author.Needs.{needs}
 use Rattle.layout.specs.Stretch.{shape}
 use Rattle.records.specs.Records.{endKind}

@@ -1,13 +1,8 @@
 -- `check_head` meets its contract: the head's own causes behind those of every record. Assumes nothing.
 use mathlib.Core.Path.{_≡_, refl, sym, _∙_}
-use mathlib.Core.Bool.{not}
-use mathlib.Core.List.{[], _∷_, _++_}
 use lib.Dec.{eqb}
 use borrow.Author.Needs.{needs}
-use Rattle.refusal.specs.declared.Refusal.the-variants.{Count}
-use Rattle.refusal.specs.First.{_⇒_, first}
-use Rattle.limits.specs.Limits.{isVectorCount}
-use Rattle.layout.specs.Stretch.{shapeCauses}
+use Rattle.refusal.specs.First.{first}
 use Rattle.records.specs.Records.{headKind, kindOf}
 use Rattle.records.specs.RowLaws.{go-on, stop}
 use Rattle.records.specs.Frame.{frameCauses}

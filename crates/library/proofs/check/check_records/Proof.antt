@@ -37,7 +37,11 @@ check-records-spec =
     (tie.spec
     (λ c κs. search needs)
     (λ c. search needs)
-    (λ c κs. both (headCauses _ _) (marksCauses _ _) (both (headCauses _ _ ++ marksCauses _ _) (vectorsCauses _ _) (passes c) .front) .front)
+    (λ c κs.
+    let bytes = c .before .before .before .before .args .bytes .now in
+    let l = readLibrary bytes in
+    let some = both (headCauses l bytes ++ marksCauses l bytes) (vectorsCauses l bytes) (passes c) .front in
+    both (headCauses l bytes) (marksCauses l bytes) some .front)
     (λ c. search needs)
     returns
     returns-2)

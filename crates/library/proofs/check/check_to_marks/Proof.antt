@@ -1,11 +1,11 @@
 -- `check_to_marks` meets its contract: the marks behind the head. Assumes nothing.
 use mathlib.Core.Path.{_≡_, sym, _∙_}
-use mathlib.Core.List.{List, _++_}
+use mathlib.Core.List.{List}
 use Prim.Native.Nat.{ℕ}
 use borrow.Author.Needs.{needs}
 use Rattle.refusal.specs.declared.Verdict.the-variants.{Accepted}
 use Rattle.refusal.specs.First.{Row, first}
-use Rattle.records.specs.RowLaws.{both, go-on, stop}
+use Rattle.records.specs.RowLaws.{go-on, stop}
 use Rattle.library.specs.Library.{readLibrary}
 use Rattle.library.specs.Load.{headCauses, marksCauses}
 use Rattle.library.proofs.check.check_to_marks.Statement.{statement}

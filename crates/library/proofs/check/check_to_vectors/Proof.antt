@@ -37,7 +37,7 @@ check-to-vectors-spec =
     (tie.spec
     (λ c κs. search needs)
     (λ c. search needs)
-    (λ c κs. both (headCauses _ _) (marksCauses _ _) (passes c) .front)
+    (λ c κs. let bytes = c .before .before .before .before .args .bytes .now in both (headCauses (readLibrary bytes) bytes) (marksCauses (readLibrary bytes) bytes) (passes c) .front)
     (λ c. search needs)
     returns
     returns-2)

@@ -1,18 +1,16 @@
 -- `is_inside` meets its contract: the dimensions so far pass. Assumes nothing.
 use mathlib.Core.Path.{_≡_, refl, sym, _∙_}
-use mathlib.Core.Bool.{Bool, true, false, not, _&&_}
+use mathlib.Core.Bool.{Bool, true, _&&_}
 use mathlib.Core.List.{List}
-use Prim.Native.Nat.{ℕ, suc, _+_, _-_, _^_, _≤_, _<_}
+use Prim.Native.Nat.{ℕ, suc, _-_, _^_, _≤_, _<_}
 use native.Mathlib.Omega.{arith}
 use lib.Dec.{leb, ltb}
 use lib.IntN.{ℤ, pos}
-use lib.ListN.{getD, drop}
-use borrow.Author.Needs.{needs}
+use lib.ListN.{drop}
 use borrow.Author.Tests.{lt-ltb, le-ltb, le-leb, lt-leb}
 use Rattle.limits.specs.Limits.{maxDimensions}
 use Rattle.whole.specs.Keys.{keyOf, key-le, key-lt}
-use Rattle.layout.specs.Layout.{bitsOf, firstMarks}
-use Rattle.layout.specs.Stretch.{shapeCauses, shape}
+use Rattle.layout.specs.Stretch.{shape}
 use Rattle.partition.specs.Marks.{dimensionMarks}
 use Rattle.partition.specs.Region.{inMarks}
 use Rattle.records.specs.Bytes.{AreBytes}

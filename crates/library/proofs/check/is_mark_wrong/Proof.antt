@@ -1,11 +1,11 @@
 -- `is_mark_wrong` meets its contract: a mark and the one before it are compared by their keys. Assumes nothing.
-use mathlib.Core.Path.{_≡_, sym, _∙_}
+use mathlib.Core.Path.{_≡_}
 use mathlib.Core.Bool.{true}
 use Prim.Native.Nat.{_+_, _-_, _^_, _<_}
 use native.Mathlib.Omega.{arith}
-use lib.Dec.{leb, ltb}
+use lib.Dec.{leb}
 use borrow.Author.Needs.{needs}
-use borrow.Author.Tests.{lt-ltb, le-ltb, le-leb, lt-leb}
+use borrow.Author.Tests.{lt-ltb, le-leb, lt-leb}
 use Rattle.limits.specs.Limits.{isMark}
 use Rattle.whole.specs.Keys.{keyOf, key-mark, key-lt}
 use Rattle.records.specs.Bytes.{AreBytes}
