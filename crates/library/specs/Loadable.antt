@@ -1,15 +1,21 @@
 -- What holds where loading accepts: the buffers have their lengths, and the head passes. Assumes nothing.
 use mathlib.Core.Path.{_≡_}
 use mathlib.Core.Bool.{_&&_, and-eq-true-iff}
-use mathlib.Core.List.{List, _++_}
+use mathlib.Core.List.{List}
 use Prim.Native.Nat.{ℕ}
 use borrow.Author.Tests.{eqb-true, not-false}
 use lib.Dec.{eqb}
 use Rattle.refusal.specs.declared.Refusal.the-variants.{Length}
 use Rattle.refusal.specs.declared.Verdict.the-variants.{Accepted}
-use Rattle.refusal.specs.First.{first, passed, accepted-front}
+use Rattle.refusal.specs.First.{first, passed}
 use Rattle.library.specs.Library.{readLibrary}
-use Rattle.library.specs.Load.{marksRoom, settingsRoom, componentsRoom, headCauses, marksCauses, vectorsCauses, endCauses, loadCauses}
+use Rattle.library.specs.Load.{marksRoom, settingsRoom, componentsRoom, headCauses, recordsCauses, loadCauses}
+use Rattle.library.specs.Loaded.{passes}
+
+pub records-pass : (marks settings components : ℕ) (bytes : List ℕ) → first (loadCauses marks settings components bytes) ≡ Accepted
+    → first (recordsCauses (readLibrary bytes) bytes) ≡ Accepted
+unfolding loadCauses
+records-pass marks settings components bytes accepted = passed _ Length _ accepted .rest
 
 pub record Loadable (marks settings components : ℕ) (bytes : List ℕ) : Type 0 where
   pub marks-count : marks ≡ marksRoom
@@ -20,15 +26,12 @@ pub record Loadable (marks settings components : ℕ) (bytes : List ℕ) : Type 
 pub loadable : (marks settings components : ℕ) (bytes : List ℕ) → first (loadCauses marks settings components bytes) ≡ Accepted → Loadable marks settings components bytes
 unfolding loadCauses
 loadable marks settings components bytes accepted =
-    let l = readLibrary bytes in
     let lengths = passed _ Length _ accepted in
     let all = and-eq-true-iff (eqb marks marksRoom) (eqb settings settingsRoom && eqb components componentsRoom) .0 (not-false _ (lengths .fails)) in
     let later = and-eq-true-iff (eqb settings settingsRoom) (eqb components componentsRoom) .0 (all .1) in
-    let to-vectors = accepted-front (headCauses l bytes ++ marksCauses l bytes ++ vectorsCauses l bytes) (endCauses l bytes) (lengths .rest) in
-    let to-marks = accepted-front (headCauses l bytes ++ marksCauses l bytes) (vectorsCauses l bytes) to-vectors in
     record {
       marks-count = eqb-true _ _ (all .0);
       settings-count = eqb-true _ _ (later .0);
       components-count = eqb-true _ _ (later .1);
-      head-passes = accepted-front (headCauses l bytes) (marksCauses l bytes) to-marks;
+      head-passes = passes bytes (readLibrary bytes) (lengths .rest) .head;
     }

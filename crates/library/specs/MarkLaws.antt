@@ -50,7 +50,7 @@ numbered d b (suc n) p h = go (decLt p (firstMarks d b n)) (numbered d b n p)
         let past : firstMarks d b n ≤ p = omega arith in
         record { t = n; i = p - firstMarks d b n; among = omega arith; within = omega arith; is = omega arith }
 
-good-each : (d b : ℕ) (marks : List ℤ) (n : ℕ) → goodFirst d b marks n ≡ every n (λ t. goodDimension (dimensionMarks d b marks (suc t)))
+pub good-each : (d b : ℕ) (marks : List ℤ) (n : ℕ) → goodFirst d b marks n ≡ every n (λ t. goodDimension (dimensionMarks d b marks (suc t)))
 unfolding goodFirst every
 good-each d b marks zero = refl
 good-each d b marks (suc n) = rw (good-each d b marks n)
@@ -66,10 +66,10 @@ module _ (d b : ℕ) (marks : List ℤ) (whole : length marks ≡ firstMarks d b
       let before : suc t - 1 ≡ t = omega arith in
       rw before
 
-  part-length : length (dimensionMarks d b marks (suc t)) ≡ markCount d b (suc t)
+  pub part-length : length (dimensionMarks d b marks (suc t)) ≡ markCount d b (suc t)
   part-length = rw part-is (length-take-le (markCount d b (suc t)) (drop (firstMarks d b t) marks) (rw length-drop (omega (arith, room))))
 
-  part-at : (i : ℕ) → i < markCount d b (suc t) → getD (dimensionMarks d b marks (suc t)) i (pos 0) ≡ getD marks (firstMarks d b t + i) (pos 0)
+  pub part-at : (i : ℕ) → i < markCount d b (suc t) → getD (dimensionMarks d b marks (suc t)) i (pos 0) ≡ getD marks (firstMarks d b t + i) (pos 0)
   part-at i h = rw (part-is, getD-take (markCount d b (suc t)) (drop (firstMarks d b t) marks) i (pos 0) h) (getD-drop (firstMarks d b t) marks i (pos 0))
 
   -- a value lies inside a dimension's marks where it is at least the first and below the last

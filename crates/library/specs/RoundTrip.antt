@@ -14,6 +14,8 @@ use Rattle.library.specs.Writable.{writable}
 use Rattle.library.specs.Places.{library-size}
 use Rattle.library.specs.ReadWritten.{read-written}
 use Rattle.library.specs.LoadWritten.{storable, load-passes}
+use Rattle.library.specs.Loaded.{loaded-writable}
+use Rattle.library.specs.Loadable.{records-pass}
 use Rattle.library.specs.WriteLoaded.{written-loaded}
 
 -- loading accepts the bytes, finds this library and uses so many of them
@@ -33,12 +35,20 @@ written-loads l rest accepted settings =
       length-is = sym (library-size l);
     }
 
--- What was loaded is written to the very bytes that were used.
-pub loaded-writes : (bytes : List ℕ) (l : Library) (used : ℕ) → AreBytes bytes → Loads bytes l used → libraryBytes l ≡ take used bytes
+-- What was loaded can be written to as many bytes as were used, and gives the very bytes that were used.
+pub record Writes (l : Library) (bytes : List ℕ) : Type 0 where
+  pub accepted : first (writeCauses l (length bytes)) ≡ Accepted
+  pub is : libraryBytes l ≡ bytes
+
+pub loaded-writes : (bytes : List ℕ) (l : Library) (used : ℕ) → AreBytes bytes → Loads bytes l used → Writes l (take used bytes)
 loaded-writes bytes l used are loads =
-    rw (← loads .length-is, ← loads .library) (written-loaded marksRoom settingsRoom componentsRoom bytes are (loads .accepted))
+    let rows = records-pass marksRoom settingsRoom componentsRoom bytes (loads .accepted) in
+    let bytes-are : libraryBytes l ≡ take used bytes = rw (← loads .length-is, ← loads .library) (written-loaded bytes are rows) in
+    let writable = rw (loads .library) at (loaded-writable bytes rows) in
+    record { accepted = rw (← bytes-are, library-size l) writable; is = bytes-are }
 
 -- So each library has one encoding: two inputs that load to it used the same bytes.
 pub one-encoding : (bytes others : List ℕ) (l : Library) (used used' : ℕ) → AreBytes bytes → AreBytes others → Loads bytes l used → Loads others l used'
     → take used bytes ≡ take used' others
-one-encoding bytes others l used used' are are' loads loads' = sym (loaded-writes bytes l used are loads) ∙ loaded-writes others l used' are' loads'
+one-encoding bytes others l used used' are are' loads loads' =
+    sym (loaded-writes bytes l used are loads .is) ∙ loaded-writes others l used' are' loads' .is

@@ -2,12 +2,10 @@
 use mathlib.Core.Path.{_≡_, refl, sym, ap, _∙_}
 use mathlib.Core.Bool.{_||_}
 use mathlib.Core.List.{List, [], _∷_, _++_}
-use Prim.Native.Nat.{ℕ, zero, suc, _+_, _*_, _/_, _%_, _^_, _≤_, _<_}
-use native.Mathlib.Nat.{suc-mul, mul-le-mul-right}
+use Prim.Native.Nat.{ℕ, zero, suc, _+_, _*_, _^_, _≤_, _<_}
 use native.Mathlib.Decide.{decLt}
 use native.Mathlib.Omega.{arith}
 use borrow.Author.Tests.{eqb-true, not-false, le-ltb}
-use lib.Arith.{digits-div, digits-mod}
 use lib.Dec.{lit<, eqb, ltb}
 use lib.IntN.{pos}
 use lib.ListN.{length, getD, take, drop, length-replicate, getD-replicate}
@@ -16,10 +14,9 @@ use mir.Syntax.{w16, w32}
 use mir.Val.{ofZ}
 use mir.ValLaws.{ofZ-toZ}
 use Rattle.refusal.specs.declared.Verdict.the-variants.{Accepted}
-use Rattle.refusal.specs.declared.Refusal.the-variants.{Length, Component}
+use Rattle.refusal.specs.declared.Refusal.the-variants.{Component}
 use Rattle.refusal.specs.First.{Row, first, passed}
 use Rattle.limits.specs.Limits.{maxDimensions}
-use Rattle.layout.specs.Layout.{markCount, firstMarks}
 use Rattle.records.specs.Bytes.{AreBytes}
 use Rattle.records.specs.ByteLaws.{bytes-drop}
 use Rattle.records.specs.Records.{headKind, markKind, vectorKind, endKind, formats, widthsAmong, widthsOf, recordLength, recordBytes, kindOf, valueOf}
@@ -27,10 +24,11 @@ use Rattle.records.specs.RecordLaws.{value-below, written-read, head-widths, ma
 use Rattle.records.specs.RowLaws.{both}
 use Rattle.records.specs.Frame.{frameCauses, framed}
 use Rattle.library.specs.Each.{each}
-use Rattle.library.specs.EachLaws.{each-same, each-parts, tabulate-at, tabulate-past, every-at, accepted-at}
-use Rattle.library.specs.Library.{Library, markTotal, headBytes, markBytes, vectorValues, vectorBytes, endBytes, componentIn, libraryBytes, markPlace, vectorPlace, libraryLength, headValue, markAt, settingsAt, storedAt, componentAt, readLibrary}
-use Rattle.library.specs.Load.{recordCauses, headCauses, markCauses, zeroBeyond, vectorCauses, marksCauses, vectorsCauses, endCauses, loadCauses}
+use Rattle.library.specs.EachLaws.{each-same, each-parts, tabulate-at, tabulate-past, every-at}
+use Rattle.library.specs.Library.{Library, markTotal, headBytes, markBytes, vectorValues, vectorBytes, endBytes, componentIn, libraryBytes, markPlace, vectorPlace, libraryLength, headValue, markAt, settingsAt, storedAt, readLibrary}
+use Rattle.library.specs.Load.{recordCauses, zeroBeyond, recordsCauses}
 use Rattle.library.specs.MarkLaws.{numbered}
+use Rattle.library.specs.Loaded.{Passes, passes, component-read}
 
 -- the bytes of a record that passes, from its values
 record-again : (kind : ℕ) (values bytes : List ℕ) (own : List Row) → AreBytes bytes → first (recordCauses kind bytes own) ≡ Accepted
@@ -51,39 +49,21 @@ one-value : {x : ℕ} (f : ℕ → ℕ) → x ≡ f 0 → (j : ℕ) → j < 1 �
 one-value f e zero h = e
 one-value f e (suc j) h = absurd (omega arith)
 
-module _ (marks settings components : ℕ) (bytes : List ℕ) (are : AreBytes bytes) (accepted : first (loadCauses marks settings components bytes) ≡ Accepted) where
+module _ (bytes : List ℕ) (are : AreBytes bytes) (rows : first (recordsCauses (readLibrary bytes) bytes) ≡ Accepted) where
   abbrev l : Library
   l = readLibrary bytes
 
   abbrev total : ℕ
   total = markTotal (l .d) (l .b)
 
-  -- what each record has passed
-  record Passes : Type 0 where
-    heads : first (headCauses l bytes) ≡ Accepted
-    mark : (t i : ℕ) → t < l .d → i < markCount (l .d) (l .b) (suc t) → first (markCauses bytes (firstMarks (l .d) (l .b) t) i) ≡ Accepted
-    vector : (i : ℕ) → i < l .n → first (vectorCauses l bytes i) ≡ Accepted
-    end : first (endCauses l bytes) ≡ Accepted
-
-  passes : Passes
-  unfolding loadCauses
-  passes =
-      let rows = passed _ Length _ accepted .rest in
-      let all = both (headCauses l bytes ++ marksCauses l bytes ++ vectorsCauses l bytes) (endCauses l bytes) rows in
-      let some = both (headCauses l bytes ++ marksCauses l bytes) (vectorsCauses l bytes) (all .front) in
-      let few = both (headCauses l bytes) (marksCauses l bytes) (some .front) in
-      record {
-        heads = few .front;
-        mark = λ t i h k. accepted-at (markCount (l .d) (l .b) (suc t)) _ (accepted-at (l .d) _ (few .back) t h) i k;
-        vector = accepted-at (l .n) (vectorCauses l bytes) (some .back);
-        end = all .back;
-      }
+  each-passes : Passes bytes l
+  each-passes = passes bytes l rows
 
   -- ---- the head
 
   head-again : headBytes (l .d) (l .b) (l .n) ≡ take (recordLength headKind) bytes
   unfolding readLibrary headValue
-  head-again = record-again headKind (l .d ∷ l .b ∷ l .n ∷ []) bytes _ are (passes .heads) (rw head-widths same)
+  head-again = record-again headKind (l .d ∷ l .b ∷ l .n ∷ []) bytes _ are (each-passes .head) (rw head-widths same)
     where
       same : (i : ℕ) → i < 3 → getD (l .d ∷ l .b ∷ l .n ∷ []) i 0 ≡ valueOf headKind i bytes
       same zero h = refl
@@ -101,7 +81,7 @@ module _ (marks settings components : ℕ) (bytes : List ℕ) (are : AreBytes by
   unfolding markAt
   mark-again i h =
       let of = numbered (l .d) (l .b) (l .d) i h in
-      let passes-there = passes .mark (of .t) (of .i) (of .among) (of .within) in
+      let passes-there = each-passes .mark (of .t) (of .i) (of .among) (of .within) in
       let rest = drop (markPlace i) bytes in
       let rest-are : AreBytes rest = bytes-drop (markPlace i) bytes are in
       let below : valueOf markKind 0 rest < 2 ^ 32 = rw mark-widths at (value-below markKind 0 rest rest-are (rw mark-widths (lit< tt))) in
@@ -114,14 +94,6 @@ module _ (marks settings components : ℕ) (bytes : List ℕ) (are : AreBytes by
   settings-read : (i : ℕ) → i < l .n → getD (l .settings) i 0 ≡ settingsAt total bytes i
   unfolding readLibrary
   settings-read i h = tabulate-at (l .n) (settingsAt total bytes) 0 i h
-
-  component-read : (i t : ℕ) → i < l .n → t < l .d → componentIn l i t ≡ componentAt total bytes i t
-  unfolding readLibrary
-  component-read i t h k =
-      let d = l .d in
-      let rows : suc i * d ≤ l .n * d = mul-le-mul-right d h in
-      let within : i * d + t < l .n * d = omega (arith, suc-mul i d) in
-      tabulate-at (l .n * d) (λ k. componentAt total bytes (k / d) (k % d)) (pos 0) (i * d + t) within ∙ rw (digits-div i k, digits-mod i k)
 
   -- one vector's record
   module _ (i : ℕ) (h : i < l .n) where
@@ -137,7 +109,7 @@ module _ (marks settings components : ℕ) (bytes : List ℕ) (are : AreBytes by
     beyond : (t : ℕ) → t < maxDimensions → l .d ≤ t → valueOf vectorKind (suc t) rest ≡ 0
     unfolding zeroBeyond
     beyond t within past =
-        let own = both (frameCauses (eqb (kindOf rest) vectorKind) rest) _ (passes .vector i h) .back in
+        let own = both (frameCauses (eqb (kindOf rest) vectorKind) rest) _ (each-passes .vector i h) .back in
         let zeros = not-false (zeroBeyond (l .d) rest) (passed _ Component _ own .fails) in
         let here = every-at maxDimensions (λ t. ltb t (l .d) || eqb (valueOf vectorKind (suc t) rest) 0) zeros t within in
         eqb-true (valueOf vectorKind (suc t) rest) 0 (rw (le-ltb t (l .d) past) at here)
@@ -161,13 +133,13 @@ module _ (marks settings components : ℕ) (bytes : List ℕ) (are : AreBytes by
 
         go : Dec (t < l .d) → getD values (suc t) 0 ≡ valueOf vectorKind (suc t) rest
         go (yes less) =
-            tabulate-at (l .d) stored 0 t less ∙ ap (ofZ w16) (component-read i t h less) ∙ ofZ-toZ w16 (valueOf vectorKind (suc t) rest) (record { fits = width-at t within })
+            tabulate-at (l .d) stored 0 t less ∙ ap (ofZ w16) (component-read bytes rows i t h less) ∙ ofZ-toZ w16 (valueOf vectorKind (suc t) rest) (record { fits = width-at t within })
         go (no more) =
             let past : l .d ≤ t = omega arith in
             tabulate-past (l .d) stored 0 t past ∙ sym (beyond t within past)
 
     vector-again : vectorBytes (l .d) (getD (l .settings) i 0) (componentIn l i) ≡ take (recordLength vectorKind) rest
-    vector-again = record-again vectorKind values rest _ rest-are (passes .vector i h) (rw vector-widths value-same)
+    vector-again = record-again vectorKind values rest _ rest-are (each-passes .vector i h) (rw vector-widths value-same)
 
   -- ---- all of it
 
@@ -175,7 +147,7 @@ module _ (marks settings components : ℕ) (bytes : List ℕ) (are : AreBytes by
   unfolding widthsOf widthsAmong formats
   end-again =
       let place = vectorPlace total (l .n) in
-      record-again endKind [] (drop place bytes) [] (bytes-drop place bytes are) (passes .end) (λ i h. absurd (omega arith))
+      record-again endKind [] (drop place bytes) [] (bytes-drop place bytes are) (each-passes .end) (λ i h. absurd (omega arith))
 
   marks-again : headBytes (l .d) (l .b) (l .n) ++ each total (λ i. markBytes (getD (l .marks) i (pos 0))) ≡ take (markPlace total) bytes
   unfolding markPlace
