@@ -29,7 +29,7 @@
  * rule stands with it.
  *
  * The calls use no heap, keep nothing from one call to the next, and do no input or output. So they can run at the
- * same time, each on what it is given.
+ * same time, each on what it is given. A call uses at most 32 KiB of stack.
  */
 #ifndef MATCHER_H
 #define MATCHER_H

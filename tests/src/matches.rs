@@ -4,7 +4,7 @@ use crate::{
     input::{LoadRoom, Loaded},
     random::Random,
     reference,
-    samples::{file, random_input, readings},
+    samples::{file, largest_input, random_input, readings},
 };
 
 /// The parts of an input whose library is right.
@@ -28,6 +28,11 @@ impl Match {
         let input = random_input(seed, most);
         let query = readings(&mut Random::new(seed), &input.query);
         Match { library: file(&input), k: input.k as u16, query }
+    }
+
+    /// As long as an input can be, for all of its vectors: the largest library, with readings of six bytes.
+    pub fn longest() -> Match {
+        Match { library: file(&largest_input()), k: 512, query: [6, 0, 0, 0x80, 0x3F, 20].repeat(32) }
     }
 
     pub fn bytes(&self) -> Vec<u8> {
