@@ -1,0 +1,60 @@
+-- `match_input` meets its contract: the text is that of the library's first cause, or of what follows the library. Assumes nothing.
+use mathlib.Core.Path.{_≡_, sym, subst, _∙_}
+use mathlib.Core.List.{List}
+use Prim.Native.Nat.{ℕ, _≤_}
+use lib.ListN.{length}
+use borrow.Author.Needs.{needs}
+use Rattle.matching.specs.Match.{refusedText, matchText}
+use Rattle.matching.specs.Puts.{puts-same}
+use Rattle.matching.specs.Steps.{loaded-refused, loaded-holds}
+use Rattle.matching.proofs.match_input.Statement.{statement}
+use Rattle.matching.proofs.match_input.Tie as tie
+
+abbrev start : tie.After-load → tie.Start
+start c = c .before .before .before .before .before .before .before
+
+match-loaded-requires : tie.Need-match-loaded-requires
+match-loaded-requires c κs =
+    let told = c .before .before .before .before in
+    let load = told .before .before .before .before .before .before in
+    let pre = start load .pre in
+    let of = load .load .ensures in
+    (loaded-holds (start load .args .input .now) (pre .0) (pre .1) (pre .2) (of .0) (told .enum-told .given .1) _ _ _ (of .1 .0) (of .1 .1 .0) (of .1 .1 .1), pre .3)
+
+-- the library is refused
+refused-is : (c : tie.After-verdict) → let load = c .before .before .before .before .before .before in matchText (start load .args .input .now) ≡ refusedText (c .verdict .given .0 .0)
+refused-is c =
+    let load = c .before .before .before .before .before .before in
+    let pre = start load .pre in
+    loaded-refused (start load .args .input .now) (pre .0) (pre .1) (pre .2) (load .load .ensures .0) (c .verdict .given .1)
+
+put-refusal-requires : tie.Need-put-refusal-requires
+put-refusal-requires c κs =
+    let told = c .before .before in
+    let s = start (told .before .before .before .before .before .before) in
+    subst (λ (text : List ℕ). length text ≤ length (s .args .text .now)) (refused-is told) (s .pre .3)
+
+returns-2 : tie.Need-returns-2
+returns-2 c =
+    let put = c .before .before in
+    puts-same (sym (refused-is (put .before .before .before))) (put .put-refusal .ensures)
+
+pub match-input-spec : {M : Type 1} → statement M
+match-input-spec =
+    tie.close
+    (tie.spec
+    (λ c κs. search needs)
+    (λ c. search needs)
+    match-loaded-requires
+    (λ c. search needs)
+    put-refusal-requires
+    (λ c. search needs)
+    (λ c. search needs)
+    (λ c. search needs)
+    (λ c. search needs)
+    (λ c. search needs)
+    (λ c. search needs)
+    (λ c. search needs)
+    (λ c. search needs)
+    (λ c. search needs)
+    returns-2)

@@ -1,0 +1,113 @@
+-- `match_query` meets its contract: the text is that of the query's first cause, or of the answer. Assumes nothing.
+use mathlib.Core.Path.{_≡_, sym, ap, subst, _∙_}
+use mathlib.Core.List.{List, _++_}
+use Prim.Native.Nat.{ℕ, _≤_}
+use native.Mathlib.Omega.{arith}
+use lib.IntN.{ℤ, pos}
+use lib.ListN.{length, take, drop, replicate}
+use lib.Seq.{length-take-le}
+use borrow.Author.Needs.{needs}
+use Rattle.refusal.specs.declared.Verdict.the-variants.{Accepted}
+use Rattle.refusal.specs.First.{first, outcome-accepted, outcome-refused}
+use Rattle.limits.specs.Limits.{maxDimensions, isDimensionCount}
+use Rattle.limits.specs.Tests.{between}
+use Rattle.whole.specs.Components.{areComponents}
+use Rattle.library.specs.Library.{Library, libraryWith}
+use Rattle.query.specs.Query.{recordsCauses, componentsOf}
+use Rattle.matching.specs.Match.{answerText, refusedText}
+use Rattle.matching.specs.Answerable.{query-components, query-length}
+use Rattle.matching.specs.Lent.{back-within, shared-is}
+use Rattle.matching.specs.Puts.{puts-length, puts-same}
+use Rattle.matching.specs.Steps.{queryText, ready-dimensions, query-rows}
+use Rattle.matching.proofs.parts.match_query.Statement.{statement}
+use Rattle.matching.proofs.parts.match_query.Tie as tie
+
+query-holds : tie.Need-array-borrow-prefix-query
+query-holds c =
+    let start = c .before .before .before in
+    between 1 (start .args .d) maxDimensions (ready-dimensions (start .pre .0 .0)) .below
+
+-- the call's verdict is that of the query's records
+verdict-is : (c : tie.After-query2) → let start = c .before .before .before .before .before in
+    c .query2 .result ≡ first (recordsCauses (start .args .d) (start .args .bytes .now))
+verdict-is c =
+    let start = c .before .before .before .before .before in
+    c .query2 .ensures .0 ∙ query-rows (start .args .d) _ (start .args .bytes .now) (ready-dimensions (start .pre .0 .0)) (length-take-le _ _ (query-holds (c .before .before)))
+
+abbrev query-back : tie.After-query2 → List ℤ
+query-back c = c .query2 .last .1 .1 .0
+
+query-within : tie.Need-array-share-prefix-query
+query-within c =
+    let back = c .before .before .before in
+    back-within _ _ (query-back back) (query-holds (back .before .before)) (back .query2 .kept .1 .1 .0)
+
+-- the library that is asked
+abbrev given : tie.Start → Library
+given s = libraryWith (s .args .d) (s .args .b) (s .args .n) (s .args .marks .now) (s .args .settings .now) (s .args .components .now)
+
+-- a query that passes: the components that were shared, and the text
+module _ (c : tie.After-query2) (is : c .query2 .result ≡ Accepted) where
+  abbrev s : tie.Start
+  s = c .before .before .before .before .before
+
+  passes : first (recordsCauses (s .args .d) (s .args .bytes .now)) ≡ Accepted
+  passes = sym (verdict-is c) ∙ is
+
+  components-are : take (s .args .d) (query-back c ++ drop (s .args .d) (replicate 32 (pos 0))) ≡ componentsOf (s .args .d) (s .args .bytes .now)
+  components-are =
+      shared-is _ _ (query-back c) (query-holds (c .before .before)) (c .query2 .kept .1 .1 .0)
+      ∙ c .query2 .ensures .1 ∙ outcome-accepted _ _ (sym (c .query2 .ensures .0) ∙ is)
+
+  text-is : answerText (given s) (take (s .args .d) (query-back c ++ drop (s .args .d) (replicate 32 (pos 0)))) (s .args .k) ≡ queryText (given s) (s .args .k) (s .args .bytes .now)
+  text-is = ap (λ (query : List ℤ). answerText (given s) query (s .args .k)) components-are ∙ sym (outcome-accepted _ refusedText passes)
+
+answer-requires : tie.Need-answer-requires
+answer-requires c κs =
+    let told = c .before .before in
+    let back = told .before .before .before in
+    let is = told .enum-told .given .1 in
+    let s = back .before .before .before .before .before in
+    let ready = s .pre .0 .0 in
+    let size = ap length (components-are back is) ∙ query-length (s .args .d) (s .args .bytes .now) in
+    let components = ap areComponents (components-are back is) ∙ query-components (s .args .d) (s .args .bytes .now) (passes back is) in
+    (ready .of-packing, (ready .of-search _ (s .args .k) size components (s .pre .0 .1), rw (text-is back is) (s .pre .1)))
+
+put-refusal-requires : tie.Need-put-refusal-requires
+put-refusal-requires c κs =
+    let back = c .before .before .before .before .before in
+    let s = back .before .before .before .before .before in
+    let refused = sym (verdict-is back) ∙ c .before .before .verdict .given .1 in
+    subst (λ (text : List ℕ). length text ≤ length (s .args .text .now))
+    (outcome-refused (answerText (given s) (componentsOf (s .args .d) (s .args .bytes .now)) (s .args .k)) refusedText refused) (s .pre .1)
+
+returns : tie.Need-returns
+returns c =
+    let put = c .before .before in
+    let told = put .before .before .before in
+    puts-same (text-is (told .before .before .before) (told .enum-told .given .1)) (put .answer .ensures)
+
+returns-2 : tie.Need-returns-2
+returns-2 c =
+    let put = c .before .before in
+    let back = put .before .before .before .before .before .before in
+    let refused = sym (verdict-is back) ∙ put .before .before .before .verdict .given .1 in
+    puts-same (sym (outcome-refused _ refusedText refused)) (put .put-refusal .ensures)
+
+pub match-query-spec : {M : Type 1} → statement M
+match-query-spec =
+    tie.close
+    (tie.spec
+    query-holds
+    (λ c. sym (length-take-le _ _ (query-holds (c .before))))
+    (λ c κs. search needs)
+    (λ c. search needs)
+    query-within
+    (λ c. sym (length-take-le _ _ (query-within (c .before))))
+    answer-requires
+    (λ c. search needs)
+    put-refusal-requires
+    (λ c. puts-length (c .before .before .answer .ensures))
+    returns
+    (λ c. puts-length (c .before .before .put-refusal .ensures))
+    returns-2)

@@ -1,0 +1,137 @@
+-- Behind a match whose rows pass nothing else can refuse: packing takes the library, and the search takes it with the codes that packing
+-- gave and the query. Assumes nothing.
+use mathlib.Core.Path.{_≡_, refl, sym, ap, _∙_}
+use mathlib.Core.Bool.{Bool, true, false, not, _&&_, _||_}
+use mathlib.Core.List.{List, [], _∷_, _++_, List·Memᴰ·head, List·Memᴰ·tail}
+use Prim.Native.Nat.{ℕ, zero, suc, _*_, _≤_, _<_}
+use native.Mathlib.Omega.{arith}
+use borrow.Author.Tests.{not-false, eq-eqb}
+use lib.Dec.{leb, eqb}
+use lib.IntN.{ℤ}
+use lib.Ieee.{Float}
+use lib.ListN.{length}
+use Rattle.refusal.specs.declared.Refusal.the-variants.{Neighbours, Truncated, NotANumber, OutOfRange, Stale}
+use Rattle.refusal.specs.declared.Verdict.the-variants.{Accepted}
+use Rattle.refusal.specs.First.{_⇒_, Row, first, passed}
+use Rattle.limits.specs.Limits.{isDimensionCount, isBits, isVectorCount, isComponent}
+use Rattle.whole.specs.Components.{areComponents}
+use Rattle.order.specs.Members.{_∈_}
+use Rattle.order.specs.Counted.{counted}
+use Rattle.selection.specs.Theorems.{reads-among}
+use Rattle.layout.specs.Stretch.{shapeCauses}
+use Rattle.layout.specs.Layout.{firstMarks}
+use Rattle.partition.specs.Marks.{goodMarks}
+use Rattle.approximation.specs.Codes.{codeLength}
+use Rattle.approximation.specs.PackLaws.{length-packed}
+use Rattle.approximation.specs.VectorCauses.{packVectorsCauses}
+use Rattle.approximation.specs.Vectors.{vectorsInside}
+use Rattle.approximation.specs.OwnCodes.{own-good}
+use Rattle.approximation.specs.Cells.{Own}
+use Rattle.search.specs.Search.{Room, numbersIn, distanceIn, lowIn, inOwnCells, scanned, searched, searchCauses}
+use Rattle.search.specs.Search.{Library as Searchable}
+use Rattle.search.specs.Ready.{roomOf}
+use Rattle.search.specs.Accepted.{accepts, lengths-exact}
+use Rattle.search.specs.Settled.{OwnCodes}
+use Rattle.search.specs.Theorems.{search-is-scan}
+use Rattle.reading.specs.declared.Reading.{Reading}
+use Rattle.reading.specs.declared.Reading.the-variants.{Fresh, Held, Lost}
+use Rattle.reading.specs.Component.{component}
+use Rattle.reading.specs.Intake.{isInfinite, valueCauses, causes, readingComponent}
+use Rattle.records.specs.Records.{kindOf}
+use Rattle.records.specs.Frame.{frameCauses}
+use Rattle.records.specs.RowLaws.{both}
+use Rattle.library.specs.Library.{Library, readLibrary}
+use Rattle.library.specs.Load.{recordsCauses as libraryCauses}
+use Rattle.query.specs.Query.{isReading, readingOf, readingCauses, recordsCauses as queryCauses, componentsOf, nextRecord}
+use Rattle.matching.specs.Match.{searchable, behind, kOf, kCauses, causesWith}
+use Rattle.library.specs.Loaded.{loaded-shape, loaded-count, marks-count, components-count, loaded-marks, loaded-components}
+use Rattle.matching.specs.Packed.{packed-inside, packed-own}
+
+-- ---- the query
+
+second-fails : (s t : Bool) → s || t ≡ false → t ≡ false
+second-fails true t e = cc
+second-fails false t e = e
+
+value-component : (x : Float) → first (valueCauses x) ≡ Accepted → isComponent (component x) ≡ true
+value-component x accepted =
+    let range = passed _ OutOfRange [] (passed _ NotANumber _ accepted .rest) in
+    not-false _ (second-fails (isInfinite x) _ (range .fails))
+
+reading-component : (r : Reading) → first (causes r) ≡ Accepted → isComponent (readingComponent r) ≡ true
+reading-component (Fresh x) accepted = value-component x accepted
+reading-component (Held x age) accepted = value-component x (passed _ Stale _ accepted .rest)
+reading-component Lost accepted = refl
+
+pub query-components : (d : ℕ) (bytes : List ℕ) → first (queryCauses d bytes) ≡ Accepted → areComponents (componentsOf d bytes) ≡ true
+unfolding queryCauses readingCauses componentsOf areComponents
+query-components zero bytes accepted = refl
+query-components (suc d) bytes accepted =
+    let parts = both (readingCauses bytes) (queryCauses d (nextRecord bytes)) accepted in
+    let own = both (frameCauses (isReading (kindOf bytes)) bytes) (causes (readingOf bytes)) (parts .front) .back in
+    rw (reading-component (readingOf bytes) own, query-components d (nextRecord bytes) (parts .back))
+
+pub query-length : (d : ℕ) (bytes : List ℕ) → length (componentsOf d bytes) ≡ d
+unfolding componentsOf
+query-length zero bytes = refl
+query-length (suc d) bytes = ap suc (query-length d (nextRecord bytes))
+
+-- ---- cells
+
+cells-own : (s : Searchable) → OwnCodes s → (is : List ℕ) → ((i : ℕ) → i ∈ is → i < s .n) → inOwnCells s is ≡ true
+unfolding inOwnCells
+cells-own s own [] among = refl
+cells-own s own (i ∷ is) among =
+    rw (own .cells i (among i (List·Memᴰ·head refl)) .inside, cells-own s own is (λ j m. among j (List·Memᴰ·tail m)))
+
+-- ---- a library whose records pass
+
+module _ (bytes : List ℕ) (accepted : first (libraryCauses (readLibrary bytes) bytes) ≡ Accepted) where
+  abbrev l : Library
+  l = readLibrary bytes
+
+  dimensions : isDimensionCount (l .d) ≡ true
+  dimensions = not-false _ (passed (not (isDimensionCount (l .d))) _ _ (loaded-shape bytes accepted) .fails)
+
+  bits : isBits (l .d) (l .b) ≡ true
+  bits = not-false _ (passed (not (isBits (l .d) (l .b))) _ _ (passed (not (isDimensionCount (l .d))) _ _ (loaded-shape bytes accepted) .rest) .fails)
+
+  pub packs : first (packVectorsCauses (l .d) (l .b) (l .n) (l .components) (l .marks) (codeLength (l .b) (l .n))) ≡ Accepted
+  unfolding first
+  packs =
+      rw (dimensions, bits, loaded-count bytes accepted, eq-eqb (length (l .components)) (l .n * l .d) (components-count bytes accepted), eq-eqb (codeLength (l .b) (l .n)) (codeLength (l .b) (l .n)) refl, eq-eqb (length (l .marks)) (firstMarks (l .d) (l .b) (l .d)) (marks-count bytes accepted), loaded-components bytes accepted, loaded-marks bytes accepted, packed-inside bytes accepted)
+
+  read-below : (query : List ℤ) (k i : ℕ) → i ∈ searched (searchable l) query k .reads → i < l .n
+  read-below query k i m =
+      let s = searchable l in
+      omega (arith, (counted 0 (l .n) (reads-among k (lowIn s query) (distanceIn s query) (numbersIn s) m)) .below)
+
+  pub searches : (query : List ℤ) (k : ℕ) → length query ≡ l .d → areComponents query ≡ true → leb 1 k && leb k (l .n) ≡ true
+      → first (searchCauses (searchable l) query k (roomOf k k (l .n))) ≡ Accepted
+  searches query k size components neighbours =
+      let s = searchable l in
+      let own = packed-own bytes accepted in
+      accepts s query k (roomOf k k (l .n))
+      (record {
+        dimensions = dimensions;
+        bits = bits;
+        count = loaded-count bytes accepted;
+        neighbours = neighbours;
+        lengths = lengths-exact s query k (roomOf k k (l .n)) (record {
+          of-query = size;
+          of-marks = marks-count bytes accepted;
+          of-codes = length-packed (l .d) (l .b) (l .n) _;
+          of-vectors = components-count bytes accepted;
+          of-numbers = refl;
+          of-distances = refl;
+          of-reads = refl;
+        });
+        components = components;
+        marks = loaded-marks bytes accepted;
+        codes = own-good own;
+        cells = cells-own s own (searched s query k .reads) (read-below query k);
+      })
+
+  -- "A full scan's answer": the entries that are printed are the scan's
+  pub entries-are-the-scan : (query : List ℤ) (k : ℕ) → searched (searchable l) query k .best ≡ scanned (searchable l) query k
+  entries-are-the-scan query k = search-is-scan (searchable l) query k (packed-own bytes accepted)

@@ -1,0 +1,107 @@
+-- A match (document 01, "The program"): "Standard input: a library, k (2 bytes), a query." What comes out is one text, and this is all of
+-- it. Assumes nothing.
+use mathlib.Core.Bool.{not, _&&_}
+use mathlib.Core.List.{List, [], _∷_, _++_}
+use Prim.Native.Nat.{ℕ, _+_, _*_}
+use lib.Dec.{leb, ltb, eqb}
+use lib.IntN.{ℤ}
+use lib.ListN.{length, getD, drop}
+use Rattle.refusal.specs.declared.Refusal.{Refusal}
+use Rattle.refusal.specs.declared.Refusal.the-variants.{Neighbours, Length, Truncated}
+use Rattle.refusal.specs.declared.Verdict.{Verdict}
+use Rattle.refusal.specs.declared.Verdict.the-variants.{Accepted, Refused}
+use Rattle.refusal.specs.Refusal.{numberOf}
+use Rattle.refusal.specs.First.{Row, _⇒_, first, outcome}
+use Rattle.limits.specs.Limits.{maxVectors}
+use Rattle.order.specs.Pair.{Pair}
+use Rattle.selection.specs.Reading.{Reading}
+use Rattle.approximation.specs.Vectors.{vectorCodes}
+use Rattle.search.specs.Search.{Library as Searchable, searched}
+use Rattle.records.specs.Bytes.{fromLowFirst}
+use Rattle.library.specs.Library.{Library, libraryLength, readLibrary}
+use Rattle.library.specs.Load.{recordsCauses as libraryCauses}
+use Rattle.query.specs.Query.{recordsCauses as queryCauses, componentsOf}
+use Rattle.matching.specs.declared.Printed.{Printed}
+use Rattle.matching.specs.Text.{lineEnd, refusedWord, decimal, line}
+
+-- ---- what stands where
+
+-- the bytes behind the library that the input begins with
+abbrev pub behind : Library → List ℕ → List ℕ
+behind l input = drop (libraryLength (l .d) (l .b) (l .n)) input
+
+-- k: the first two of them
+abbrev pub kLength : ℕ
+kLength = 2
+
+abbrev pub kOf : List ℕ → ℕ
+kOf rest = fromLowFirst kLength rest
+
+-- ---- causes
+
+-- "input ending before both bytes of k gives 12"; then 4
+abbrev pub kCauses : ℕ → List ℕ → List Row
+kCauses n rest = (ltb (length rest) kLength ⇒ Truncated) ∷ (not (leb 1 (kOf rest) && leb (kOf rest) n) ⇒ Neighbours) ∷ []
+
+-- those of a library's records, of k and of the query's d records, left to right
+abbrev pub causesWith : Library → List ℕ → List Row
+causesWith l input = libraryCauses l input ++ (kCauses (l .n) (behind l input) ++ queryCauses (l .d) (drop kLength (behind l input)))
+
+unfoldable pub matchCauses : List ℕ → List Row
+matchCauses input = causesWith (readLibrary input) input
+
+-- ---- text
+
+-- the library, with the codes that packing gives for its vectors
+abbrev pub searchable : Library → Searchable
+searchable l = record {
+  d = l .d;
+  b = l .b;
+  n = l .n;
+  marks = l .marks;
+  codes = vectorCodes (l .d) (l .b) (l .n) (l .marks) (l .components);
+  vectors = l .components;
+}
+
+-- "then one line for each entry: number, settings, distance"
+abbrev pub entryLine : List ℕ → Pair → List ℕ
+entryLine settings p = line (p .number) (getD settings (p .number) 0 ∷ p .key ∷ [])
+
+unfoldable pub entryLines : List ℕ → List Pair → List ℕ
+entryLines settings [] = []
+entryLines settings (p ∷ ps) = entryLine settings p ++ entryLines settings ps
+
+-- "line one is k and the read count"
+abbrev pub answerLines : List ℕ → ℕ → Reading → List ℕ
+answerLines settings k reading = line k (length (reading .reads) ∷ []) ++ entryLines settings (reading .best)
+
+-- the k nearest vectors to the query
+abbrev pub answerText : Library → List ℤ → ℕ → List ℕ
+answerText l query k = answerLines (l .settings) k (searched (searchable l) query k)
+
+-- "Its first fault from the left comes out as `refused ` and the number"
+abbrev pub refusedText : Refusal → List ℕ
+refusedText cause = refusedWord ++ (decimal (numberOf cause) ++ (lineEnd ∷ []))
+
+abbrev pub textWith : Library → List ℕ → List ℕ
+textWith l input =
+    outcome (first (causesWith l input))
+    (answerText l (componentsOf (l .d) (drop kLength (behind l input))) (kOf (behind l input)))
+    refusedText
+
+unfoldable pub matchText : List ℕ → List ℕ
+matchText input = textWith (readLibrary input) input
+
+-- ---- the output
+
+-- the output is lent for the longest text: line one has two counts, and each of its entries a number, settings and a distance: 3, 3, 3, 10
+-- and 12 digits, each with the byte behind it
+abbrev pub textRoom : ℕ
+textRoom = (4 + 4) + maxVectors * (4 + 11 + 13)
+
+abbrev pub roomCauses : ℕ → List Row
+roomCauses room = (not (eqb room textRoom) ⇒ Length) ∷ []
+
+-- how many bytes the text has; refused, none is written
+abbrev pub printed : Verdict → List ℕ → Printed
+printed verdict text = outcome verdict (record { verdict = Accepted; length = length text }) (λ cause. record { verdict = Refused cause; length = 0 })

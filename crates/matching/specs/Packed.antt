@@ -1,0 +1,56 @@
+-- The codes that packing gives for a library whose records pass are its vectors' own. Assumes nothing.
+use mathlib.Core.Path.{_≡_, refl}
+use mathlib.Core.Bool.{true}
+use mathlib.Core.List.{List, [], _∷_}
+use Prim.Native.Nat.{ℕ, suc, _+_, _*_, _/_, _%_, _<_}
+use native.Mathlib.Nat.{zero-add, zero-mod, add-zero, add-suc, suc-add, mod-lt, div-lt-iff-lt-mul}
+use native.Mathlib.Omega.{arith}
+use lib.IntN.{ℤ, pos}
+use lib.ListN.{length, getD, drop}
+use Rattle.refusal.specs.declared.Verdict.the-variants.{Accepted}
+use Rattle.refusal.specs.First.{first}
+use Rattle.partition.specs.Marks.{dimensionMarks}
+use Rattle.partition.specs.Region.{inMarks}
+use Rattle.approximation.specs.PackLaws.{next-column}
+use Rattle.approximation.specs.Vectors.{insideFrom, vectorsInside, vectorCodes}
+use Rattle.approximation.specs.Cells.{Own}
+use Rattle.approximation.specs.OwnCodes.{own-codes}
+use Rattle.library.specs.EachLaws.{every-at}
+use Rattle.library.specs.Library.{Library, markTotal, componentAt, readLibrary}
+use Rattle.library.specs.Write.{inside}
+use Rattle.library.specs.Load.{recordsCauses as libraryCauses}
+use Rattle.library.specs.Loaded.{shaped, components-count, component-at, vector-inside}
+
+-- components that lie, each, inside the marks of their column's dimension, the first in column p % d
+inside-from : (d b : ℕ) → 0 < d → (marks : List ℤ) (p : ℕ) (zs : List ℤ)
+    → ((q : ℕ) → q < length zs → inMarks (dimensionMarks d b marks (suc ((p + q) % d))) (getD zs q (pos 0)) ≡ true) → insideFrom d b marks (p % d) zs ≡ true
+unfolding insideFrom
+inside-from d b some marks p [] each = refl
+inside-from d b some marks p (z ∷ zs) each =
+    let here : inMarks (dimensionMarks d b marks (suc (p % d))) z ≡ true = rw add-zero at (each 0 (omega arith)) in
+    let rest = inside-from d b some marks (suc p) zs (λ q h. rw (suc-add p q, ← add-suc p q) (each (suc q) (omega arith))) in
+    rw (here, next-column d b some p) rest
+
+module _ (bytes : List ℕ) (accepted : first (libraryCauses (readLibrary bytes) bytes) ≡ Accepted) where
+  abbrev l : Library
+  l = readLibrary bytes
+
+  component-inside : (i t : ℕ) → i < l .n → t < l .d
+      → inMarks (dimensionMarks (l .d) (l .b) (l .marks) (suc t)) (componentAt (markTotal (l .d) (l .b)) bytes i t) ≡ true
+  unfolding inside
+  component-inside i t h k =
+      every-at (l .d) (λ t. inMarks (dimensionMarks (l .d) (l .b) (l .marks) (suc t)) (componentAt (markTotal (l .d) (l .b)) bytes i t))
+      (vector-inside bytes accepted i h) t k
+
+  pub packed-inside : vectorsInside (l .d) (l .b) (l .marks) (l .components) ≡ true
+  packed-inside =
+      let some = shaped bytes accepted .some in
+      rw zero-mod at
+      (inside-from (l .d) (l .b) some (l .marks) 0 (l .components)
+      (λ q h.
+      let within : q < l .n * l .d = rw (components-count bytes accepted) at h in
+      rw (zero-add q, component-at bytes accepted q within)
+      (component-inside (q / l .d) (q % l .d) (div-lt-iff-lt-mul some .1 within) (mod-lt q some))))
+
+  pub packed-own : Own (l .d) (l .b) (l .n) (l .marks) (vectorCodes (l .d) (l .b) (l .n) (l .marks) (l .components)) (l .components)
+  packed-own = own-codes (l .d) (l .b) (l .n) (shaped bytes accepted .some) (l .marks) (l .components) (components-count bytes accepted) packed-inside
