@@ -73,18 +73,17 @@ pub(crate) fn put_entries(
     let mut next = at;
     let mut i = 0;
     while i < numbers.len() {
-        let number = numbers[i];
-        next = put_entry(number, settings_at(settings, number), distances[i], text, next);
+        let vector_settings = settings_at(settings, numbers[i] as usize);
+        next = put_entry(numbers[i], vector_settings, distances[i], text, next);
         i += 1;
     }
     next
 }
 
-// The settings of the vector of a number, 0 where there is none.
-fn settings_at(settings: &[u32], number: u32) -> u32
-    ensures { λ r. ⌜ r ≡ getD (now (settings .entry)) number 0 ⌝ }
+// The settings of vector i, 0 where there is none.
+fn settings_at(settings: &[u32], i: usize) -> u32
+    ensures { λ r. ⌜ r ≡ getD (now (settings .entry)) i 0 ⌝ }
 {
-    let i = number as usize;
     if i < settings.len() { settings[i] } else { 0 }
 }
 

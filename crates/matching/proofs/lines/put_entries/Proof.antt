@@ -54,14 +54,15 @@ loop-holds c = record { few = omega arith; front = []; puts = puts-none _ _; who
 
 put-entry-requires : tie.Need-put-entry-requires Inv-loop μ-loop
 put-entry-requires c κs =
-    let at = c .before .before .before .before .before in
+    let found = c .before .before .before in
+    let at = found .before .before .before in
     let start = at .before .before .before .before .before in
-    rw (c .before .before .settings-at .ensures) (room (at .loop .inv) (start .pre .0) (omega arith) (start .pre .1))
+    rw (found .settings-at .ensures) (room (at .loop .inv) (start .pre .0) (omega arith) (start .pre .1))
 
 loop-again : tie.Need-loop-again Inv-loop μ-loop
 loop-again c =
     let put = c .before .before in
-    let found = put .before .before .before in
+    let found = put .before .before .before .before in
     let at = found .before .before .before in
     let start = at .before .before .before .before .before in
     turn (at .loop .inv) (start .pre .0) (omega arith) (rw (found .settings-at .ensures) at (put .put-entry .ensures))
@@ -75,9 +76,12 @@ put-entries-spec =
     loop-holds
     (λ c. search needs)
     (λ c. omega arith)
+    (λ c. omega (arith, c .shared-slice-known4 .given (c .before .before .loop .i)))
     (λ c κs. search needs)
     (λ c. search needs)
-    (λ c. omega (arith, c .before .before .before .before .before .before .before .before .before .pre))
+    (λ c. omega arith)
+    (λ c. search needs)
+    (λ c. omega (arith, c .before .before .before .before .before .before .before .before .before .before .pre))
     put-entry-requires
     (λ c. omega arith)
     (λ c. omega arith)
