@@ -1,10 +1,9 @@
-//! C programs over the matcher's header and library, and other commands.
+//! C programs over the matcher's header and library.
 
 use std::{
     ffi::OsStr,
-    io::Write,
     path::{Path, PathBuf},
-    process::{Command, Output, Stdio},
+    process::{Command, Output},
 };
 
 /// The repository's folder.
@@ -23,16 +22,6 @@ pub fn output(command: &mut Command) -> String {
 /// What a program wrote.
 pub fn text(output: &Output) -> String {
     String::from_utf8(output.stdout.clone()).expect("what is written is text")
-}
-
-/// The same for a command that is given this by a pipe, and reads it all.
-#[track_caller]
-pub fn fed(command: &mut Command, input: &[u8]) -> String {
-    let mut child = command.stdin(Stdio::piped()).stdout(Stdio::piped()).spawn().expect("the command runs");
-    child.stdin.take().expect("there is a pipe").write_all(input).expect("all of it is read");
-    let output = child.wait_with_output().expect("the command ends");
-    assert!(output.status.success(), "{command:?}: {output:?}");
-    text(&output)
 }
 
 /// The C compiler, by this standard, with warnings as errors and the header at hand. It is there where rustc is, which

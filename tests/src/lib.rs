@@ -8,6 +8,7 @@ pub mod declarations;
 pub mod faults;
 pub mod input;
 pub mod interface;
+pub mod kit;
 pub mod matches;
 pub mod random;
 pub mod reference;

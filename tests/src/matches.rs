@@ -1,4 +1,4 @@
-//! Inputs of the program: a library, k, a query.
+//! Inputs of the program: a library, k, a query; and such inputs spoilt.
 
 use crate::{
     input::{LoadRoom, Loaded},
@@ -44,4 +44,44 @@ impl Match {
 pub fn loaded(bytes: &[u8]) -> Loaded {
     let room = LoadRoom { marks: 2080, settings: 512, components: 16_384 };
     reference::load(bytes, room).expect("the library is right")
+}
+
+/// Spoils an input in one place or more, most of them in the head or near the end: a byte changed, put in or left out,
+/// the end cut off, bytes put behind.
+pub fn spoil(random: &mut Random, bytes: &mut Vec<u8>) {
+    for _ in 0..random.one_of(&[1, 1, 1, 2, 3, 5]) {
+        let end = bytes.len();
+        let (anywhere, head, tail) = (random.below(end + 1), random.below(5), random.below(60));
+        let at = random.one_of(&[anywhere, anywhere, head, end.saturating_sub(tail)]).min(end);
+        let any = random.next_u32() as u8;
+        let byte = random.one_of(&[any, 0, 1, 2, 3, 4, 5, 6, 7, 8, 127, 128, 255]);
+        match random.below(16) {
+            0 => bytes.insert(at, byte),
+            1 => bytes.truncate(at),
+            2 => bytes.extend((0..=random.below(9)).map(|_| random.next_u32() as u8)),
+            3 if at < end => drop(bytes.remove(at)),
+            4 if at < end => bytes[at] ^= 1 << random.below(8),
+            5 if at < end => bytes[at] = bytes[at].wrapping_add(random.one_of(&[1, 255])),
+            _ if at < end => bytes[at] = byte,
+            _ => bytes.push(byte),
+        }
+    }
+}
+
+/// Bytes of no plan, or records of no plan behind a head, with small numbers in them.
+pub fn noise(random: &mut Random) -> Vec<u8> {
+    if random.below(3) == 0 {
+        return (0..random.below(100)).map(|_| random.next_u32() as u8).collect();
+    }
+    let mut bytes = vec![1, random.below(4) as u8, random.below(8) as u8, random.below(3) as u8, 0];
+    let mut mark = 0;
+    for _ in 0..random.below(14) {
+        let kind = random.one_of(&[0, 1, 2, 2, 2, 2, 2, 2, 2, 2, 3, 3, 4, 5, 6, 7, 8]);
+        let length = [0, 4, 4, 68, 0, 4, 5, 0, 0][usize::from(kind)];
+        mark = (mark + random.one_of(&[0, 1, 9, 127])) & 0x7F;
+        bytes.push(kind);
+        bytes.extend([mark, 0, 0, 0].into_iter().take(length));
+        bytes.extend((4..length).map(|_| random.one_of(&[0, 0, 0, 0, 0, 0, 0, 0, 0, 1])));
+    }
+    bytes
 }

@@ -1,7 +1,12 @@
 //! How much stack the calls use: what include/matcher.h says of it.
 
 use std::{collections::BTreeSet, fs, path::Path, process::Command};
-use tests::{c, declarations::declared, matches::Match};
+use tests::{
+    c,
+    declarations::declared,
+    kit::{fed, good},
+    matches::Match,
+};
 
 /// "A call uses at most 32 KiB of stack."
 const MOST: usize = 32 * 1024;
@@ -9,8 +14,9 @@ const MOST: usize = 32 * 1024;
 /// Every call, on the longest input there can be.
 #[test]
 fn no_call_uses_more_stack_than_the_header_says() {
+    let input = Match::longest().bytes();
     let program = c::compiled(&c::root().join("tests/c/stack.c"), Path::new(env!("CARGO_TARGET_TMPDIR")));
-    let printed = c::fed(&mut Command::new(program), &Match::longest().bytes());
+    let printed = good(&fed(&mut Command::new(program), &input, &[input.len()]));
     let mut measured = BTreeSet::new();
     for line in printed.lines() {
         let words: Vec<&str> = line.split(' ').collect();
