@@ -18,10 +18,10 @@ pub fn kit() -> Command {
     Command::new(program())
 }
 
-/// The program with no more than this much stack, in KiB.
+/// The program with no more than this much stack, in KiB. The environment would take some of it.
 pub fn kit_within(stack: usize) -> Command {
-    let mut command = Command::new("sh");
-    command.args(["-c", "ulimit -s \"$1\" && exec \"$0\""]).arg(program()).arg(stack.to_string());
+    let mut command = Command::new("/bin/sh");
+    command.args(["-c", "ulimit -s \"$1\" && exec \"$0\""]).arg(program()).arg(stack.to_string()).env_clear();
     command
 }
 
