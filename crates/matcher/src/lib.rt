@@ -4,6 +4,7 @@ pub mod distances;
 pub mod files;
 pub mod marks;
 pub mod nearest;
+pub mod program;
 
 use reading::Intake;
 use reading::Reading;
