@@ -29,7 +29,7 @@
  * rule stands with it.
  *
  * The calls use no heap, keep nothing from one call to the next, and do no input or output. So they can run at the
- * same time, each on what it is given. A call uses at most 32 KiB of stack.
+ * same time, each on what it is given. A call uses at most 32 KiB of stack, matcher_match at most 128 KiB.
  */
 #ifndef MATCHER_H
 #define MATCHER_H
@@ -88,6 +88,8 @@ enum matcher_refusal {
 #define MATCHER_MAX_CODES 12288
 #define MATCHER_MAX_LIBRARY 45734
 #define MATCHER_MAX_QUERY 192
+#define MATCHER_MAX_MATCH 45928
+#define MATCHER_MAX_TEXT 14344
 
 /* ---- readings */
 
@@ -302,6 +304,19 @@ uint32_t matcher_load(const uint8_t *bytes, size_t bytes_len, int32_t *marks, si
  * Refusals: 1, 5; then from the left 12, 11, 17, 12, 13, 14, 15 for each record; 16.
  */
 uint32_t matcher_query(size_t d, const uint8_t *bytes, size_t bytes_len, int32_t *components, size_t components_len);
+
+/* ---- the whole program */
+
+/*
+ * What the kit program writes for a match: a library, k (2 bytes), a query. The text goes into the front of the
+ * output, which keeps its content past it, and the count is its length. It is "refused " and the number of the
+ * match's first fault from the left (4 behind k, 12 for an end inside it); or, on line one, k and how many vectors
+ * were read, then a line for each of the k nearest: number, settings, distance. Numbers are decimal, with single
+ * spaces between them, and each line ends with byte 10. No match longer than MATCHER_MAX_MATCH is answered.
+ * Lengths: input any; output MATCHER_MAX_TEXT.
+ * Refusals: 5. What is wrong with the match stands in the text.
+ */
+uint32_t matcher_match(const uint8_t *input, size_t input_len, uint8_t *output, size_t output_len, size_t *count);
 
 #ifdef __cplusplus
 }

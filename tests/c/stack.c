@@ -16,7 +16,7 @@ enum { STACK = 1 << 20, PAINT = 0xA5 };
 static _Alignas(4096) unsigned char stack[STACK];
 
 /* what the calls are given */
-static uint8_t input[MATCHER_MAX_LIBRARY + 2 + MATCHER_MAX_QUERY], file[MATCHER_MAX_LIBRARY];
+static uint8_t input[MATCHER_MAX_MATCH], file[MATCHER_MAX_LIBRARY], output[MATCHER_MAX_TEXT];
 static size_t length, d, b, n, used, place, bits;
 static int32_t marks[MATCHER_MAX_MARKS], made[MATCHER_MAX_MARKS], vectors[MATCHER_MAX_COMPONENTS];
 static int32_t query[MATCHER_MAX_DIMENSIONS], component;
@@ -63,6 +63,7 @@ CALL(bounds, d, b, n, query, d, MARKS, CODES, n - 1, &lower, &upper)
 CALL(scan, d, n, n, query, d, VECTORS, numbers, n, distances, n)
 CALL(search, d, b, n, n, query, d, MARKS, CODES, VECTORS, numbers, n, distances, n,
      reads, n, &place)
+CALL(match, input, length, output, MATCHER_MAX_TEXT, &place)
 
 static void *run_nothing(void *argument)
 {
@@ -128,5 +129,6 @@ int main(void)
     MEASURE(bounds);
     MEASURE(scan);
     MEASURE(search);
+    MEASURE(match);
     return 0;
 }

@@ -7,6 +7,7 @@ mod intake;
 mod lent;
 mod library;
 mod partition;
+mod program;
 mod search;
 
 pub use approximation::{check_codes, pack, pack_vectors, unpack};
@@ -14,4 +15,5 @@ pub use distance::{bounds, distance};
 pub use intake::{fresh, fresh_value, held, intake, lost};
 pub use library::{load, query, write};
 pub use partition::{check_marks, make_marks, part, region, regions, stretch};
+pub use program::program;
 pub use search::{scan, search};

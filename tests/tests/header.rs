@@ -166,8 +166,8 @@ fn no_length_is_another() {
                 printf(\"%zu %zu %zu: \", d, b, n);
                 printf(\"%zu %zu %zu\\n\", MATCHER_MARKS(d, b), MATCHER_CODES(b, n), MATCHER_LIBRARY(d, b, n));
             }
-    printf(\"%d %d %d %d %d\\n\", MATCHER_MAX_MARKS, MATCHER_MAX_COMPONENTS, MATCHER_MAX_CODES, MATCHER_MAX_LIBRARY,
-           MATCHER_MAX_QUERY);
+    printf(\"%d %d %d %d %d %d %d\\n\", MATCHER_MAX_MARKS, MATCHER_MAX_COMPONENTS, MATCHER_MAX_CODES, MATCHER_MAX_LIBRARY,
+           MATCHER_MAX_QUERY, MATCHER_MAX_MATCH, MATCHER_MAX_TEXT);
 ",
     );
     let largest = [
@@ -176,6 +176,8 @@ fn no_length_is_another() {
         reference::codes_length(512, 192),
         reference::library_length(32, 192, 512),
         32 * (1 + 4 + 1),
+        45_928,
+        (4 + 4) + 512 * (4 + 11 + 13),
     ];
     let expected = largest.map(|length| length.to_string()).join(" ");
     assert_eq!(lines.pop(), Some(expected), "the largest, and on the right by the reference");

@@ -8,8 +8,10 @@ use tests::{
     matches::Match,
 };
 
-/// "A call uses at most 32 KiB of stack."
-const MOST: usize = 32 * 1024;
+/// "A call uses at most 32 KiB of stack, matcher_match at most 128 KiB."
+fn most(name: &str) -> usize {
+    1024 * if name == "matcher_match" { 128 } else { 32 }
+}
 
 /// Every call, on the longest input there can be.
 #[test]
@@ -21,7 +23,7 @@ fn no_call_uses_more_stack_than_the_header_says() {
     for line in printed.lines() {
         let words: Vec<&str> = line.split(' ').collect();
         let (bytes, given): (usize, &str) = (words[1].parse().expect("a number of bytes"), words[2]);
-        assert!(bytes <= MOST, "{line}");
+        assert!(bytes <= most(words[0]), "{line}");
         match words[0] {
             "matcher_lost" => assert_eq!(given, "13", "{line}"),
             "matcher_part_length" | "matcher_part_at" => {}
