@@ -8,6 +8,7 @@ mod layout;
 mod lent;
 mod library;
 mod partition;
+mod program;
 mod search;
 
 pub use approximation::{check_codes, pack, pack_vectors, unpack};
@@ -16,4 +17,5 @@ pub use intake::{fresh, fresh_value, held, intake, lost};
 pub use layout::{entry_layout, scan_from_c};
 pub use library::{library_length, load, query, write};
 pub use partition::{check_marks, dimension_region, make_marks, part, region, regions, stretch};
+pub use program::program;
 pub use search::{scan, search};

@@ -4,6 +4,7 @@ pub mod distances;
 pub mod entries;
 pub mod files;
 pub mod marks;
+pub mod program;
 
 use reading::Intake;
 use reading::Reading;

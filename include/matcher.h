@@ -1,0 +1,325 @@
+/*
+ * The tractor matcher, for C (C99 or later): target/staticlib/libmatcher.a, built for x86-64.
+ *
+ * WORDS
+ *
+ * A vector is a stored tractor: d components, whole numbers of 1/256 from -32768 to 32767. Vectors count from 0. A
+ * query is the measured tractor, d components too. Dimensions count from 1; d is 1 to 32.
+ *
+ * The b bits of a code are dealt out to the dimensions: dimension j has b / d, and one more if j <= b % d. With w
+ * bits, at most 6, a dimension has 2^w regions, numbered from 0, and 2^w + 1 marks, which lie in -32768 to 32768 and
+ * never fall. A value v is in region r exactly if mark r <= v < mark (r + 1); equal neighbours make an empty region.
+ * The marks buffer has the marks of dimension 1, then those of dimension 2, and so on.
+ *
+ * A code is a vector's region numbers joined, dimension 1 first, high bit first. Codes follow each other with no
+ * gap, filling bytes from the high bit; the spare bits of the last byte are zero. A code's cell is every vector
+ * whose components lie, each, in the region that the code names. The distance of two vectors is the sum of the
+ * squared differences of their components.
+ *
+ * THE CALLS
+ *
+ * A buffer is passed as a pointer and its length in elements. The pointer is aligned for its type and leads to that
+ * many elements, a pointer with no length to one; it is never NULL, even where the length is 0. What a call writes
+ * must not overlap anything else that it is given.
+ *
+ * A call gives 0, or says no: it gives the number of a refusal. The numbers that a call can give stand with it under
+ * "Refusals", in the order in which their causes are tested. It gives the first whose cause holds, and a number for
+ * no other reason. A refused call leaves all that it was to write as it was, but for single places of type size_t,
+ * which it sets to 0. A call that is not refused writes every element of a buffer that it is to fill, unless another
+ * rule stands with it.
+ *
+ * The calls use no heap, keep nothing from one call to the next, and do no input or output. So they can run at the
+ * same time, each on what it is given. A call uses at most 32 KiB of stack, matcher_match at most 128 KiB.
+ */
+#ifndef MATCHER_H
+#define MATCHER_H
+
+#include <stddef.h>
+#include <stdint.h>
+
+#ifdef __cplusplus
+extern "C" {
+#endif
+
+/* ---- refusals */
+
+enum matcher_refusal {
+    MATCHER_ACCEPTED = 0,      /* not refused */
+    MATCHER_DIMENSION = 1,     /* d not 1 to 32, or a dimension number not 1 to d */
+    MATCHER_BITS = 2,          /* b above 6 d, or a number of regions other than 1, 2, 4, 8, 16, 32 or 64 */
+    MATCHER_COUNT = 3,         /* n not 1 to 512, or a vector's number not below n */
+    MATCHER_NEIGHBOURS = 4,    /* k is 0 or above n */
+    MATCHER_LENGTH = 5,        /* the length of a buffer is not the exact one */
+    MATCHER_COMPONENT = 6,     /* a component out of range, or not zero beyond d */
+    MATCHER_MARK = 7,          /* a mark out of range, or below the one before it in its dimension */
+    MATCHER_OUTSIDE = 8,       /* a vector, or a value whose region is sought, outside the marks */
+    MATCHER_CODE = 9,          /* a code naming an empty region, a region number past the last, a spare bit set */
+    MATCHER_CELL = 10,         /* the search reads a vector that is not in its code's cell */
+    MATCHER_KIND = 11,         /* a kind byte not 1 to 7 */
+    MATCHER_TRUNCATED = 12,    /* the input ends inside a record, or before the next */
+    MATCHER_STALE = 13,        /* a reading is lost, or its age above 20 */
+    MATCHER_NOT_A_NUMBER = 14, /* a value is NaN */
+    MATCHER_OUT_OF_RANGE = 15, /* a value is infinite, or its component out of range */
+    MATCHER_TRAILING = 16,     /* bytes after a query */
+    MATCHER_MISPLACED = 17     /* a record of a known kind in a wrong place */
+};
+
+/* ---- limits */
+
+#define MATCHER_MAX_DIMENSIONS 32      /* d is 1 to this */
+#define MATCHER_MAX_DIMENSION_BITS 6   /* b is 0 to this times d */
+#define MATCHER_MAX_VECTORS 512        /* n is 1 to this; k is 1 to n */
+#define MATCHER_LEAST_COMPONENT (-32768)
+#define MATCHER_GREATEST_COMPONENT 32767
+#define MATCHER_LEAST_MARK (-32768)
+#define MATCHER_GREATEST_MARK 32768
+#define MATCHER_UNIT 256               /* a component of 1 is a reading of 1/256 */
+#define MATCHER_AGE_LIMIT 20           /* tenths of a second: a held reading is good up to this age */
+
+/* ---- lengths, in elements. Counts are within the limits; an argument is evaluated more than once. */
+
+#define MATCHER_MARKS(d, b) ((d) + ((d) + (b) % (d)) * ((size_t)1 << (b) / (d)))
+#define MATCHER_CODES(b, n) (((size_t)(n) * (b) + 7) / 8)
+#define MATCHER_LIBRARY(d, b, n) (5 + 5 * MATCHER_MARKS(d, b) + 69 * (size_t)(n) + 1)
+
+/* the largest */
+#define MATCHER_MAX_MARKS 2080
+#define MATCHER_MAX_COMPONENTS 16384
+#define MATCHER_MAX_CODES 12288
+#define MATCHER_MAX_LIBRARY 45734
+#define MATCHER_MAX_QUERY 192
+#define MATCHER_MAX_MATCH 45928
+#define MATCHER_MAX_TEXT 14344
+
+/* ---- readings */
+
+/*
+ * The component of a fresh reading, whose binary32 value has these 32 bits: 256 times the value, to the nearest
+ * whole number, halves to even.
+ * Refusals: 14, 15.
+ */
+uint32_t matcher_fresh(uint32_t bits, int32_t *component);
+
+/*
+ * The same for a float.
+ * Refusals: 14, 15.
+ */
+uint32_t matcher_fresh_value(float value, int32_t *component);
+
+/*
+ * The same for a held reading, of an age in tenths of a second.
+ * Refusals: 13, 14, 15.
+ */
+uint32_t matcher_held(uint32_t bits, uint8_t age, int32_t *component);
+
+/*
+ * The same for a lost reading, which has no component.
+ * Refusals: 13, always.
+ */
+uint32_t matcher_lost(int32_t *component);
+
+/* ---- marks and regions */
+
+/*
+ * The index of dimension j's first mark in the marks buffer, and its number of bits.
+ * Refusals: 1 (d or j), 2.
+ */
+uint32_t matcher_stretch(size_t d, size_t b, size_t j, size_t *offset, size_t *bits);
+
+/*
+ * Whether these can be the marks of d dimensions with b bits in all.
+ * Lengths: marks MATCHER_MARKS(d, b).
+ * Refusals: 1, 2, 5, 7.
+ */
+uint32_t matcher_check_marks(size_t d, size_t b, const int32_t *marks, size_t marks_len);
+
+/*
+ * The same, and whether there is a dimension j: what the two calls below would be refused for.
+ * Lengths: marks MATCHER_MARKS(d, b).
+ * Refusals: 1 (d or j), 2, 5, 7.
+ */
+uint32_t matcher_check_part(size_t d, size_t b, const int32_t *marks, size_t marks_len, size_t j);
+
+/*
+ * Gives the number of dimension j's marks, or 0 where matcher_check_part refuses.
+ */
+size_t matcher_part_length(size_t d, size_t b, const int32_t *marks, size_t marks_len, size_t j);
+
+/*
+ * Gives mark i of dimension j, from 0, or 0 past the last and where matcher_check_part refuses.
+ */
+int32_t matcher_part_at(size_t d, size_t b, const int32_t *marks, size_t marks_len, size_t j, size_t i);
+
+/*
+ * The region of a value, any number of 32 bits, in one dimension's marks.
+ * Lengths: marks regions + 1.
+ * Refusals: 2, 5, 7, 8.
+ */
+uint32_t matcher_region(const int32_t *marks, size_t marks_len, size_t regions, int32_t v, size_t *region);
+
+/*
+ * Marks made from n vectors: a dimension's first mark is its least component, the last its greatest plus 1, and
+ * inner mark i, of 2^w regions, the component at place (i n) / 2^w, from 0, of its components in non-falling order.
+ * Lengths: vectors n d, one after the other; marks MATCHER_MARKS(d, b).
+ * Refusals: 1, 2, 3, 5, 6.
+ */
+uint32_t matcher_make_marks(size_t d, size_t b, size_t n, const int32_t *vectors, size_t vectors_len, int32_t *marks,
+                            size_t marks_len);
+
+/*
+ * The region numbers of n vectors, vector by vector.
+ * Lengths: vectors n d; marks MATCHER_MARKS(d, b); regions n d.
+ * Refusals: 1, 2, 3, 5, 6, 7, 8.
+ */
+uint32_t matcher_regions(size_t d, size_t b, size_t n, const int32_t *vectors, size_t vectors_len, const int32_t *marks,
+                         size_t marks_len, uint8_t *regions, size_t regions_len);
+
+/* ---- codes */
+
+/*
+ * The codes of n vectors. A search wants these, made once for a library.
+ * Lengths: vectors n d; marks MATCHER_MARKS(d, b); codes MATCHER_CODES(b, n).
+ * Refusals: 1, 2, 3, 5, 6, 7, 8.
+ */
+uint32_t matcher_pack_vectors(size_t d, size_t b, size_t n, const int32_t *vectors, size_t vectors_len,
+                              const int32_t *marks, size_t marks_len, uint8_t *codes, size_t codes_len);
+
+/*
+ * The codes of n rows of d region numbers.
+ * Lengths: regions n d; codes MATCHER_CODES(b, n).
+ * Refusals: 1, 2, 3, 5, 9 (a region number past its dimension's last).
+ */
+uint32_t matcher_pack(size_t d, size_t b, size_t n, const uint8_t *regions, size_t regions_len, uint8_t *codes,
+                      size_t codes_len);
+
+/*
+ * The n rows of d region numbers that codes name.
+ * Lengths: codes MATCHER_CODES(b, n); regions n d.
+ * Refusals: 1, 2, 3, 5, 9 (a spare bit set).
+ */
+uint32_t matcher_unpack(size_t d, size_t b, size_t n, const uint8_t *codes, size_t codes_len, uint8_t *regions,
+                        size_t regions_len);
+
+/*
+ * Whether these can be the codes of n vectors inside these marks.
+ * Lengths: marks MATCHER_MARKS(d, b); codes MATCHER_CODES(b, n).
+ * Refusals: 1, 2, 3, 5, 7, 9 (an empty region named, a spare bit set).
+ */
+uint32_t matcher_check_codes(size_t d, size_t b, size_t n, const int32_t *marks, size_t marks_len, const uint8_t *codes,
+                             size_t codes_len);
+
+/* ---- distances */
+
+/*
+ * The distance of a vector from a query. The query's length is d.
+ * Lengths: query d; vector d.
+ * Refusals: 1, 5, 6 (query and vector).
+ */
+uint32_t matcher_distance(const int32_t *query, size_t query_len, const int32_t *vector, size_t vector_len,
+                          uint64_t *distance);
+
+/*
+ * The least and the greatest distance from a query that a vector in the cell of code i can have, i from 0.
+ * Lengths: query d; marks MATCHER_MARKS(d, b); codes MATCHER_CODES(b, n).
+ * Refusals: 1, 2, 3 (n or i), 5, 6 (query), 7, 9 (any code).
+ */
+uint32_t matcher_bounds(size_t d, size_t b, size_t n, const int32_t *query, size_t query_len, const int32_t *marks,
+                        size_t marks_len, const uint8_t *codes, size_t codes_len, size_t i, uint64_t *lower,
+                        uint64_t *upper);
+
+/* ---- the nearest vectors */
+
+/*
+ * The k of n vectors that are nearest to a query, nearest first and of equally near ones the lower number first:
+ * their numbers, and their distances. The scan looks at every vector.
+ * Lengths: query d; vectors n d; numbers k; distances k.
+ * Refusals: 1, 3, 4, 5, 6 (query and vectors).
+ */
+uint32_t matcher_scan(size_t d, size_t n, size_t k, const int32_t *query, size_t query_len, const int32_t *vectors,
+                      size_t vectors_len, uint32_t *numbers, size_t numbers_len, uint64_t *distances,
+                      size_t distances_len);
+
+/*
+ * The same from the codes, reading as few vectors as can settle the answer. Where the codes are the vectors' own, as
+ * matcher_pack_vectors makes them, numbers and distances are the scan's.
+ *
+ * The search reads vectors in order of the least distance of their cells, of equal ones the lower number first. It
+ * reads the next while fewer than k have been read, or while the pair of that least distance and the number is below
+ * the pair of distance and number of the k-th best read so far, pairs being ordered by the first, then by the
+ * second. The front of reads is filled with the numbers of the vectors read, in reading order, and keeps its content
+ * past the count of them.
+ *
+ * The components of a vector that is not read are not looked at.
+ * Lengths: query d; marks MATCHER_MARKS(d, b); codes MATCHER_CODES(b, n); vectors n d; numbers k; distances k; reads
+ * n.
+ * Refusals: 1, 2, 3, 4, 5, 6 (query), 7, 9 (any code), 10. A refusal with 10 leaves the buffers as they were, too.
+ */
+uint32_t matcher_search(size_t d, size_t b, size_t n, size_t k, const int32_t *query, size_t query_len,
+                        const int32_t *marks, size_t marks_len, const uint8_t *codes, size_t codes_len,
+                        const int32_t *vectors, size_t vectors_len, uint32_t *numbers, size_t numbers_len,
+                        uint64_t *distances, size_t distances_len, uint32_t *reads, size_t reads_len, size_t *count);
+
+/*
+ * ---- the library file and a query from bytes
+ *
+ * A record is one byte of kind, then a body whose length the kind fixes; numbers come lowest byte first.
+ *
+ *     1 head     d (1 byte), b (1), n (2)
+ *     2 mark     signed (4)
+ *     3 vector   settings (4), 32 signed components (2 each), those beyond d zero
+ *     4 end      nothing
+ *     5 fresh    value, the bits of a binary32 (4)
+ *     6 held     value (4), age in tenths of a second (1)
+ *     7 lost     nothing
+ *
+ * A library is one head, its marks in the order of the marks buffer, n vectors, one end. A query is d records of
+ * kinds 5 to 7. The bytes are tested from the left, record by record: 12 for an end before the kind, 11, 17, 12 for
+ * an end inside the body, then the body's own refusals.
+ */
+
+/*
+ * The bytes of a library.
+ * Lengths: marks MATCHER_MARKS(d, b); settings n; components n d; bytes MATCHER_LIBRARY(d, b, n).
+ * Refusals: 1, 2, 3, 5, 6, 7, 8.
+ */
+uint32_t matcher_write(size_t d, size_t b, size_t n, const int32_t *marks, size_t marks_len, const uint32_t *settings,
+                       size_t settings_len, const int32_t *components, size_t components_len, uint8_t *bytes,
+                       size_t bytes_len);
+
+/*
+ * The library that the bytes begin with: its d, b and n, and how many of the bytes it is; what follows is not looked
+ * at. The fronts of the buffers are filled, with MATCHER_MARKS(d, b) marks, n settings and n d components; past them
+ * they keep their content.
+ * Lengths: bytes any; marks MATCHER_MAX_MARKS; settings MATCHER_MAX_VECTORS; components MATCHER_MAX_COMPONENTS.
+ * Refusals: 5; then from the left 12, 11, 17, 12 for each record, with 1, 2, 3 at the head, 7 at each mark, 6 (not
+ * zero beyond d), 8 at each vector.
+ */
+uint32_t matcher_load(const uint8_t *bytes, size_t bytes_len, int32_t *marks, size_t marks_len, uint32_t *settings,
+                      size_t settings_len, int32_t *components, size_t components_len, size_t *d, size_t *b, size_t *n,
+                      size_t *used);
+
+/*
+ * The components of a query's readings.
+ * Lengths: bytes any; components d.
+ * Refusals: 1, 5; then from the left 12, 11, 17, 12, 13, 14, 15 for each record; 16.
+ */
+uint32_t matcher_query(size_t d, const uint8_t *bytes, size_t bytes_len, int32_t *components, size_t components_len);
+
+/* ---- the whole program */
+
+/*
+ * What the kit program writes for a match: a library, k (2 bytes), a query. The text goes into the front of the
+ * output, which keeps its content past it, and the count is its length. It is "refused " and the number of the
+ * match's first fault from the left (4 behind k, 12 for an end inside it); or, on line one, k and how many vectors
+ * were read, then a line for each of the k nearest: number, settings, distance. Numbers are decimal, with single
+ * spaces between them, and each line ends with byte 10. No match longer than MATCHER_MAX_MATCH is answered.
+ * Lengths: input any; output MATCHER_MAX_TEXT.
+ * Refusals: 5. What is wrong with the match stands in the text.
+ */
+uint32_t matcher_match(const uint8_t *input, size_t input_len, uint8_t *output, size_t output_len, size_t *count);
+
+#ifdef __cplusplus
+}
+#endif
+
+#endif

@@ -1,0 +1,128 @@
+//! Makes the sample inputs of the program: a library, k, and a query. The folder is named on the command line.
+
+use std::{env, error::Error, fs, path::PathBuf};
+
+/// A stored tractor: its settings number and its components.
+struct Vector {
+    settings: u32,
+    components: Vec<i16>,
+}
+
+/// The records of a reading (document 01, "Library file").
+enum Reading {
+    Fresh(f32),
+    /// with its age in tenths of a second
+    Held(f32, u8),
+}
+use Reading::{Fresh, Held};
+
+// ---- records
+
+/// One head, the marks, the vectors, one end.
+fn library(b: usize, marks: &[Vec<i32>], vectors: &[Vector]) -> Vec<u8> {
+    let mut bytes = vec![1, marks.len() as u8, b as u8];
+    bytes.extend((vectors.len() as u16).to_le_bytes());
+    for mark in marks.concat() {
+        bytes.push(2);
+        bytes.extend(mark.to_le_bytes());
+    }
+    for vector in vectors {
+        bytes.push(3);
+        bytes.extend(vector.settings.to_le_bytes());
+        let mut components = [0; 32];
+        components[..vector.components.len()].copy_from_slice(&vector.components);
+        bytes.extend(components.iter().flat_map(|component| component.to_le_bytes()));
+    }
+    bytes.push(4);
+    bytes
+}
+
+fn query(readings: &[Reading]) -> Vec<u8> {
+    let record = |reading: &Reading| match reading {
+        Fresh(value) => [&[5][..], &value.to_le_bytes()].concat(),
+        Held(value, age) => [&[6][..], &value.to_le_bytes(), &[*age]].concat(),
+    };
+    readings.iter().flat_map(record).collect()
+}
+
+/// The program's input.
+fn input(library: Vec<u8>, k: u16, query: Vec<u8>) -> Vec<u8> {
+    [library, k.to_le_bytes().to_vec(), query].concat()
+}
+
+// ---- library A of document 01, with its query, (12, 6)
+
+fn library_a() -> Vec<u8> {
+    let marks = [vec![0, 3, 9, 16, 21], vec![0, 5, 11]];
+    let components = [[1, 3], [2, 3], [4, 10], [13, 6], [18, 1]];
+    let vector = |(settings, components): (u32, [i16; 2])| Vector { settings, components: components.to_vec() };
+    let vectors: Vec<Vector> = (101..).zip(components).map(vector).collect();
+    input(library(3, &marks, &vectors), 2, query(&[Fresh(12.0 / 256.0), Fresh(6.0 / 256.0)]))
+}
+
+// ---- forty tractors: eight models, each in five states
+
+/// What is measured on the first headland, on a step of the wheel to one side and back.
+const READINGS: usize = 8;
+
+/// Dead time, from the command until the front wheels move (s); lag, from there to 63 % of the way (s); gain, degrees of
+/// front wheels for a degree of command; overshoot (degrees); play, degrees of command lost when the direction changes;
+/// greatest rate (degrees a second); drift, how far straight ahead is off, to the right (degrees); radius of the
+/// smallest turn (m).
+const MODELS: [[f64; READINGS]; 8] = [
+    [0.12, 0.18, 1.05, 2.4, 0.6, 38.0, 0.10, 3.4],  // orchard, narrow
+    [0.15, 0.22, 1.02, 2.1, 0.8, 34.0, -0.20, 3.9], // compact, two driven wheels
+    [0.17, 0.24, 0.98, 1.9, 0.9, 31.0, 0.35, 4.3],  // compact, four driven wheels
+    [0.20, 0.28, 1.00, 1.7, 1.1, 28.0, -0.10, 4.7], // utility
+    [0.22, 0.33, 0.95, 1.5, 1.0, 26.0, 0.25, 5.1],  // row crop
+    [0.26, 0.38, 0.92, 1.3, 1.4, 23.0, -0.45, 5.6], // row crop, long
+    [0.31, 0.45, 0.88, 1.0, 1.6, 19.0, 0.15, 6.2],  // large, suspended front axle
+    [0.42, 0.61, 0.79, 0.6, 2.1, 14.0, -0.30, 7.4], // old, hydrostatic
+];
+
+/// How each state changes the readings: factors.
+const STATES: [[f64; READINGS]; 5] = [
+    [1.0, 1.0, 1.0, 1.0, 1.0, 1.0, 1.0, 1.0],       // bare
+    [1.05, 1.1, 1.03, 0.9, 1.0, 0.95, 1.0, 0.98],   // weights in front
+    [1.1, 1.2, 1.06, 0.8, 1.1, 0.9, 1.3, 0.97],     // loader in front
+    [0.95, 0.9, 0.85, 1.3, 1.0, 1.05, 0.8, 1.12],   // plough behind: the front axle is light
+    [1.35, 1.15, 0.94, 1.2, 2.5, 0.92, -1.6, 1.03], // worn joints
+];
+
+/// Settings 1000 to 1704: a hundred for each model.
+fn forty_tractors() -> Vec<Vector> {
+    let component = |(value, factor): (&f64, &f64)| (256.0 * value * factor).round() as i16;
+    let vector = |model: usize, state: usize| Vector {
+        settings: (1000 + 100 * model + state) as u32,
+        components: MODELS[model].iter().zip(&STATES[state]).map(component).collect(),
+    };
+    (0..MODELS.len()).flat_map(|model| (0..STATES.len()).map(move |state| vector(model, state))).collect()
+}
+
+/// Marks by document 01's rule: a dimension's least component, inner mark i at place (i·n) div 2^w of its components in
+/// order, its greatest plus 1.
+fn made_marks(b: usize, vectors: &[Vector]) -> Vec<Vec<i32>> {
+    let dimension = |j: usize| {
+        let regions = 1 << (b / READINGS + usize::from(j < b % READINGS));
+        let mut components: Vec<i32> = vectors.iter().map(|vector| i32::from(vector.components[j])).collect();
+        components.sort();
+        let last = components[components.len() - 1] + 1;
+        (0..regions).map(|i| components[i * components.len() / regions]).chain([last]).collect()
+    };
+    (0..READINGS).map(dimension).collect()
+}
+
+/// A long row crop tractor with a plough, not one of the forty. The smallest turn was measured some time before.
+fn forty() -> Vec<u8> {
+    let (b, vectors) = (24, forty_tractors());
+    let wheels = [Fresh(0.25), Fresh(0.35), Fresh(0.79), Fresh(1.7), Fresh(1.5), Fresh(24.25)];
+    let measured: Vec<Reading> = wheels.into_iter().chain([Fresh(-0.375), Held(6.25, 14)]).collect();
+    input(library(b, &made_marks(b, &vectors), &vectors), 3, query(&measured))
+}
+
+fn main() -> Result<(), Box<dyn Error>> {
+    let folder = PathBuf::from(env::args_os().nth(1).ok_or("name a folder")?);
+    fs::write(folder.join("a.match"), library_a())?;
+    fs::write(folder.join("forty.match"), forty())?;
+    Ok(())
+}

@@ -1,0 +1,134 @@
+/*
+ * Prints how many bytes of stack each call of the matcher uses on an input of the program, which is read from standard
+ * input, and what the call gives. A call runs in a thread whose stack is painted before it and looked through after it.
+ */
+#define _POSIX_C_SOURCE 200809L
+
+#include "matcher.h"
+
+#include <pthread.h>
+#include <stdio.h>
+#include <stdlib.h>
+#include <string.h>
+
+enum { STACK = 1 << 20, PAINT = 0xA5 };
+
+static _Alignas(4096) unsigned char stack[STACK];
+
+/* what the calls are given */
+static uint8_t input[MATCHER_MAX_MATCH], file[MATCHER_MAX_LIBRARY], output[MATCHER_MAX_TEXT];
+static size_t length, d, b, n, used, place, bits;
+static int32_t marks[MATCHER_MAX_MARKS], made[MATCHER_MAX_MARKS], vectors[MATCHER_MAX_COMPONENTS];
+static int32_t query[MATCHER_MAX_DIMENSIONS], component;
+static uint32_t settings[MATCHER_MAX_VECTORS], numbers[MATCHER_MAX_VECTORS], reads[MATCHER_MAX_VECTORS];
+static uint64_t distances[MATCHER_MAX_VECTORS], lower, upper;
+static uint8_t codes[MATCHER_MAX_CODES], regions[MATCHER_MAX_COMPONENTS];
+
+#define MARKS marks, MATCHER_MARKS(d, b)
+#define VECTORS vectors, n * d
+#define CODES codes, MATCHER_CODES(b, n)
+
+/* A thread that makes one call and keeps what it gives. */
+static size_t given;
+
+#define CALL(name, ...) \
+    static void *run_##name(void *argument) \
+    { \
+        given = (size_t)matcher_##name(__VA_ARGS__); \
+        return argument; \
+    }
+
+CALL(load, input, length, marks, MATCHER_MAX_MARKS, settings, MATCHER_MAX_VECTORS,
+     vectors, MATCHER_MAX_COMPONENTS, &d, &b, &n, &used)
+CALL(query, d, input + used + 2, length - used - 2, query, d)
+CALL(write, d, b, n, MARKS, settings, n, VECTORS, file, MATCHER_LIBRARY(d, b, n))
+CALL(fresh, 0x3F800000, &component)
+CALL(fresh_value, 1.0F, &component)
+CALL(held, 0x3F800000, 20, &component)
+CALL(lost, &component)
+CALL(stretch, d, b, d, &place, &bits)
+CALL(check_marks, d, b, MARKS)
+CALL(check_part, d, b, MARKS, d)
+CALL(part_length, d, b, MARKS, d)
+CALL(part_at, d, b, MARKS, d, 1)
+CALL(region, marks, ((size_t)1 << (b / d)) + 1, (size_t)1 << (b / d), vectors[0], &place)
+CALL(make_marks, d, b, n, VECTORS, made, MATCHER_MARKS(d, b))
+CALL(regions, d, b, n, VECTORS, MARKS, regions, n * d)
+CALL(pack_vectors, d, b, n, VECTORS, MARKS, CODES)
+CALL(pack, d, b, n, regions, n * d, CODES)
+CALL(unpack, d, b, n, CODES, regions, n * d)
+CALL(check_codes, d, b, n, MARKS, CODES)
+CALL(distance, query, d, vectors, d, &lower)
+CALL(bounds, d, b, n, query, d, MARKS, CODES, n - 1, &lower, &upper)
+CALL(scan, d, n, n, query, d, VECTORS, numbers, n, distances, n)
+CALL(search, d, b, n, n, query, d, MARKS, CODES, VECTORS, numbers, n, distances, n,
+     reads, n, &place)
+CALL(match, input, length, output, MATCHER_MAX_TEXT, &place)
+
+static void *run_nothing(void *argument)
+{
+    return argument;
+}
+
+/* The bytes of the stack that are not as they were painted. */
+static size_t painted_over(void *(*run)(void *))
+{
+    pthread_attr_t attributes;
+    pthread_t thread;
+    memset(stack, PAINT, STACK);
+    if (pthread_attr_init(&attributes) != 0 || pthread_attr_setstack(&attributes, stack, STACK) != 0
+        || pthread_create(&thread, &attributes, run, NULL) != 0 || pthread_join(thread, NULL) != 0)
+        exit(2);
+    size_t deepest = 0;
+    while (deepest < STACK && stack[deepest] == PAINT)
+        deepest++;
+    return STACK - deepest;
+}
+
+/* The call's own: what a thread that does nothing uses is left out, and what is only done at a first call. */
+static size_t measured(void *(*run)(void *))
+{
+    painted_over(run);
+    size_t all = painted_over(run);
+    return all - painted_over(run_nothing);
+}
+
+/* The call's name, its bytes of stack, and what it gives. */
+static void measure(const char *name, void *(*run)(void *))
+{
+    size_t bytes = measured(run);
+    printf("matcher_%s %zu %zu\n", name, bytes, given);
+}
+
+#define MEASURE(name) measure(#name, run_##name)
+
+int main(void)
+{
+    length = fread(input, 1, sizeof input, stdin);
+    painted_over(run_nothing);
+    MEASURE(load);
+    MEASURE(query);
+    MEASURE(write);
+    MEASURE(fresh);
+    MEASURE(fresh_value);
+    MEASURE(held);
+    MEASURE(lost);
+    MEASURE(stretch);
+    MEASURE(check_marks);
+    MEASURE(check_part);
+    MEASURE(part_length);
+    MEASURE(part_at);
+    MEASURE(region);
+    MEASURE(make_marks);
+    MEASURE(regions);
+    MEASURE(pack_vectors);
+    MEASURE(pack);
+    MEASURE(unpack);
+    MEASURE(check_codes);
+    MEASURE(distance);
+    MEASURE(bounds);
+    MEASURE(scan);
+    MEASURE(search);
+    MEASURE(match);
+    return 0;
+}
