@@ -1,5 +1,5 @@
 -- `fill` meets its contract: a walk of its MIR, by hand. The slice's borrow is opened once, before the loop, and closed once, after it; between the two the row of entries is the function's own.
--- Each entry comes from `entry_at`, of which the proof knows the contract alone. Assumes nothing.
+-- Each entry comes from `entry_at`, of which the proof knows the contract alone. In the notes on the context, [x] is the token of x's lifetime. Assumes nothing.
 use mathlib.Core.Path.{_≡_, refl, sym, _∙_, ap, subst}
 use mathlib.Core.Bool.{not}
 use Prim.Native.Nat.{ℕ, _+_, _-_, _*_, _≤_, _<_, _^_, zero-le}
@@ -254,57 +254,34 @@ module _ {M : Type 1} (𝓤 : URA M) (H : Heap 𝓤) (A : Atoms 𝓤) (W : Given
       turns =
           assigns ! (bin ! (load ! (from ! (stop !)) (look ! 16 refl)) (load ! (from ! (stop !)) (look ! 18 refl)) tt) (from ! (stop !)) (init ! 14 refl (tt, tt)) $
           tests ! (load ! (from ! (stop !)) (look ! 14 refl))
-          (λ less. move ! (4 ∷ 5 ∷ 6 ∷ 7 ∷ []) $
-          group ! 4 $
-          use1 W (raw (EntryAt 𝓤 H A mem run .pre (to i)) ⊛ (‵ Own₁ ⊛ ‵ Own₂)) (asks i (low less) small) $
-          split ! $
-          move ! (1 ∷ []) $
-          split ! $
-          move ! (2 ∷ []) $
+          (λ less.
+          -- one more: the entry comes from the call
+          move ! (4 ∷ 5 ∷ 6 ∷ 7 ∷ []) $ group ! 4 $ use1 W (raw (EntryAt 𝓤 H A mem run .pre (to i)) ⊛ (‵ Own₁ ⊛ ‵ Own₂)) (asks i (low less) small) $ split ! $ move ! (1 ∷ []) $
+          split ! $ move ! (2 ∷ []) $
           calls-at ! fm (EntryAt 𝓤 H A mem run) known (to i) (and-then ! (load ! (from ! (stop !)) (look ! 21 refl)) (and-then ! (load ! (from ! (stop !)) (look ! 19 refl)) (and-then ! (load ! (from ! (stop !)) (look ! 15 refl)) (no-more !)))) (λ u.
           use1 W (later (some (λ (r : Entry). (Tokens ⊛ ‵ (R .own r (u ∷ []))) ⊛ raw (ensured 𝓤 H A entry-at.ended (entry-at.clauses 𝓤 H A mem run) (κ₁, (κ₂, tt)) (ns, (ds, (i, tt))) tt r)))) (id⊢ 𝓤 _) $
-          await ! tt $
-          pick ! (λ r.
-          split ! $
-          move ! (1 ∷ []) $
-          use1 W (raw (fact 𝓤 (r ≡ entryAt (now ns) (now ds) i))) (said i r) $
-          heard ! (r ≡ entryAt (now ns) (now ds) i) (λ e.
-          split ! $
-          split ! $
-          move ! (1 ∷ []) $
-          split ! $
-          move ! (1 ∷ []) $
-          drop ! $
-          move ! (2 ∷ []) $
-          peeks ! R (Is R) (shows 𝓤 H A R) r (u ∷ []) (λ is.
+          await ! tt $ pick ! (λ r. split ! $ move ! (1 ∷ []) $ use1 W (raw (fact 𝓤 (r ≡ entryAt (now ns) (now ds) i))) (said i r) $ heard ! (r ≡ entryAt (now ns) (now ds) i) (λ e.
+          split ! $ split ! $ move ! (1 ∷ []) $ split ! $ move ! (1 ∷ []) $ drop ! $ move ! (2 ∷ []) $ peeks ! R (Is R) (shows 𝓤 H A R) r (u ∷ []) (λ is.
           land ! (from ! (stop !)) (init ! 13 refl (typed r u is)) $
+          -- it is stored at its place
           assigns ! (bin ! (load ! (from ! (stop !)) (look ! 17 refl)) (lit ! tt) (record { fits = bytes less })) (from ! (stop !)) (init ! 11 refl (tt, record { fits = bytes less })) $
           assigns ! (bin ! (load ! (from ! (fld ! refl (stop !))) (look-in ! 25 (sub ! 0 refl (whole !)))) (load ! (from ! (stop !)) (look ! 11 refl)) tt) (from ! (stop !)) (init ! 9 refl (tt, tt)) $
-          rewrite ! 9 (λ (p : ℕ). ‵ (fat fullShare tyPtr l₉ 0 (vptr b p))) (sym (place-is 16 o i)) refl $
-          move ! (5 ∷ []) $
+          rewrite ! 9 (λ (p : ℕ). ‵ (fat fullShare tyPtr l₉ 0 (vptr b p))) (sym (place-is 16 o i)) refl $ move ! (5 ∷ []) $
           elem-out ! R (Is R) (shows 𝓤 H A R) (LL.vals S.the-type S′.the-laws) (LL.tells S.the-type S′.the-laws) fullShare (ys i) i none b o (within less) (λ _.
-          -- [cell; old; others; own; t2; t1; o1; o2; obor; obs; auth; _9; _8; _7; _6; _5; _4; _3; _2; _1; _0]
-          assigns ! (of-opd ! (load ! (from ! (stop !)) (look ! 15 refl))) (from ! (hop ! (look ! 11 refl) (stop !))) (store-raw ! 0 refl (typed r u is)) $
-          move ! (1 ∷ []) $
-          drop ! $
-          move ! (0 ∷ 2 ∷ 1 ∷ []) $
-          elem-put ! R fullShare (ys i) i r (u ∷ []) b o (within less) $
+          -- [cell; old; others; own; [distances]; [numbers]; own numbers; own distances; open borrow; obs; auth; the locals]
+          assigns ! (of-opd ! (load ! (from ! (stop !)) (look ! 15 refl))) (from ! (hop ! (look ! 11 refl) (stop !))) (store-raw ! 0 refl (typed r u is)) $ move ! (1 ∷ []) $
+          drop ! $ move ! (0 ∷ 2 ∷ 1 ∷ []) $ elem-put ! R fullShare (ys i) i r (u ∷ []) b o (within less) $
           rewrite ! 0 (λ (zs : List Entry). ‵ (row R fullShare zs b o)) (next r e) refl $
           assigns-last ! (bin ! (load ! (from ! (stop !)) (look ! 16 refl)) (lit ! tt) (record { fits = more less })) (from ! (stop !)) (store ! 16 refl (tt, record { fits = more less })) $
-          forget ! 14 refl $
-          forget ! 12 refl $
-          forget ! 10 refl $
-          forget ! 8 refl $
+          forget ! 14 refl $ forget ! 12 refl $ forget ! 10 refl $ forget ! 8 refl $
           keep ! (0 ∷ 5 ∷ 6 ∷ 7 ∷ 2 ∷ 1 ∷ 3 ∷ 4 ∷ 8 ∷ 9 ∷ 10 ∷ 11 ∷ 12 ∷ 13 ∷ 14 ∷ 15 ∷ 16 ∷ 17 ∷ 18 ∷ 19 ∷ 20 ∷ 21 ∷ 22 ∷ 23 ∷ 24 ∷ 25 ∷ 26 ∷ 27 ∷ []) $
           again ! Nearer At j (one-more less) (nearer less)))))))
-          (λ over. exec ! C Λ En t-3 (atRet En Post) $
-          closes-slice ! tt R xs (ys i) (size i) b o $
-          assigns ! (of-opd ! (unit-lit !)) (from ! (stop !)) (init ! 25 refl (tt, tt)) $
-          returns ! (look ! 25 refl) $
-          forget ! 13 refl $ forget ! 15 refl $ forget ! 17 refl $ forget ! 19 refl $ forget ! 21 refl $ forget ! 23 refl $ forget ! 25 refl $
+          (λ over.
+          -- all are filled: the borrow is closed
+          exec ! C Λ En t-3 (atRet En Post) $ closes-slice ! tt R xs (ys i) (size i) b o $ assigns ! (of-opd ! (unit-lit !)) (from ! (stop !)) (init ! 25 refl (tt, tt)) $
+          returns ! (look ! 25 refl) $ forget ! 13 refl $ forget ! 15 refl $ forget ! 17 refl $ forget ! 19 refl $ forget ! 21 refl $ forget ! 23 refl $ forget ! 25 refl $
           move ! (25 ∷ 26 ∷ []) $ free1 ! $ move ! (23 ∷ 24 ∷ []) $ free1 ! $ move ! (21 ∷ 22 ∷ []) $ free1 ! $ move ! (19 ∷ 20 ∷ []) $ free1 ! $ move ! (17 ∷ 18 ∷ []) $ free1 ! $ move ! (15 ∷ 16 ∷ []) $ free1 ! $ move ! (13 ∷ 14 ∷ []) $ free1 ! $ move ! (11 ∷ 12 ∷ []) $ free1 ! $ move ! (9 ∷ 10 ∷ []) $ free1 ! $ move ! (7 ∷ 8 ∷ []) $ free1 ! $ free0 ! $
-          keep ! (0 ∷ 1 ∷ 2 ∷ 3 ∷ 4 ∷ []) $
-          by ! (exits room i (all-done over)))
+          keep ! (0 ∷ 1 ∷ 2 ∷ 3 ∷ 4 ∷ []) $ by ! (exits room i (all-done over)))
 
   walk : (𝓣 : Tables 𝓤 H) → Triple 𝓤 (𝓣 .C #nearest·fill·entry-at) (EntryAt 𝓤 H A mem run) → Room R (length xs) → count < 2 ^ 64 → (count ≤ length xs) × (count ≤ maxVectors)
       → ent 𝓤 (onEntry 𝓤 H A fill.signature (κ₀, (κ₁, (κ₂, tt))) (q₀, (q₁, (q₂, tt))) (x, (ns, (ds, (count, tt)))) at)
@@ -312,45 +289,12 @@ module _ {M : Type 1} (𝓤 : URA M) (H : Heap 𝓤) (A : Atoms 𝓤) (W : Given
   walk 𝓣 known room fits asks =
       qed W ((‵ (flft κ₀ q₀) ⊛ Tokens) ∷ ‵ (owns (MutSlice (named 0) κ₀ R ∷ ShrRef (named 1) κ₁ Numbers ∷ ShrRef (named 2) κ₂ Distances ∷ usize ∷ []) (x, (ns, (ds, (count, tt)))) at) ∷ []) ∵
       enter ! (𝓣 .C) (𝓣 .Λ) code.function (sliceVal (x .ptr) (length xs) ∷ vptr (ns .ptr .0) (ns .ptr .1) ∷ vptr (ds .ptr .0) (ds .ptr .1) ∷ vint w64 count ∷ []) _ $
-      alloc1 ! (λ l₀.
-      alloc1 ! (λ l₁.
-      alloc1 ! (λ l₂.
-      alloc1 ! (λ l₃.
-      alloc1 ! (λ l₄.
-      alloc1 ! (λ l₅.
-      alloc1 ! (λ l₆.
-      alloc1 ! (λ l₇.
-      alloc1 ! (λ l₈.
-      alloc1 ! (λ l₉.
-      alloc0 ! $ params1 ! $
-      pass1 ! (init ! 16 refl (tt, (tt, (record { fits = room .0 }, tt)))) $
-      pass1 ! (init ! 14 refl (tt, tt)) $
-      pass1 ! (init ! 12 refl (tt, tt)) $
-      pass1 ! (init ! 10 refl (tt, record { fits = fits })) $
-      pass0 ! $
-      assigns ! (of-opd ! (lit ! tt)) (from ! (stop !)) (init ! 8 refl (tt, record { fits = lit< tt })) $
-      move ! (20 ∷ []) $
-      split ! $
-      move ! (1 ∷ []) $
-      split ! $
-      move ! (1 ∷ []) $
-      split ! $
-      move ! (1 ∷ []) $
-      drop ! $
-      move ! (23 ∷ []) $
-      fsplit ! $
-      move ! (1 ∷ []) $
-      fsplit ! $
-      move ! (1 ∷ []) $
-      fsplit ! $
-      move ! (1 ∷ []) $
-      drop ! $
-      move ! (2 ∷ []) $
-      fsplit ! $
-      drop ! $
-      fsplit ! $
-      move ! (0 ∷ 1 ∷ 6 ∷ []) $
-      opens-slice ! tt R xs b o $
+      alloc1 ! (λ l₀. alloc1 ! (λ l₁. alloc1 ! (λ l₂. alloc1 ! (λ l₃. alloc1 ! (λ l₄. alloc1 ! (λ l₅. alloc1 ! (λ l₆. alloc1 ! (λ l₇. alloc1 ! (λ l₈. alloc1 ! (λ l₉.
+      alloc0 ! $ params1 ! $ pass1 ! (init ! 16 refl (tt, (tt, (record { fits = room .0 }, tt)))) $ pass1 ! (init ! 14 refl (tt, tt)) $ pass1 ! (init ! 12 refl (tt, tt)) $
+      pass1 ! (init ! 10 refl (tt, record { fits = fits })) $ pass0 ! $ assigns ! (of-opd ! (lit ! tt)) (from ! (stop !)) (init ! 8 refl (tt, record { fits = lit< tt })) $
+      -- the borrow is opened
+      move ! (20 ∷ []) $ split ! $ move ! (1 ∷ []) $ split ! $ move ! (1 ∷ []) $ split ! $ move ! (1 ∷ []) $ drop ! $ move ! (23 ∷ []) $ fsplit ! $ move ! (1 ∷ []) $ fsplit ! $
+      move ! (1 ∷ []) $ fsplit ! $ move ! (1 ∷ []) $ drop ! $ move ! (2 ∷ []) $ fsplit ! $ drop ! $ fsplit ! $ move ! (0 ∷ 1 ∷ 6 ∷ []) $ opens-slice ! tt R xs b o $
       rewrite ! 0 (λ (zs : List Entry). ‵ (row R fullShare zs b o)) (sym start) refl $
       keep ! (0 ∷ 1 ∷ 2 ∷ 3 ∷ 7 ∷ 6 ∷ 5 ∷ 4 ∷ 8 ∷ 9 ∷ 10 ∷ 11 ∷ 12 ∷ 13 ∷ 14 ∷ 15 ∷ 16 ∷ 17 ∷ 18 ∷ 19 ∷ 20 ∷ 21 ∷ 22 ∷ 23 ∷ 24 ∷ 25 ∷ 26 ∷ 27 ∷ []) $
       first ! $ blocks ! $ loops ! 𝓣 Nearer Nearer-wf (At room fits (asks .0) (asks .1) 𝓣 known l₀ l₁ l₂ l₃ l₄ l₅ l₆ l₇ l₈ l₉) (turns room fits (asks .0) (asks .1) 𝓣 known l₀ l₁ l₂ l₃ l₄ l₅ l₆ l₇ l₈ l₉) (0, zero-le)))))))))))
