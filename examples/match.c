@@ -30,8 +30,7 @@ static struct {
 } library;
 
 /* An answer. */
-static uint32_t numbers[MATCHER_MAX_VECTORS];
-static uint64_t distances[MATCHER_MAX_VECTORS];
+static struct matcher_entry entries[MATCHER_MAX_VECTORS];
 static uint32_t reads[MATCHER_MAX_VECTORS];
 
 /* A file, with room for one byte too many. */
@@ -87,7 +86,7 @@ static uint32_t search(const char *name, size_t k, size_t *count)
         return MATCHER_NEIGHBOURS;
     return matcher_search(library.d, library.b, library.n, k, query, library.d, library.marks,
                           MATCHER_MARKS(library.d, library.b), library.codes, MATCHER_CODES(library.b, library.n),
-                          library.vectors, library.n * library.d, numbers, k, distances, k, reads, library.n, count);
+                          library.vectors, library.n * library.d, entries, k, reads, library.n, count);
 }
 
 /* Prints a refusal, and gives the exit status. */
@@ -102,7 +101,8 @@ static int answered(size_t k, size_t count)
 {
     printf("%zu %zu\n", k, count);
     for (size_t i = 0; i < k; i++)
-        printf("%" PRIu32 " %" PRIu32 " %" PRIu64 "\n", numbers[i], library.settings[numbers[i]], distances[i]);
+        printf("%" PRIu32 " %" PRIu32 " %" PRIu64 "\n", entries[i].number, library.settings[entries[i].number],
+               entries[i].distance);
     return 0;
 }
 

@@ -151,6 +151,14 @@ size_t matcher_part_length(size_t d, size_t b, const int32_t *marks, size_t mark
 int32_t matcher_part_at(size_t d, size_t b, const int32_t *marks, size_t marks_len, size_t j, size_t i);
 
 /*
+ * The region of a value, any number of 32 bits, in dimension j's marks.
+ * Lengths: marks MATCHER_MARKS(d, b).
+ * Refusals: 1 (d or j), 2, 5, 7, 8.
+ */
+uint32_t matcher_region_of(size_t d, size_t b, const int32_t *marks, size_t marks_len, size_t j, int32_t v,
+                           size_t *region);
+
+/*
  * The region of a value, any number of 32 bits, in one dimension's marks.
  * Lengths: marks regions + 1.
  * Refusals: 2, 5, 7, 8.
@@ -229,19 +237,24 @@ uint32_t matcher_bounds(size_t d, size_t b, size_t n, const int32_t *query, size
 
 /* ---- the nearest vectors */
 
+/* A vector's number and its distance from the query. */
+struct matcher_entry {
+    uint32_t number;
+    uint64_t distance;
+};
+
 /*
- * The k of n vectors that are nearest to a query, nearest first and of equally near ones the lower number first:
- * their numbers, and their distances. The scan looks at every vector.
- * Lengths: query d; vectors n d; numbers k; distances k.
+ * The k of n vectors that are nearest to a query, nearest first and of equally near ones the lower number first. The
+ * scan looks at every vector.
+ * Lengths: query d; vectors n d; entries k.
  * Refusals: 1, 3, 4, 5, 6 (query and vectors).
  */
 uint32_t matcher_scan(size_t d, size_t n, size_t k, const int32_t *query, size_t query_len, const int32_t *vectors,
-                      size_t vectors_len, uint32_t *numbers, size_t numbers_len, uint64_t *distances,
-                      size_t distances_len);
+                      size_t vectors_len, struct matcher_entry *entries, size_t entries_len);
 
 /*
  * The same from the codes, reading as few vectors as can settle the answer. Where the codes are the vectors' own, as
- * matcher_pack_vectors makes them, numbers and distances are the scan's.
+ * matcher_pack_vectors makes them, the entries are the scan's.
  *
  * The search reads vectors in order of the least distance of their cells, of equal ones the lower number first. It
  * reads the next while fewer than k have been read, or while the pair of that least distance and the number is below
@@ -250,14 +263,13 @@ uint32_t matcher_scan(size_t d, size_t n, size_t k, const int32_t *query, size_t
  * past the count of them.
  *
  * The components of a vector that is not read are not looked at.
- * Lengths: query d; marks MATCHER_MARKS(d, b); codes MATCHER_CODES(b, n); vectors n d; numbers k; distances k; reads
- * n.
+ * Lengths: query d; marks MATCHER_MARKS(d, b); codes MATCHER_CODES(b, n); vectors n d; entries k; reads n.
  * Refusals: 1, 2, 3, 4, 5, 6 (query), 7, 9 (any code), 10. A refusal with 10 leaves the buffers as they were, too.
  */
 uint32_t matcher_search(size_t d, size_t b, size_t n, size_t k, const int32_t *query, size_t query_len,
                         const int32_t *marks, size_t marks_len, const uint8_t *codes, size_t codes_len,
-                        const int32_t *vectors, size_t vectors_len, uint32_t *numbers, size_t numbers_len,
-                        uint64_t *distances, size_t distances_len, uint32_t *reads, size_t reads_len, size_t *count);
+                        const int32_t *vectors, size_t vectors_len, struct matcher_entry *entries, size_t entries_len,
+                        uint32_t *reads, size_t reads_len, size_t *count);
 
 /*
  * ---- the library file and a query from bytes
@@ -276,6 +288,11 @@ uint32_t matcher_search(size_t d, size_t b, size_t n, size_t k, const int32_t *q
  * kinds 5 to 7. The bytes are tested from the left, record by record: 12 for an end before the kind, 11, 17, 12 for
  * an end inside the body, then the body's own refusals.
  */
+
+/*
+ * Gives how many bytes a library of these counts has, MATCHER_LIBRARY(d, b, n), or 0 where d, b or n is out of range.
+ */
+size_t matcher_library_length(size_t d, size_t b, size_t n);
 
 /*
  * The bytes of a library.

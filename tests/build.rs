@@ -9,9 +9,10 @@ use std::{
 fn main() {
     let tests = PathBuf::from(env::var_os("CARGO_MANIFEST_DIR").expect("cargo names the package's folder"));
     let out = PathBuf::from(env::var_os("OUT_DIR").expect("cargo names a folder for what is built"));
-    let source = tests.join("src/layout.c");
+    let (source, include) = (tests.join("c/layout.c"), tests.join("../include"));
     println!("cargo:rerun-if-changed={}", source.display());
-    compile(&source, &out);
+    println!("cargo:rerun-if-changed={}", include.display());
+    compile(&source, &include, &out);
     println!("cargo:rustc-link-search=native={}", out.display());
     println!("cargo:rustc-link-lib=static=layout");
     let folder = tests.join("../target/staticlib");
@@ -21,10 +22,10 @@ fn main() {
 }
 
 /// Compiles a C file, each warning an error, and leaves it as liblayout.a.
-fn compile(source: &Path, out: &Path) {
+fn compile(source: &Path, include: &Path, out: &Path) {
     let object = out.join("layout.o");
     let flags = ["-std=c11", "-O2", "-fPIC", "-Wall", "-Wextra", "-pedantic", "-Wconversion", "-Werror", "-c", "-o"];
-    run(Command::new("cc").args(flags).arg(&object).arg(source));
+    run(Command::new("cc").args(flags).arg(&object).arg("-I").arg(include).arg(source));
     run(Command::new("ar").arg("rcs").arg(out.join("liblayout.a")).arg(&object));
 }
 

@@ -20,8 +20,9 @@ static uint8_t input[MATCHER_MAX_MATCH], file[MATCHER_MAX_LIBRARY], output[MATCH
 static size_t length, d, b, n, used, place, bits;
 static int32_t marks[MATCHER_MAX_MARKS], made[MATCHER_MAX_MARKS], vectors[MATCHER_MAX_COMPONENTS];
 static int32_t query[MATCHER_MAX_DIMENSIONS], component;
-static uint32_t settings[MATCHER_MAX_VECTORS], numbers[MATCHER_MAX_VECTORS], reads[MATCHER_MAX_VECTORS];
-static uint64_t distances[MATCHER_MAX_VECTORS], lower, upper;
+static uint32_t settings[MATCHER_MAX_VECTORS], reads[MATCHER_MAX_VECTORS];
+static struct matcher_entry entries[MATCHER_MAX_VECTORS];
+static uint64_t lower, upper;
 static uint8_t codes[MATCHER_MAX_CODES], regions[MATCHER_MAX_COMPONENTS];
 
 #define MARKS marks, MATCHER_MARKS(d, b)
@@ -41,6 +42,7 @@ static size_t given;
 CALL(load, input, length, marks, MATCHER_MAX_MARKS, settings, MATCHER_MAX_VECTORS,
      vectors, MATCHER_MAX_COMPONENTS, &d, &b, &n, &used)
 CALL(query, d, input + used + 2, length - used - 2, query, d)
+CALL(library_length, d, b, n)
 CALL(write, d, b, n, MARKS, settings, n, VECTORS, file, MATCHER_LIBRARY(d, b, n))
 CALL(fresh, 0x3F800000, &component)
 CALL(fresh_value, 1.0F, &component)
@@ -51,6 +53,7 @@ CALL(check_marks, d, b, MARKS)
 CALL(check_part, d, b, MARKS, d)
 CALL(part_length, d, b, MARKS, d)
 CALL(part_at, d, b, MARKS, d, 1)
+CALL(region_of, d, b, MARKS, d, vectors[d - 1], &place)
 CALL(region, marks, ((size_t)1 << (b / d)) + 1, (size_t)1 << (b / d), vectors[0], &place)
 CALL(make_marks, d, b, n, VECTORS, made, MATCHER_MARKS(d, b))
 CALL(regions, d, b, n, VECTORS, MARKS, regions, n * d)
@@ -60,9 +63,8 @@ CALL(unpack, d, b, n, CODES, regions, n * d)
 CALL(check_codes, d, b, n, MARKS, CODES)
 CALL(distance, query, d, vectors, d, &lower)
 CALL(bounds, d, b, n, query, d, MARKS, CODES, n - 1, &lower, &upper)
-CALL(scan, d, n, n, query, d, VECTORS, numbers, n, distances, n)
-CALL(search, d, b, n, n, query, d, MARKS, CODES, VECTORS, numbers, n, distances, n,
-     reads, n, &place)
+CALL(scan, d, n, n, query, d, VECTORS, entries, n)
+CALL(search, d, b, n, n, query, d, MARKS, CODES, VECTORS, entries, n, reads, n, &place)
 CALL(match, input, length, output, MATCHER_MAX_TEXT, &place)
 
 static void *run_nothing(void *argument)
@@ -108,6 +110,7 @@ int main(void)
     painted_over(run_nothing);
     MEASURE(load);
     MEASURE(query);
+    MEASURE(library_length);
     MEASURE(write);
     MEASURE(fresh);
     MEASURE(fresh_value);
@@ -118,6 +121,7 @@ int main(void)
     MEASURE(check_part);
     MEASURE(part_length);
     MEASURE(part_at);
+    MEASURE(region_of);
     MEASURE(region);
     MEASURE(make_marks);
     MEASURE(regions);

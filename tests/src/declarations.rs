@@ -41,6 +41,7 @@ fn c_type(name: &str) -> Option<&'static str> {
         "u64" => "uint64_t",
         "usize" => "size_t",
         "f32" => "float",
+        "Entry" => "struct matcher_entry",
         _ => return None,
     })
 }

@@ -1,4 +1,4 @@
-//! What C says of an entry's layout (`src/layout.c`). Safe: the array and the function take nothing and change nothing that Rust sees.
+//! What C says of an entry's layout (`c/layout.c`). Safe: the array and the function take nothing and change nothing that Rust sees.
 
 extern "C" {
     static layout_entry: [usize; 6];

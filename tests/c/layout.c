@@ -1,20 +1,14 @@
 /* How C lays an entry out: the sizes and offsets that the interface relies on. The tests read them off the arrays below. */
-#include <stddef.h>
-#include <stdint.h>
+#include "matcher.h"
 
-/* A vector's number and its distance from the query, as matcher_scan and matcher_search fill them. */
-struct matcher_entry {
-    uint32_t number;
-    uint64_t distance;
-};
+#include <stddef.h>
 
 _Static_assert(sizeof(struct matcher_entry) == 16, "an entry has 16 bytes");
 _Static_assert(_Alignof(struct matcher_entry) == 8, "an entry begins at a multiple of 8");
 _Static_assert(offsetof(struct matcher_entry, number) == 0, "the number comes first");
 _Static_assert(offsetof(struct matcher_entry, distance) == 8, "the distance begins at byte 8");
 
-extern uint32_t matcher_scan(size_t d, size_t n, size_t k, const int32_t *query, size_t query_len, const int32_t *vectors,
-    size_t vectors_len, struct matcher_entry *entries, size_t entries_len);
+extern const size_t layout_entry[6];
 
 /* Size, alignment, and each field's offset and size. */
 const size_t layout_entry[6] = {
