@@ -29,6 +29,7 @@ pub enum Given {
     Vectors,
     /// vectors whose components the call tests
     Components,
+    Settings,
     /// vectors that the call reads if the reading order does
     Cells,
     RoomMarks,
@@ -37,6 +38,7 @@ pub enum Given {
     RoomNumbers,
     RoomDistances,
     RoomReads,
+    RoomBytes,
 }
 
 /// A call, in the interface and in the reference.
@@ -105,3 +107,4 @@ pub const SEARCH: Call = call!(
     [D, B, N, K, Query, Marks, Codes, Vectors, Cells, RoomNumbers, RoomDistances, RoomReads],
     [1, 2, 3, 4, 5, 6, 7, 9, 10]
 );
+pub const WRITE: Call = call!(write, [D, B, N, Marks, Settings, Vectors, Components, RoomBytes], [1, 2, 3, 5, 6, 7, 8]);

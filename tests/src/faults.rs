@@ -24,19 +24,21 @@ impl Fault {
 }
 
 /// Buffers whose length is fixed by the other numbers.
-const BUFFERS: [Given; 12] = [
+const BUFFERS: [Given; 14] = [
     Query,
     Marks,
     DimensionMarks,
     Codes,
     Regions,
     Vectors,
+    Settings,
     RoomMarks,
     RoomRegions,
     RoomCodes,
     RoomNumbers,
     RoomDistances,
     RoomReads,
+    RoomBytes,
 ];
 
 fn length(input: &Input, buffer: Given) -> usize {
@@ -47,12 +49,14 @@ fn length(input: &Input, buffer: Given) -> usize {
         Codes => input.codes.len(),
         Regions => input.regions.len(),
         Vectors => input.vectors.len(),
+        Settings => input.settings.len(),
         RoomMarks => input.room.marks,
         RoomRegions => input.room.regions,
         RoomCodes => input.room.codes,
         RoomNumbers => input.room.numbers,
         RoomDistances => input.room.distances,
         RoomReads => input.room.reads,
+        RoomBytes => input.room.bytes,
         Pair => input.one.vector.len(),
         other => panic!("{other:?} is no buffer"),
     }
@@ -68,12 +72,14 @@ fn resize(input: &mut Input, buffer: Given, length: usize) {
         Codes => input.codes.resize(length, 0),
         Regions => input.regions.resize(length, 0),
         Vectors => input.vectors.resize(length, last(&input.vectors)),
+        Settings => input.settings.resize(length, 0),
         RoomMarks => input.room.marks = length,
         RoomRegions => input.room.regions = length,
         RoomCodes => input.room.codes = length,
         RoomNumbers => input.room.numbers = length,
         RoomDistances => input.room.distances = length,
         RoomReads => input.room.reads = length,
+        RoomBytes => input.room.bytes = length,
         Pair => input.one.vector.resize(length, 0),
         other => panic!("{other:?} is no buffer"),
     }

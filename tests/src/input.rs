@@ -1,8 +1,9 @@
 //! What the calls are given: one record with everything, of which each call takes its part.
 
-use std::thread;
+use std::{fmt::Debug, thread};
 
-/// Vectors stand in a row, n rows of d components; `codes` has each vector's code, `regions` its region numbers.
+/// Vectors stand in a row, n rows of d components; `codes` has each vector's code, `regions` its region numbers,
+/// `settings` its settings number.
 #[derive(Clone, PartialEq, Eq, Debug)]
 pub struct Input {
     /// where the input comes from
@@ -18,6 +19,7 @@ pub struct Input {
     pub query: Vec<i32>,
     pub marks: Vec<i32>,
     pub vectors: Vec<i32>,
+    pub settings: Vec<u32>,
     pub regions: Vec<u8>,
     pub codes: Vec<u8>,
     pub one: One,
@@ -26,15 +28,20 @@ pub struct Input {
 
 impl Input {
     /// From here to the end of the block, a failing test tells the input.
-    pub fn told(&self) -> Told<'_> {
-        Told(self)
+    pub fn told(&self) -> Told<'_, Input> {
+        told(self)
     }
 }
 
-/// Tells the input if the test is failing when this goes.
-pub struct Told<'a>(&'a Input);
+/// From here to the end of the block, a failing test tells what was given.
+pub fn told<T: Debug + ?Sized>(given: &T) -> Told<'_, T> {
+    Told(given)
+}
 
-impl Drop for Told<'_> {
+/// Tells what was given if the test is failing when this goes.
+pub struct Told<'a, T: Debug + ?Sized>(&'a T);
+
+impl<T: Debug + ?Sized> Drop for Told<'_, T> {
     fn drop(&mut self) {
         if thread::panicking() {
             eprintln!("failed on {:?}", self.0);
@@ -60,6 +67,15 @@ pub struct Room {
     pub numbers: usize,
     pub distances: usize,
     pub reads: usize,
+    pub bytes: usize,
+}
+
+/// The lengths of the buffers that loading fills.
+#[derive(Clone, Copy, PartialEq, Eq, Debug)]
+pub struct LoadRoom {
+    pub marks: usize,
+    pub settings: usize,
+    pub components: usize,
 }
 
 /// Where a dimension's marks begin in the marks buffer, and how many bits it has.
@@ -84,4 +100,16 @@ pub type Entry = (u32, u64);
 pub struct Found {
     pub entries: Vec<Entry>,
     pub reads: Vec<u32>,
+}
+
+/// A library that was loaded, and how many bytes it is.
+#[derive(Clone, PartialEq, Eq, Debug)]
+pub struct Loaded {
+    pub d: usize,
+    pub b: usize,
+    pub n: usize,
+    pub marks: Vec<i32>,
+    pub settings: Vec<u32>,
+    pub components: Vec<i32>,
+    pub used: usize,
 }

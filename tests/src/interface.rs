@@ -5,11 +5,13 @@ mod approximation;
 mod distance;
 mod intake;
 mod lent;
+mod library;
 mod partition;
 mod search;
 
 pub use approximation::{check_codes, pack, pack_vectors, unpack};
 pub use distance::{bounds, distance};
 pub use intake::{fresh, fresh_value, held, intake, lost};
+pub use library::{library_length, load, query, write};
 pub use partition::{check_marks, make_marks, part, region, regions, stretch};
 pub use search::{scan, search};

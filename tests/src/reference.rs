@@ -4,12 +4,18 @@
 mod approximation;
 mod causes;
 mod distance;
+mod library;
 mod partition;
+mod program;
 mod reading;
 mod search;
 
 pub use approximation::{check_codes, codes_length, pack, pack_vectors, packed, regions_of, unpack};
 pub use distance::{bounds, cell_vectors, distance, distance_between};
-pub use partition::{bits_of, check_marks, made_marks, make_marks, part, parts, region, region_of, regions, stretch};
+pub use library::{library_length, load, query, write};
+pub use partition::{
+    bits_of, check_marks, made_marks, make_marks, marks_length, part, parts, region, region_of, regions, stretch,
+};
+pub use program::program;
 pub use reading::{intake, is_nan, Reading};
 pub use search::{best, scan, search};

@@ -16,7 +16,7 @@ pub fn shapes() -> impl Iterator<Item = (usize, usize)> {
     (1..=32).flat_map(|d| (0..=6 * d).map(move |b| (d, b)))
 }
 
-/// Vectors inside these marks, with their own codes, and a query for the k nearest.
+/// Vectors inside these marks, with their own codes and settings from 101 on, and a query for the k nearest.
 pub fn input(d: usize, b: usize, marks: &[i32], vectors: &[i32], query: &[i32], k: usize) -> Input {
     let (n, parts) = (vectors.len() / d, reference::parts(d, b));
     let region = |(place, &value): (usize, &i32)| {
@@ -31,8 +31,15 @@ pub fn input(d: usize, b: usize, marks: &[i32], vectors: &[i32], query: &[i32], 
         regions: parts[0].len() - 1,
         value: vectors[0],
     };
-    let room =
-        Room { marks: marks.len(), regions: regions.len(), codes: codes.len(), numbers: k, distances: k, reads: n };
+    let room = Room {
+        marks: marks.len(),
+        regions: regions.len(),
+        codes: codes.len(),
+        numbers: k,
+        distances: k,
+        reads: n,
+        bytes: reference::library_length(d, b, n),
+    };
     Input {
         origin: String::new(),
         d,
@@ -44,6 +51,7 @@ pub fn input(d: usize, b: usize, marks: &[i32], vectors: &[i32], query: &[i32], 
         query: query.to_vec(),
         marks: marks.to_vec(),
         vectors: vectors.to_vec(),
+        settings: (101..).take(n).collect(),
         regions,
         codes,
         one,
@@ -127,7 +135,8 @@ pub fn random_of_shape(random: &mut Random, d: usize, b: usize, n: usize) -> Inp
     let any = 1 + random.below(n);
     let k = random.one_of(&[1, n, any, any]);
     let (j, i) = (1 + random.below(d), random.below(n));
-    input(d, b, &marks, &vectors, &query, k).with_dimension(j, i)
+    let settings = (0..n).map(|_| random.next_u32()).collect();
+    Input { settings, ..input(d, b, &marks, &vectors, &query, k).with_dimension(j, i) }
 }
 
 pub fn component(random: &mut Random) -> i32 {
@@ -228,4 +237,22 @@ pub fn small_marks(random: &mut Random, above: i32) -> (usize, usize, Vec<i32>) 
 pub fn vector_inside(random: &mut Random, d: usize, b: usize, marks: &[i32]) -> Vec<i32> {
     let mut component = |part: Range<usize>| random.between(marks[part.start], marks[part.end - 1] - 1);
     reference::parts(d, b).into_iter().map(&mut component).collect()
+}
+
+/// The bytes of an input's library.
+pub fn file(input: &Input) -> Vec<u8> {
+    reference::write(input).expect("the input is right")
+}
+
+/// Records of readings that have these components: fresh or held, each of a value near its component.
+pub fn readings(random: &mut Random, components: &[i32]) -> Vec<u8> {
+    let mut record = |&component: &i32| {
+        let near = random.one_of(&[0.0, 0.0, -0.4, 0.3]);
+        let value = ((component as f32 + near) / 256.0).to_le_bytes();
+        match random.below(3) {
+            0 => [&[6], &value[..], &[random.below(21) as u8]].concat(),
+            _ => [&[5], &value[..]].concat(),
+        }
+    };
+    components.iter().flat_map(&mut record).collect()
 }

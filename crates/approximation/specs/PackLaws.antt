@@ -3,7 +3,7 @@ use mathlib.Core.Path.{_≡_, refl, sym, ap, _∙_}
 use mathlib.Core.Bool.{Bool, true, false, cond, and-eq-true-iff}
 use mathlib.Core.List.{List, [], _∷_, _++_, append-assoc}
 use Prim.Native.Nat.{ℕ, zero, suc, _+_, _-_, _*_, _/_, _%_, _^_, _≤_, _<_}
-use native.Mathlib.Nat.{le-of-suc-le-suc, suc-add, add-suc, add-assoc, add-zero, zero-add, zero-mul, suc-mul, zero-div, zero-mod, mul-mod-left, mul-div-left, div-lt-iff-lt-mul, mod-lt, mod-eq-of-lt, div-add-mod'}
+use native.Mathlib.Nat.{le-of-suc-le-suc, suc-add, add-suc, add-assoc, add-zero, zero-add, zero-mul, suc-mul, zero-div, zero-mod, mul-mod-left, mul-div-left, mod-lt, mod-eq-of-lt, div-add-mod'}
 use native.Mathlib.Omega.{arith}
 use borrow.Author.Tests.{ltb-true, lt-ltb, eqb-true, eqb-false}
 use lib.Arith.{digits-lt, digits-div, digits-mod}
@@ -95,24 +95,6 @@ module _ (d b : ℕ) (some : 0 < d) where
   split-from p zero (suc count) bits h = rw add-zero
   split-from p (suc q) (suc count) bits h =
       rw (next-column p, drop-drop, next-before p, add-suc p q, ← suc-add p q) (split-from (suc p) q count bits (le-of-suc-le-suc h))
-
-  -- what each number has to be for all of them to be their dimensions'
-  fit-from : (p : ℕ) (regions : List ℕ) → ((q : ℕ) → q < length regions → getD regions q 0 < regionCount d b (suc ((p + q) % d))) → regionsFit d b (p % d) regions ≡ true
-  unfolding regionsFit
-  fit-from p [] each = refl
-  fit-from p (r ∷ rs) each =
-      let own : r < regionCount d b (suc (p % d)) = rw add-zero at (each 0 (omega arith)) in
-      let others : (q : ℕ) → q < length rs → getD rs q 0 < regionCount d b (suc ((suc p + q) % d)) = λ q h. rw (suc-add p q, ← add-suc p q) (each (suc q) (omega arith)) in
-      and-eq-true-iff _ _ .1 (lt-ltb r (regionCount d b (suc (p % d))) own, rw (next-column p) (fit-from (suc p) rs others))
-
-  pub fit-if-each : (n : ℕ) (regions : List ℕ) → length regions ≡ n * d
-      → ((i t : ℕ) → i < n → t < d → getD regions (i * d + t) 0 < regionCount d b (suc t)) → regionsFit d b 0 regions ≡ true
-  fit-if-each n regions rows each = rw zero-mod at (fit-from 0 regions at-place)
-    where
-      at-place : (q : ℕ) → q < length regions → getD regions q 0 < regionCount d b (suc ((0 + q) % d))
-      at-place q h =
-          let row : q / d < n = div-lt-iff-lt-mul some .1 (rw rows at h) in
-          rw zero-add (rw div-add-mod' at (each (q / d) (q % d) row (mod-lt q some)))
 
   -- i rows of d numbers and t more have i codes of b bits before them, and the bits of t dimensions
   before-place : (i t : ℕ) → t < d → before d b (i * d + t) ≡ i * b + firstBits d b t

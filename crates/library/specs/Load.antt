@@ -6,19 +6,18 @@ use lib.Dec.{eqb, ltb}
 use lib.IntN.{ℤ}
 use lib.Signed.{ltZ}
 use lib.ListN.{drop, length}
-use Rattle.refusal.specs.declared.Refusal.the-variants.{Count, Length, Component, Mark, Outside}
+use Rattle.refusal.specs.declared.Refusal.the-variants.{Length, Component, Mark, Outside}
 use Rattle.refusal.specs.declared.Verdict.{Verdict}
 use Rattle.refusal.specs.declared.Verdict.the-variants.{Accepted, Refused}
 use Rattle.refusal.specs.First.{Row, _⇒_, outcome}
-use Rattle.limits.specs.Limits.{maxDimensions, maxDimensionBits, maxVectors, isVectorCount, isMark}
+use Rattle.limits.specs.Limits.{maxDimensions, maxDimensionBits, maxVectors, isMark}
 use Rattle.layout.specs.Layout.{markCount, firstMarks}
-use Rattle.layout.specs.Stretch.{shapeCauses}
 use Rattle.records.specs.Records.{headKind, markKind, vectorKind, endKind, kindOf, valueOf}
 use Rattle.records.specs.Frame.{frameCauses}
 use Rattle.library.specs.declared.Loaded.{Loaded}
 use Rattle.library.specs.Each.{each, every}
 use Rattle.library.specs.Library.{Library, markTotal, markPlace, vectorPlace, libraryLength, markAt, storedAt, readLibrary}
-use Rattle.library.specs.Write.{inside}
+use Rattle.library.specs.Write.{countsCauses, inside}
 
 -- "only load lends its buffers at the largest size (2,080 marks, 16,384 components, 512 settings)"
 abbrev pub marksRoom : ℕ
@@ -36,7 +35,7 @@ recordCauses kind bytes own = frameCauses (eqb (kindOf bytes) kind) bytes ++ own
 
 -- 1, 2, 3
 abbrev pub headCauses : Library → List ℕ → List Row
-headCauses l bytes = recordCauses headKind bytes (shapeCauses (l .d) (l .b) ++ ((not (isVectorCount (l .n)) ⇒ Count) ∷ []))
+headCauses l bytes = recordCauses headKind bytes (countsCauses (l .d) (l .b) (l .n))
 
 -- "a mark out of range or below the one before it in its dimension": mark p, number i of its dimension from 0
 abbrev pub markWrong : List ℕ → ℕ → ℕ → Bool

@@ -15,6 +15,10 @@ use Rattle.partition.specs.Region.{inMarks}
 use Rattle.library.specs.Each.{every}
 use Rattle.library.specs.Library.{Library, markTotal, componentIn, libraryLength}
 
+-- 1, 2, 3: the counts of a library
+abbrev pub countsCauses : ℕ → ℕ → ℕ → List Row
+countsCauses d b n = shapeCauses d b ++ ((not (isVectorCount n) ⇒ Count) ∷ [])
+
 -- whether the d components of a vector lie, each, inside the marks of their dimension
 unfoldable pub inside : ℕ → ℕ → List ℤ → (ℕ → ℤ) → Bool
 inside d b marks component = every d (λ t. inMarks (dimensionMarks d b marks (suc t)) (component t))

@@ -18,18 +18,16 @@ use records::check_frame;
 use refusal::Refusal;
 use refusal::Verdict;
 ghost use mathlib.Core.Path.{_≡_};
-ghost use mathlib.Core.List.{[], _∷_, _++_};
-ghost use mathlib.Core.Bool.{not};
+ghost use mathlib.Core.List.{_++_};
 ghost use Prim.Native.Nat.{_+_, _^_, _≤_, _<_};
 ghost use lib.ListN.{drop};
 ghost use Rattle.refusal.specs.declared.Refusal.the-variants.{Count};
 ghost use Rattle.refusal.specs.declared.Verdict.the-variants.{Accepted};
-ghost use Rattle.refusal.specs.First.{_⇒_, first};
-ghost use Rattle.limits.specs.Limits.{isVectorCount};
+ghost use Rattle.refusal.specs.First.{first};
 ghost use Rattle.layout.specs.Stretch.{shapeCauses};
 ghost use Rattle.library.specs.Each.{each, tabulate};
 ghost use Rattle.library.specs.Library.{markTotal, markAt, storedAt, readLibrary};
-ghost use Rattle.library.specs.Write.{inside};
+ghost use Rattle.library.specs.Write.{countsCauses, inside};
 ghost use Rattle.library.specs.Load.{headCauses, markWrong, markCauses, zeroBeyond, componentsCauses, vectorCauses, marksCauses, vectorsCauses, endCauses, recordsCauses};
 ghost use Rattle.library.specs.Heads.{ShapeOf};
 
@@ -76,8 +74,8 @@ fn check_head(bytes: &[u8]) -> Verdict
     }
 }
 
-fn check_counts(d: usize, b: usize, n: usize) -> Verdict
-    ensures { λ r. ⌜ r ≡ first (shapeCauses d b ++ ((not (isVectorCount n) ⇒ Count) ∷ [])) ⌝ }
+pub(crate) fn check_counts(d: usize, b: usize, n: usize) -> Verdict
+    ensures { λ r. ⌜ r ≡ first (countsCauses d b n) ⌝ }
 {
     match layout::check_shape(d, b) {
         Verdict::Accepted => {

@@ -1,4 +1,5 @@
 // A library written to bytes.
+use crate::check::check_counts;
 use crate::sizes::ends_of;
 use crate::sizes::library_length;
 use crate::sizes::mark_place;
@@ -26,10 +27,10 @@ ghost use Rattle.layout.specs.Stretch.{shapeCauses};
 ghost use Rattle.records.specs.Bytes.{lowFirst};
 ghost use Rattle.records.specs.Records.{vectorKind, recordLength, joined};
 ghost use Rattle.library.specs.Each.{each, tabulate, every};
-ghost use Rattle.library.specs.Library.{libraryWith, headBytes, markBytes, vectorBytes, libraryBytes, markPlace, vectorPlace};
+ghost use Rattle.library.specs.Library.{libraryWith, headBytes, markBytes, vectorBytes, libraryBytes, libraryLength, markPlace, vectorPlace};
 ghost use Rattle.library.specs.Sizes.{Dimensioned, Sized, Writing};
 ghost use Rattle.library.specs.SignedBytes.{Bits};
-ghost use Rattle.library.specs.Write.{inside, valueCauses, shapedCauses, writeCauses};
+ghost use Rattle.library.specs.Write.{countsCauses, inside, valueCauses, shapedCauses, writeCauses};
 
 // The bytes of a library, into a buffer of as many.
 pub fn write(
@@ -55,6 +56,16 @@ pub fn write(
             Verdict::Accepted
         }
         Verdict::Refused(cause) => Verdict::Refused(cause),
+    }
+}
+
+// How many bytes a library of these counts has, 0 where they are out of range.
+pub fn bytes_length(d: usize, b: usize, n: usize) -> usize
+    ensures { λ r. ⌜ r ≡ outcome (first (countsCauses d b n)) (libraryLength d b n) (λ _. 0) ⌝ }
+{
+    match check_counts(d, b, n) {
+        Verdict::Accepted => library_length(d, b, n),
+        Verdict::Refused(_) => 0,
     }
 }
 

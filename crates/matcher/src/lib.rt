@@ -1,6 +1,7 @@
 // The matcher's C interface: thin functions over the public calls. A float is passed as its 32 bits, or as itself.
 pub mod codes;
 pub mod distances;
+pub mod files;
 pub mod marks;
 pub mod nearest;
 

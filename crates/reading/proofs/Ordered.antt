@@ -6,7 +6,6 @@ use native.Mathlib.Nat.{zero-mul}
 use native.Mathlib.Omega.{arith}
 use borrow.Author.Tests.{eq-eqb, ltb-false}
 use lib.Dec.{T, ltb, eqb}
-use lib.IntN.{ℤ, pos}
 use lib.Ieee.{Float, nan, inf, fin, binary32, isNan, le, up, down, ofBits}
 
 -- the value of the literal 0.0

@@ -1,21 +1,19 @@
 -- The intake of the value that a pattern stands for, by the pattern's fields. Assumes nothing.
-use mathlib.Core.Path.{_≡_, refl, sym, ap, _∙_, subst}
+use mathlib.Core.Path.{_≡_, refl, sym, ap, _∙_}
 use mathlib.Core.Bool.{Bool, true, false, not, _&&_}
 use Prim.Native.Nat.{ℕ, zero, suc, _+_, _-_, _*_, _/_, _%_, _^_, _≤_, _<_, compare}
 use native.Mathlib.Nat.{le-trans, lt-of-lt-of-le, mul-le-mul-left, mul-le-mul-right, mul-lt-mul-of-pos-right, mul-right-comm, mul-assoc, le-div-iff-mul-le}
 use native.Mathlib.Omega.{arith}
 use borrow.Author.Tests.{eqb-true, eqb-false, not-false, lt-ltb, ne-eqb}
-use lib.Dec.{eqb, leb, ltb, lit<}
-use lib.IntN.{ℤ, pos, negℤ}
-use lib.Signed.{ltZ}
-use lib.Pow.{pow-add, pow-pos, pow-mono, shl-lt, shl-exact}
-use lib.Ieee.{Float, nan, inf, fin, binary32, isNan, odd, ofFields, ofBits, nanBits, top, hid}
+use lib.Dec.{eqb, leb, lit<}
+use lib.IntN.{pos, negℤ}
+use lib.Pow.{pow-add, pow-pos, pow-mono, shl-lt}
+use lib.Ieee.{Float, nan, inf, fin, binary32, isNan, ofFields, ofBits, nanBits}
 use lib.Ieee.Bits.{nanBits-is}
 use lib.Ieee.Exact.{HasValue, odd-sign}
 use lib.Ieee.Nearest.{closest, closest-same, nearest-ge}
 use Rattle.refusal.specs.declared.Refusal.the-variants.{NotANumber, OutOfRange}
 use Rattle.refusal.specs.First.{first}
-use Rattle.limits.specs.Limits.{leastComponent, greatestComponent}
 use Rattle.reading.specs.declared.Intake.the-variants.{Refused}
 use Rattle.reading.specs.Component.{unit, signed}
 use Rattle.reading.specs.Intake.{valueIntake}

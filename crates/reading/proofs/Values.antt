@@ -12,7 +12,6 @@ use Rattle.refusal.specs.declared.Refusal.the-variants.{OutOfRange}
 use Rattle.refusal.specs.First.{_⇒_, first, outcome}
 use Rattle.limits.specs.Limits.{leastComponent, greatestComponent, isComponent}
 use Rattle.limits.specs.Tests.{leZ-not}
-use Rattle.reading.specs.declared.Intake.{Intake}
 use Rattle.reading.specs.declared.Intake.the-variants.{Component, Refused}
 use Rattle.reading.specs.Component.{unit, signed, component, rounded-of-value}
 use Rattle.reading.specs.Intake.{valueIntake}

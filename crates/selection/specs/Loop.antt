@@ -3,16 +3,15 @@
 use mathlib.Core.Path.{_≡_, sym, ap, _∙_}
 use mathlib.Core.Bool.{true, false}
 use mathlib.Core.List.{List, [], _∷_}
-use Prim.Native.Nat.{ℕ, suc, _≤_, _<_, min}
+use Prim.Native.Nat.{ℕ, suc, _≤_, _<_}
 use native.Mathlib.Omega.{arith}
 use lib.ListN.{length, take, drop, getD, drop-of-length-le}
-use lib.Seq.{take-suc, drop-cons, length-take-le}
+use lib.Seq.{take-suc, drop-cons}
 use Rattle.order.specs.Pair.{Pair, pairOf, keyed, ranked}
 use Rattle.order.specs.Merge.{keyed-ranked}
-use Rattle.order.specs.Sorted.{Sorted}
 use Rattle.order.specs.Ranking.{ranked-count}
 use Rattle.selection.specs.Reading.{scan, Reading, unread, goesOn, readNext, reading, readingOrder, read}
-use Rattle.selection.specs.Scan.{scan-length, scan-sorted, scan-snoc}
+use Rattle.selection.specs.Scan.{scan-snoc}
 use Rattle.selection.specs.Steps.{unread-best}
 
 -- ---- one step, from any state
@@ -41,15 +40,6 @@ module _ (k : ℕ) (low distance : ℕ → ℕ) (numbers : List ℕ) where
       → after k low distance numbers (suc done) ≡ readNext k distance (after k low distance numbers done) (getD (readingOrder low numbers) done 0)
   unfolding after readNext
   after-next done more = rw (take-suc (readingOrder low numbers) done 0 (omega (arith, ranked-count low numbers)), scan-snoc)
-
-  pub after-length : (done : ℕ) → done ≤ length numbers → length ((after k low distance numbers done) .best) ≡ min k done
-  unfolding after
-  after-length done fits =
-      scan-length k distance (take done (readingOrder low numbers)) ∙ ap (min k) (length-take-le done (readingOrder low numbers) (omega (arith, ranked-count low numbers)))
-
-  pub after-sorted : (done : ℕ) → Sorted ((after k low distance numbers done) .best)
-  unfolding after
-  after-sorted done = scan-sorted k distance (take done (readingOrder low numbers))
 
   pub reached-start : Reached k low distance numbers 0
   unfolding after read unread

@@ -60,6 +60,11 @@ pub fn components(numbers: &[i32]) -> Checked {
     refused_unless(numbers.iter().all(|number| (-32768..=32767).contains(number)), 6)
 }
 
+/// 6: "or non-zero beyond d"; these are the components there.
+pub fn beyond(numbers: &[i32]) -> Checked {
+    refused_unless(numbers.iter().all(|&number| number == 0), 6)
+}
+
 /// 7: "a mark out of range or below the one before it in its dimension", for one dimension.
 pub fn dimension_marks(marks: &[i32]) -> Checked {
     let in_range = marks.iter().all(|mark| (-32768..=32768).contains(mark));
@@ -85,4 +90,24 @@ pub fn code(good: bool) -> Checked {
 /// 10: "the search reads a pattern that is not in its code's cell".
 pub fn in_cell(inside: bool) -> Checked {
     refused_unless(inside, 10)
+}
+
+/// 11: "kind byte not 1 to 7"; what is known of the kind is not there.
+pub fn kind<T>(known: Option<T>) -> Result<T, u32> {
+    known.ok_or(11)
+}
+
+/// 12: "input ends inside a record or before the next"; what is to be read is not there.
+pub fn whole<T>(read: Option<T>) -> Result<T, u32> {
+    read.ok_or(12)
+}
+
+/// 16: "bytes after a query".
+pub fn no_more(rest: &[u8]) -> Checked {
+    refused_unless(rest.is_empty(), 16)
+}
+
+/// 17: "known kind in a wrong place".
+pub fn placed(kind: u8, places: &[u8]) -> Checked {
+    refused_unless(places.contains(&kind), 17)
 }

@@ -20,9 +20,34 @@ fn entries(pairs: Vec<(i128, usize)>) -> Vec<Entry> {
     pairs.into_iter().map(|(distance, number)| (number as u32, lent(distance))).collect()
 }
 
-// ---- the calls
+/// "The search reads patterns in order of (L, number). It reads the next while fewer than k have been read, or while
+/// its pair is below the pair (distance, number) of the k-th best read so far": the pairs read, in reading order, for
+/// the L of each pattern and its distance once it is read.
+pub fn reading(
+    bounds: &[i128],
+    k: usize,
+    distance: impl Fn(usize) -> Result<i128, u32>,
+) -> Result<Vec<(i128, usize)>, u32> {
+    let bounds: Vec<(i128, usize)> = bounds.iter().copied().zip(0..).collect();
+    let mut read = vec![];
+    for next in best(&bounds, bounds.len()) {
+        if read.len() >= k && next >= best(&read, k)[k - 1] {
+            break;
+        }
+        read.push((distance(next.1)?, next.1));
+    }
+    Ok(read)
+}
 
 /// "A full scan's answer is the k least pairs (distance, number) over all patterns, least first."
+pub fn scanned(query: &[i32], vectors: &[i32], k: usize) -> Vec<(i128, usize)> {
+    let vectors = vectors.chunks(query.len()).enumerate();
+    let pairs: Vec<(i128, usize)> = vectors.map(|(i, vector)| (distance_between(query, vector), i)).collect();
+    best(&pairs, k)
+}
+
+// ---- the calls
+
 pub fn scan(input: &Input) -> Result<Vec<Entry>, u32> {
     let Input { d, n, k, query, vectors, room, .. } = input;
     causes::dimensions(*d)?;
@@ -31,13 +56,9 @@ pub fn scan(input: &Input) -> Result<Vec<Entry>, u32> {
     causes::lengths(&[(query.len(), *d), (vectors.len(), n * d), (room.numbers, *k), (room.distances, *k)])?;
     causes::components(query)?;
     causes::components(vectors)?;
-    let vectors = vectors.chunks(*d).enumerate();
-    let pairs: Vec<(i128, usize)> = vectors.map(|(i, vector)| (distance_between(query, vector), i)).collect();
-    Ok(entries(best(&pairs, *k)))
+    Ok(entries(scanned(query, vectors, *k)))
 }
 
-/// "The search reads patterns in order of (L, number). It reads the next while fewer than k have been read, or while
-/// its pair is below the pair (distance, number) of the k-th best read so far."
 pub fn search(input: &Input) -> Result<Found, u32> {
     let Input { d, b, n, k, query, marks, codes, vectors, room, .. } = input;
     causes::shape(*d, *b)?;
@@ -51,18 +72,12 @@ pub fn search(input: &Input) -> Result<Found, u32> {
     good_codes(input)?;
 
     let cells = cells(input);
-    let order = best(&(0..*n).map(|i| (cell_bounds(query, &cells[i]).0, i)).collect::<Vec<_>>(), *n);
-    let mut read: Vec<(i128, usize)> = vec![];
-    let mut reads = vec![];
-    for next in order {
-        if read.len() >= *k && next >= best(&read, *k)[k - 1] {
-            break;
-        }
-        let number = next.1;
+    let bounds: Vec<i128> = cells.iter().map(|cell| cell_bounds(query, cell).0).collect();
+    let read = reading(&bounds, *k, |number| {
         let vector = &vectors[number * d..(number + 1) * d];
         causes::in_cell(vector.iter().zip(&cells[number]).all(|(component, region)| region.contains(component)))?;
-        read.push((distance_between(query, vector), number));
-        reads.push(number as u32);
-    }
+        Ok(distance_between(query, vector))
+    })?;
+    let reads = read.iter().map(|&(_, number)| number as u32).collect();
     Ok(Found { entries: entries(best(&read, *k)), reads })
 }

@@ -1,5 +1,4 @@
 -- `check_dimension` meets its contract: the dimension's number first. Assumes nothing.
-use mathlib.Core.Path.{_∙_}
 use borrow.Author.Needs.{needs}
 use Rattle.refusal.specs.First.{first}
 use Rattle.layout.proofs.check_dimension.Statement.{statement}

@@ -1,5 +1,5 @@
 -- `marks_length` meets its contract, by the closed form. Assumes nothing.
-use mathlib.Core.Path.{_≡_, sym, _∙_}
+use mathlib.Core.Path.{sym, _∙_}
 use borrow.Author.Needs.{needs}
 use Rattle.refusal.specs.First.{outcome-accepted, outcome-refused}
 use Rattle.layout.specs.Laws.{first-marks, fewest-le}

@@ -1,16 +1,14 @@
 -- `stretch_of` meets its contract, by the closed form. Assumes nothing.
-use mathlib.Core.Path.{_≡_, sym, ap, _∙_}
+use mathlib.Core.Path.{_≡_, sym, _∙_}
 use mathlib.Core.Logic.{⊎-elim}
-use mathlib.Core.Bool.{cond}
-use Prim.Native.Nat.{ℕ, _+_, _-_, _/_, _%_}
+use Prim.Native.Nat.{ℕ, _-_, _/_, _%_}
 use native.Mathlib.Nat.{add-zero}
 use native.Mathlib.Omega.{arith}
 use borrow.Author.Needs.{needs}
 use borrow.Author.Tests.{le-leb, lt-leb}
-use lib.Dec.{leb}
 use Rattle.refusal.specs.First.{outcome-accepted, outcome-refused}
 use Rattle.layout.specs.declared.Stretch.{Stretch}
-use Rattle.layout.specs.Layout.{bitsOf, firstMarks}
+use Rattle.layout.specs.Layout.{bitsOf}
 use Rattle.layout.specs.Laws.{first-marks, fewest-le}
 use Rattle.layout.specs.Stretch.{stretchOf, Numbered, numbered}
 use Rattle.layout.proofs.stretch_of.Statement.{statement}

@@ -1,5 +1,5 @@
 -- `has_value` meets its contract: the region's marks stand side by side in the buffer. Assumes nothing.
-use mathlib.Core.Path.{_≡_, sym, _∙_}
+use mathlib.Core.Path.{sym, _∙_}
 use native.Mathlib.Omega.{arith}
 use borrow.Author.Needs.{needs}
 use Rattle.approximation.specs.CellLaws.{value-test}

@@ -1,5 +1,5 @@
 -- `in_cell` meets its contract: a vector's number is below the limit, and the shape is accepted. Assumes nothing.
-use mathlib.Core.Path.{_≡_, sym, _∙_}
+use mathlib.Core.Path.{sym, _∙_}
 use borrow.Author.Needs.{needs}
 use borrow.Author.Tests.{lt-ltb, le-ltb}
 use Rattle.limits.specs.Limits.{maxVectors}

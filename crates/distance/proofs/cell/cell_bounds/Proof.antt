@@ -1,5 +1,5 @@
 -- `cell_bounds` meets its contract: both bounds where nothing refuses. Assumes nothing.
-use mathlib.Core.Path.{_≡_, sym, ap, _∙_}
+use mathlib.Core.Path.{sym, _∙_}
 use borrow.Author.Needs.{needs}
 use Rattle.refusal.specs.First.{outcome-accepted, outcome-refused}
 use Rattle.distance.proofs.cell.cell_bounds.Statement.{statement}

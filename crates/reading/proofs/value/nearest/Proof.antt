@@ -1,5 +1,5 @@
 -- `nearest` meets its contract: the three ways in which twice the rest compares with the divisor. Assumes nothing.
-use mathlib.Core.Path.{_≡_, sym, _∙_}
+use mathlib.Core.Path.{sym, _∙_}
 use Prim.Native.Nat.{_/_}
 use native.Mathlib.Numerals.{add-one}
 use native.Mathlib.Omega.{arith}

@@ -1,5 +1,5 @@
 -- `of_bits` meets its contract: a zero divided by a zero is the NaN that a NaN's pattern stands for. Assumes nothing.
-use mathlib.Core.Path.{_≡_, sym, _∙_}
+use mathlib.Core.Path.{sym, _∙_}
 use lib.Ieee.{div, ofBits}
 use borrow.Author.Needs.{needs}
 use Rattle.reading.proofs.Patterns.{nan-pattern}

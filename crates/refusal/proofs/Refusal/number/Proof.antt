@@ -1,6 +1,5 @@
 -- `Refusal::number` meets its contract: in each arm the refusal is the variant that the arm names. Assumes nothing.
 use mathlib.Core.Path.{_≡_, sym, ap}
-use Prim.Native.Nat.{ℕ}
 use borrow.Author.Needs.{needs}
 use Rattle.refusal.specs.declared.Refusal.{Refusal}
 use Rattle.refusal.specs.Refusal.{numberOf}
