@@ -22,7 +22,7 @@ use Rattle.library.specs.Library.{Library, libraryLength, readLibrary}
 use Rattle.library.specs.Load.{recordsCauses as libraryCauses}
 use Rattle.query.specs.Query.{recordsCauses as queryCauses, componentsOf}
 use Rattle.matching.specs.declared.Printed.{Printed}
-use Rattle.matching.specs.Text.{lineEnd, refusedWord, decimal, line}
+use Rattle.matching.specs.Text.{refusedWord, line}
 
 -- ---- what stands where
 
@@ -81,7 +81,7 @@ answerText l query k = answerLines (l .settings) k (searched (searchable l) quer
 
 -- "Its first fault from the left comes out as `refused ` and the number"
 abbrev pub refusedText : Refusal → List ℕ
-refusedText cause = refusedWord ++ (decimal (numberOf cause) ++ (lineEnd ∷ []))
+refusedText cause = refusedWord ++ line (numberOf cause) []
 
 abbrev pub textWith : Library → List ℕ → List ℕ
 textWith l input =

@@ -58,6 +58,10 @@ spaced : (x y : ℕ) (ys : List ℕ) → field x space ++ line y ys ≡ line x (
 unfolding line
 spaced x y ys = append-assoc (decimal x) (space ∷ []) (line y ys)
 
+pub line-of-one : (x : ℕ) → field x lineEnd ≡ line x []
+unfolding line
+line-of-one x = refl
+
 pub line-of-two : (x y : ℕ) → field x space ++ field y lineEnd ≡ line x (y ∷ [])
 unfolding line
 line-of-two x y = spaced x y []

@@ -122,6 +122,7 @@ number-small Trailing = lit< tt
 number-small Misplaced = lit< tt
 
 refused-room : (cause : Refusal) → length (refusedText cause) ≤ textRoom
+unfolding line
 refused-room cause =
     let number = decimal-length 1 (numberOf cause) (number-small cause) in
     simp length-append (omega arith)

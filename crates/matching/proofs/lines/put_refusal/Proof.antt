@@ -1,19 +1,20 @@
 -- `put_refusal` meets its contract: the number stands behind the word. Assumes nothing.
 use mathlib.Core.Path.{_≡_, ap, _∙_}
+use mathlib.Core.List.{[]}
 use Prim.Native.Nat.{ℕ, _+_}
 use native.Mathlib.Omega.{arith}
 use lib.ListN.{length, length-append}
 use borrow.Author.Needs.{needs}
 use Rattle.refusal.specs.declared.Refusal.{Refusal}
 use Rattle.refusal.specs.Refusal.{numberOf}
-use Rattle.matching.specs.Text.{lineEnd, refusedWord}
+use Rattle.matching.specs.Text.{lineEnd, refusedWord, line}
 use Rattle.matching.specs.Match.{refusedText}
-use Rattle.matching.specs.Puts.{puts-length, puts-more, puts-same, field}
+use Rattle.matching.specs.Puts.{puts-length, puts-more, puts-same, field, line-of-one}
 use Rattle.matching.proofs.lines.put_refusal.Statement.{statement}
 use Rattle.matching.proofs.lines.put_refusal.Tie as tie
 
 refused-length : (cause : Refusal) → length (refusedText cause) ≡ 8 + length (field (numberOf cause) lineEnd)
-refused-length cause = length-append refusedWord (field (numberOf cause) lineEnd)
+refused-length cause = rw (line-of-one (numberOf cause)) (length-append refusedWord (line (numberOf cause) []))
 
 put-word-requires : tie.Need-put-word-requires
 put-word-requires c κs = omega (arith, c .before .before .pre, refused-length (c .before .before .args .cause))
@@ -34,7 +35,7 @@ returns : tie.Need-returns
 returns c =
     let put = c .before .before in
     let word = put .before .before .before .before .before in
-    puts-more (word .put-word .ensures) (puts-same (ap (λ (x : ℕ). field x lineEnd) (put .before .before .number .ensures)) (put .put-field .ensures))
+    puts-more (word .put-word .ensures) (puts-same (ap (λ (x : ℕ). field x lineEnd) (put .before .before .number .ensures) ∙ line-of-one _) (put .put-field .ensures))
 
 pub put-refusal-spec : {M : Type 1} → statement M
 put-refusal-spec = tie.close (tie.spec put-word-requires (λ c κs. search needs) (λ c. search needs) put-field-requires same-length returns)
