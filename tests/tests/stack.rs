@@ -26,6 +26,7 @@ fn no_call_uses_more_stack_than_the_header_says() {
         assert!(bytes <= most(words[0]), "{line}");
         match words[0] {
             "matcher_lost" => assert_eq!(given, "13", "{line}"),
+            "matcher_library_length" => assert_eq!(given, "45734", "{line}"),
             "matcher_part_length" | "matcher_part_at" => {}
             _ => assert_eq!(given, "0", "{line}"),
         }
