@@ -1,7 +1,7 @@
 //! Links the matcher's C interface, as `rt staticlib matcher` leaves it in the repository's target/, and the C++ peers that bench/run
 //! has compiled; BENCH_CPP names them.
 
-use std::{env, fs, path::PathBuf};
+use std::{env, path::PathBuf};
 
 fn main() {
     let bench = PathBuf::from(env::var_os("CARGO_MANIFEST_DIR").expect("cargo names the package's folder"));
@@ -11,13 +11,7 @@ fn main() {
     println!("cargo:rustc-link-search=native={}", target.join("staticlib").display());
     println!("cargo:rustc-link-lib=static=matcher");
 
-    // The calls on bytes are measured as soon as the interface has them.
-    println!("cargo:rustc-check-cfg=cfg(files, faiss, nanoflann)");
-    let symbols = fs::read(&library).expect("target/staticlib/libmatcher.a, from rt staticlib matcher");
-    if symbols.windows(12).any(|name| name == b"matcher_load") {
-        println!("cargo:rustc-cfg=files");
-    }
-
+    println!("cargo:rustc-check-cfg=cfg(faiss, nanoflann)");
     println!("cargo:rerun-if-env-changed=BENCH_CPP");
     println!("cargo:rustc-link-search=native={}", target.join("bench").display());
     for peer in env::var("BENCH_CPP").unwrap_or_default().split_whitespace() {

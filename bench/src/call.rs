@@ -2,9 +2,9 @@
 
 use crate::data::Data;
 use crate::matcher;
-#[cfg(files)]
+use crate::matcher::Entry;
 use crate::peer::file::{self, Loaded};
-use crate::peer::{codes, marks, scan, search::Library};
+use crate::peer::{codes, marks, program, scan, search::Library};
 use std::hint::black_box;
 
 #[derive(Clone, Copy, PartialEq, Debug)]
@@ -14,10 +14,9 @@ pub enum Call {
     Marks,
     Pack,
     Codes,
-    #[cfg(files)]
     Load,
-    #[cfg(files)]
     Write,
+    Match,
 }
 
 #[derive(Clone, Copy, PartialEq, Debug)]
@@ -29,31 +28,30 @@ pub enum Side {
 /// What a call writes.
 #[derive(PartialEq, Debug)]
 pub struct Answer {
-    pub numbers: Vec<u32>,
-    pub distances: Vec<u64>,
+    pub entries: Vec<Entry>,
     pub reads: Vec<u32>,
     pub count: usize,
     marks: Vec<i32>,
     codes: Vec<u8>,
-    #[cfg(files)]
     bytes: Vec<u8>,
-    #[cfg(files)]
     loaded: Loaded,
+    text: Vec<u8>,
 }
 
 impl Answer {
+    /// The room for the text of a match.
+    const TEXT_ROOM: usize = 14_344;
+
     pub fn new(data: &Data, k: usize) -> Answer {
         Answer {
-            numbers: vec![0; k],
-            distances: vec![0; k],
+            entries: vec![Entry::default(); k],
             reads: vec![0; data.n],
             count: 0,
             marks: vec![0; data.marks.len()],
             codes: vec![0; data.codes.len()],
-            #[cfg(files)]
             bytes: vec![0; data.bytes.len()],
-            #[cfg(files)]
             loaded: Loaded::room(),
+            text: vec![0; Answer::TEXT_ROOM],
         }
     }
 }
@@ -70,17 +68,8 @@ impl Side {
 }
 
 impl Call {
-    pub const ALL: &[Call] = &[
-        Call::Search,
-        Call::Scan,
-        Call::Marks,
-        Call::Pack,
-        Call::Codes,
-        #[cfg(files)]
-        Call::Load,
-        #[cfg(files)]
-        Call::Write,
-    ];
+    pub const ALL: &[Call] =
+        &[Call::Search, Call::Scan, Call::Marks, Call::Pack, Call::Codes, Call::Load, Call::Write, Call::Match];
 
     pub fn name(self) -> &'static str {
         match self {
@@ -89,10 +78,9 @@ impl Call {
             Call::Marks => "marks",
             Call::Pack => "pack",
             Call::Codes => "codes",
-            #[cfg(files)]
             Call::Load => "load",
-            #[cfg(files)]
             Call::Write => "write",
+            Call::Match => "match",
         }
     }
 
@@ -100,8 +88,7 @@ impl Call {
     pub fn reach(self) -> Option<f64> {
         match self {
             Call::Search | Call::Scan => Some(1.2),
-            Call::Marks | Call::Pack | Call::Codes => None,
-            #[cfg(files)]
+            Call::Marks | Call::Pack | Call::Codes | Call::Match => None,
             Call::Load | Call::Write => Some(2.0),
         }
     }
@@ -109,46 +96,47 @@ impl Call {
     /// The numbers of neighbours that are asked for: any one where the call asks for none.
     pub fn neighbours(self) -> &'static [usize] {
         match self {
-            Call::Search | Call::Scan => &[1, 10, 512],
+            Call::Search | Call::Scan | Call::Match => &[1, 10, 512],
             _ => &[1],
         }
     }
 
-    /// The call for one query, by one side.
+    /// The call for query i, by one side.
     #[inline(never)]
-    pub fn run(self, side: Side, data: &Data, query: &[i32], answer: &mut Answer) {
+    pub fn run(self, side: Side, data: &Data, i: usize, answer: &mut Answer) {
         let data = black_box(data);
         match side {
-            Side::Matcher => self.by_matcher(data, query, answer),
-            Side::Rust => self.by_rust(data, query, answer),
+            Side::Matcher => self.by_matcher(data, i, answer),
+            Side::Rust => self.by_rust(data, i, answer),
         }
         black_box(answer);
     }
 
-    fn by_matcher(self, data: &Data, query: &[i32], answer: &mut Answer) {
-        let Answer { numbers, distances, reads, .. } = answer;
+    fn by_matcher(self, data: &Data, i: usize, answer: &mut Answer) {
+        let query = &data.queries[i];
+        let Answer { entries, reads, .. } = answer;
         match self {
-            Call::Search => answer.count = matcher::search(data, query, numbers, distances, reads),
-            Call::Scan => matcher::scan(data, query, numbers, distances),
+            Call::Search => answer.count = matcher::search(data, query, entries, reads),
+            Call::Scan => matcher::scan(data, query, entries),
             Call::Marks => matcher::make_marks(data, &mut answer.marks),
             Call::Pack => matcher::pack(data, &mut answer.codes),
             Call::Codes => matcher::pack_vectors(data, &mut answer.codes),
-            #[cfg(files)]
             Call::Load => matcher::files::load(&data.bytes, &mut answer.loaded),
-            #[cfg(files)]
             Call::Write => matcher::files::write(data, &mut answer.bytes),
+            Call::Match => answer.count = matcher::files::run(&data.matches[i], &mut answer.text),
         }
     }
 
-    fn by_rust(self, data: &Data, query: &[i32], answer: &mut Answer) {
-        let Answer { numbers, distances, reads, .. } = answer;
+    fn by_rust(self, data: &Data, i: usize, answer: &mut Answer) {
+        let query = &data.queries[i];
+        let Answer { entries, reads, .. } = answer;
         let &Data { d, b, ref vectors, .. } = data;
         match self {
             Call::Search => {
                 let library = Library { d, b, marks: &data.marks, codes: &data.codes, vectors };
-                answer.count = library.search(query, numbers, distances, reads);
+                answer.count = library.search(query, entries, reads);
             }
-            Call::Scan => scan::scan(d, query, vectors, numbers, distances),
+            Call::Scan => scan::scan(d, query, vectors, entries),
             Call::Marks => marks::make(d, b, vectors, &mut answer.marks),
             Call::Pack => codes::pack(d, b, &data.regions, &mut answer.codes),
             Call::Codes => {
@@ -156,10 +144,9 @@ impl Call {
                 codes::regions(d, b, vectors, &data.marks, &mut regions);
                 codes::pack(d, b, &regions, &mut answer.codes);
             }
-            #[cfg(files)]
             Call::Load => file::load(&data.bytes, &mut answer.loaded).expect("a library"),
-            #[cfg(files)]
             Call::Write => file::write(data, &mut answer.bytes),
+            Call::Match => answer.count = program::run(&data.matches[i], &mut answer.text).expect("a match"),
         }
     }
 
@@ -167,9 +154,9 @@ impl Call {
     pub fn agrees(self, data: &Data, k: usize) -> f64 {
         let (mut ours, mut theirs) = (Answer::new(data, k), Answer::new(data, k));
         let mut read = 0;
-        for query in &data.queries {
-            self.run(Side::Matcher, data, query, &mut ours);
-            self.run(Side::Rust, data, query, &mut theirs);
+        for i in 0..Data::QUERIES {
+            self.run(Side::Matcher, data, i, &mut ours);
+            self.run(Side::Rust, data, i, &mut theirs);
             assert!(ours == theirs, "{}, d {} b {} n {} k {k}: the sides differ", self.name(), data.d, data.b, data.n);
             read += ours.count;
         }

@@ -59,11 +59,11 @@ impl Index<'_> {
 
     /// The distances are the search's, up to the rounding of a 32-bit float. Its numbers may differ in ties.
     fn agrees(&mut self, data: &Data, answer: &mut Answer) {
-        for query in &data.queries {
-            Call::Search.run(Side::Matcher, data, query, answer);
+        for (i, query) in data.queries.iter().enumerate() {
+            Call::Search.run(Side::Matcher, data, i, answer);
             self.search(query);
-            for (&ours, &theirs) in answer.distances.iter().zip(&self.distances) {
-                let ours = ours as f64;
+            for (ours, &theirs) in answer.entries.iter().zip(&self.distances) {
+                let ours = ours.distance as f64;
                 assert!((ours - theirs).abs() <= 1e-5 * ours, "{}: {ours} and {theirs}", self.peer.name);
             }
         }
@@ -87,7 +87,7 @@ pub fn print() {
             let times = in_turns(
                 ROUNDS,
                 Data::QUERIES,
-                || data.queries.iter().for_each(|q| row.call.run(Side::Matcher, &data, q, &mut answer)),
+                || (0..Data::QUERIES).for_each(|i| row.call.run(Side::Matcher, &data, i, &mut answer)),
                 || data.queries.iter().for_each(|q| index.search(q)),
             );
             let (ours, theirs) = (times.matcher / 1000.0, times.other / 1000.0);

@@ -1,8 +1,6 @@
 //! The data of a measurement: vectors, their marks and codes, and fresh queries of the vectors' distribution.
 
-#[cfg(files)]
-use crate::peer::file;
-use crate::peer::{codes, marks};
+use crate::peer::{codes, file, marks, program};
 use crate::random::Random;
 
 #[derive(Clone, Copy, PartialEq, Debug)]
@@ -33,11 +31,11 @@ pub struct Data {
     pub marks: Vec<i32>,
     pub regions: Vec<u8>,
     pub codes: Vec<u8>,
-    #[cfg(files)]
     pub settings: Vec<u32>,
-    #[cfg(files)]
     pub bytes: Vec<u8>,
     pub queries: Vec<Vec<i32>>,
+    /// The library, k and each query, as the program reads them.
+    pub matches: Vec<Vec<u8>>,
 }
 
 impl Data {
@@ -45,7 +43,7 @@ impl Data {
     const CENTRES: usize = 16;
     const REACH: i32 = 1024;
 
-    pub fn new(d: usize, bits: usize, n: usize, spread: Spread) -> Data {
+    pub fn new(d: usize, bits: usize, n: usize, spread: Spread, k: usize) -> Data {
         let b = bits * d;
         let mut random = Random::new((d * 1000 + n) as u64);
         let centres: Vec<i32> = (0..Self::CENTRES * d).map(|_| random.between(-30000, 30000)).collect();
@@ -68,21 +66,20 @@ impl Data {
             marks: vec![0; marks::length(d, b)],
             regions: vec![0; n * d],
             codes: vec![0; codes::length(b, n)],
-            #[cfg(files)]
             settings: (1..=n as u32).collect(),
-            #[cfg(files)]
             bytes: Vec::new(),
             queries,
+            matches: Vec::new(),
         };
         marks::make(d, b, &data.vectors, &mut data.marks);
         codes::regions(d, b, &data.vectors, &data.marks, &mut data.regions);
         codes::pack(d, b, &data.regions, &mut data.codes);
-        #[cfg(files)]
-        {
-            let mut bytes = vec![0; file::length(&data)];
-            file::write(&data, &mut bytes);
-            data.bytes = bytes;
-        }
+        let mut bytes = vec![0; file::length(&data)];
+        file::write(&data, &mut bytes);
+        let readings = |query: &Vec<i32>| query.iter().flat_map(|&component| program::reading(component)).collect();
+        let whole = |query| [&bytes[..], &(k as u16).to_le_bytes(), &Vec::<u8>::as_slice(&readings(query))].concat();
+        data.matches = data.queries.iter().map(whole).collect();
+        data.bytes = bytes;
         data
     }
 }

@@ -1,9 +1,16 @@
 //! The matcher's C interface. Safe for each call: a pointer leads to as many elements as are named with it, or to one.
 
-#[cfg(files)]
 pub mod files;
 
 use crate::data::Data;
+
+/// A vector's number and its distance, laid out as in C.
+#[repr(C)]
+#[derive(Clone, Copy, PartialEq, Debug, Default)]
+pub struct Entry {
+    pub number: u32,
+    pub distance: u64,
+}
 
 extern "C" {
     fn matcher_scan(
@@ -14,10 +21,8 @@ extern "C" {
         query_len: usize,
         vectors: *const i32,
         vectors_len: usize,
-        numbers: *mut u32,
-        numbers_len: usize,
-        distances: *mut u64,
-        distances_len: usize,
+        entries: *mut Entry,
+        entries_len: usize,
     ) -> u32;
     fn matcher_search(
         d: usize,
@@ -32,10 +37,8 @@ extern "C" {
         codes_len: usize,
         vectors: *const i32,
         vectors_len: usize,
-        numbers: *mut u32,
-        numbers_len: usize,
-        distances: *mut u64,
-        distances_len: usize,
+        entries: *mut Entry,
+        entries_len: usize,
         reads: *mut u32,
         reads_len: usize,
         count: *mut usize,
@@ -76,32 +79,30 @@ fn accepted(number: u32) {
     assert_eq!(number, 0, "refused");
 }
 
-pub fn scan(data: &Data, query: &[i32], numbers: &mut [u32], distances: &mut [u64]) {
+pub fn scan(data: &Data, query: &[i32], entries: &mut [Entry]) {
     accepted(unsafe {
         matcher_scan(
             data.d,
             data.n,
-            numbers.len(),
+            entries.len(),
             query.as_ptr(),
             query.len(),
             data.vectors.as_ptr(),
             data.vectors.len(),
-            numbers.as_mut_ptr(),
-            numbers.len(),
-            distances.as_mut_ptr(),
-            distances.len(),
+            entries.as_mut_ptr(),
+            entries.len(),
         )
     });
 }
 
-pub fn search(data: &Data, query: &[i32], numbers: &mut [u32], distances: &mut [u64], reads: &mut [u32]) -> usize {
+pub fn search(data: &Data, query: &[i32], entries: &mut [Entry], reads: &mut [u32]) -> usize {
     let mut count = 0;
     accepted(unsafe {
         matcher_search(
             data.d,
             data.b,
             data.n,
-            numbers.len(),
+            entries.len(),
             query.as_ptr(),
             query.len(),
             data.marks.as_ptr(),
@@ -110,10 +111,8 @@ pub fn search(data: &Data, query: &[i32], numbers: &mut [u32], distances: &mut [
             data.codes.len(),
             data.vectors.as_ptr(),
             data.vectors.len(),
-            numbers.as_mut_ptr(),
-            numbers.len(),
-            distances.as_mut_ptr(),
-            distances.len(),
+            entries.as_mut_ptr(),
+            entries.len(),
             reads.as_mut_ptr(),
             reads.len(),
             &mut count,

@@ -1,9 +1,9 @@
 //! The other side of each pair: the same work in plain Rust, written for itself and not after the Rattle code.
 
 pub mod codes;
-#[cfg(files)]
 pub mod file;
 pub mod marks;
+pub mod program;
 pub mod scan;
 pub mod search;
 

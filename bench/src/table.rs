@@ -36,7 +36,7 @@ impl Row {
     }
 
     pub fn data(&self) -> Data {
-        Data::new(self.d, Self::BITS, self.n, self.spread)
+        Data::new(self.d, Self::BITS, self.n, self.spread, self.k)
     }
 
     pub fn print_heads(unit: &str) {

@@ -1,4 +1,4 @@
-//! Load and write. Safe as the calls beside them.
+//! Load, write and the whole match. Safe as the calls beside them.
 
 use super::accepted;
 use crate::data::Data;
@@ -32,6 +32,7 @@ extern "C" {
         n: *mut usize,
         used: *mut usize,
     ) -> u32;
+    fn matcher_match(input: *const u8, input_len: usize, output: *mut u8, output_len: usize, count: *mut usize) -> u32;
 }
 
 pub fn write(data: &Data, bytes: &mut [u8]) {
@@ -71,4 +72,11 @@ pub fn load(bytes: &[u8], loaded: &mut Loaded) {
             used,
         )
     });
+}
+
+/// The text's length; the output has the room that the call asks for.
+pub fn run(input: &[u8], output: &mut [u8]) -> usize {
+    let mut count = 0;
+    accepted(unsafe { matcher_match(input.as_ptr(), input.len(), output.as_mut_ptr(), output.len(), &mut count) });
+    count
 }

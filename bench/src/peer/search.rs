@@ -1,6 +1,7 @@
 //! The vector-approximation search: lower bounds from the codes by a table of the query, ranked, and vectors read in that order.
 
 use super::{bits, distance};
+use crate::matcher::Entry;
 use std::collections::BinaryHeap;
 
 pub struct Library<'a> {
@@ -20,8 +21,8 @@ struct Steps {
 
 impl Library<'_> {
     /// The numbers and distances of the nearest, and the numbers of the vectors read, whose count is given.
-    pub fn search(&self, query: &[i32], numbers: &mut [u32], distances: &mut [u64], reads: &mut [u32]) -> usize {
-        let k = numbers.len();
+    pub fn search(&self, query: &[i32], entries: &mut [Entry], reads: &mut [u32]) -> usize {
+        let k = entries.len();
         let mut order = self.lower_bounds(&self.table(query));
         order.sort_unstable();
         let mut best: BinaryHeap<(u64, u32)> = BinaryHeap::with_capacity(k + 1);
@@ -38,8 +39,8 @@ impl Library<'_> {
             reads[count] = pair.1;
             count += 1;
         }
-        for ((pair, number), distance) in best.into_sorted_vec().into_iter().zip(numbers).zip(distances) {
-            (*distance, *number) = pair;
+        for ((distance, number), entry) in best.into_sorted_vec().into_iter().zip(entries) {
+            *entry = Entry { number, distance };
         }
         count
     }
