@@ -7,8 +7,10 @@ use native.Mathlib.Numerals.{add-one}
 use native.Mathlib.Omega.{arith}
 use lib.ListN.{length, getD, drop, set, length-append, drop-of-length-le}
 use lib.Seq.{sets, length-sets, sets-eq, drop-cons}
-use Rattle.order.specs.Pair.{Pair, numbersOf}
-use Rattle.selection.specs.Kept.{pair, pairsOf, keysOf}
+use Rattle.order.specs.Pair.{Pair}
+use Rattle.selection.specs.Kept.{pair}
+use Rattle.nearest.specs.declared.Entry.{Entry}
+use Rattle.nearest.specs.Entries.{entriesOf}
 use Rattle.matching.specs.Text.{space, lineEnd, decimal, line}
 use Rattle.matching.specs.Match.{entryLine, entryLines}
 
@@ -84,21 +86,25 @@ three-length x y z =
 
 -- ---- entries
 
--- those from index i on
-abbrev pub linesFrom : List ℕ → List ℕ → List ℕ → ℕ → List ℕ
-linesFrom settings distances numbers i = entryLines settings (pairsOf (drop i distances) (drop i numbers))
+-- as pairs
+unfoldable pub pairsIn : List Entry → List Pair
+pairsIn [] = []
+pairsIn (e ∷ es) = pair (e .distance) (e .number) ∷ pairsIn es
 
-pub lines-next : (settings distances numbers : List ℕ) (i : ℕ) → i < length distances → i < length numbers
-    → linesFrom settings distances numbers i ≡ entryLine settings (pair (getD distances i 0) (getD numbers i 0)) ++ linesFrom settings distances numbers (i + 1)
-unfolding entryLines pairsOf
-lines-next settings distances numbers i of-distances of-numbers = rw (drop-cons distances i 0 of-distances, drop-cons numbers i 0 of-numbers, add-one i)
-
-pub lines-none : (settings distances numbers : List ℕ) (i : ℕ) → length numbers ≤ i → length distances ≤ i → linesFrom settings distances numbers i ≡ []
-unfolding entryLines pairsOf
-lines-none settings distances numbers i of-numbers of-distances = rw (drop-of-length-le distances of-distances)
-
--- pairs from their keys and their numbers
-pub pairs-back : (ps : List Pair) → pairsOf (keysOf ps) (numbersOf ps) ≡ ps
-unfolding pairsOf keysOf numbersOf
+pub pairs-back : (ps : List Pair) → pairsIn (entriesOf ps) ≡ ps
+unfolding pairsIn entriesOf
 pairs-back [] = refl
 pairs-back (p ∷ ps) = ap {B = List Pair} (λ rest. p ∷ rest) (pairs-back ps)
+
+-- those from index i on
+abbrev pub linesFrom : List ℕ → List Entry → ℕ → List ℕ
+linesFrom settings entries i = entryLines settings (pairsIn (drop i entries))
+
+pub lines-next : (settings : List ℕ) (entries : List Entry) (none : Entry) (i : ℕ) → i < length entries
+    → linesFrom settings entries i ≡ entryLine settings (pair (getD entries i none .distance) (getD entries i none .number)) ++ linesFrom settings entries (i + 1)
+unfolding entryLines pairsIn
+lines-next settings entries none i within = rw (drop-cons entries i none within, add-one i)
+
+pub lines-none : (settings : List ℕ) (entries : List Entry) (i : ℕ) → length entries ≤ i → linesFrom settings entries i ≡ []
+unfolding entryLines pairsIn
+lines-none settings entries i past = rw (drop-of-length-le entries past)

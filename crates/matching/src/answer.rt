@@ -1,26 +1,28 @@
 // The answer of a match: the nearest vectors of a loaded library, as text.
+use crate::found::find;
 use crate::lines::put_entries;
 use crate::lines::put_pair;
 use limits::MAX_DIMENSION_BITS;
 use limits::MAX_DIMENSIONS;
 use limits::MAX_VECTORS;
+use nearest::Entry;
 use search::search::Searched;
 ghost use mathlib.Core.Path.{_≡_};
 ghost use mathlib.Core.List.{[], _∷_, _++_};
 ghost use Prim.Native.Nat.{_≤_};
-ghost use lib.ListN.{length};
+ghost use lib.ListN.{length, take};
 ghost use Rattle.refusal.specs.declared.Verdict.the-variants.{Accepted};
 ghost use Rattle.refusal.specs.First.{first};
-ghost use Rattle.order.specs.Pair.{numbersOf};
-ghost use Rattle.selection.specs.Kept.{keysOf, pairsOf};
+ghost use Rattle.limits.specs.Limits.{maxVectors};
 ghost use Rattle.approximation.specs.Codes.{codeLength};
 ghost use Rattle.approximation.specs.VectorCauses.{packVectorsCauses};
+ghost use Rattle.search.specs.Answer.{searchedCount};
 ghost use Rattle.search.specs.Search.{searched, searchCauses};
 ghost use Rattle.search.specs.Ready.{library, roomOf};
 ghost use Rattle.library.specs.Library.{libraryWith};
 ghost use Rattle.matching.specs.Text.{line};
 ghost use Rattle.matching.specs.Match.{searchable, entryLines, answerLines, answerText};
-ghost use Rattle.matching.specs.Puts.{Puts};
+ghost use Rattle.matching.specs.Puts.{Puts, pairsIn};
 
 // The most bytes of codes.
 const CODES_ROOM: usize = MAX_VECTORS * MAX_DIMENSION_BITS * MAX_DIMENSIONS / 8;
@@ -79,78 +81,34 @@ fn answer_coded(
         (searched (library d b n (now (marks .entry)) (now (codes .entry)) (now (components .entry))) (now (query .entry)) k)) 0
         (now (text .entry)) (now (text .exit)) r ⌝ }
 {
-    let mut numbers = [0u32; MAX_VECTORS];
-    let mut distances = [0u64; MAX_VECTORS];
-    let count = nearest(
-        d,
-        b,
-        n,
-        k,
-        query,
-        marks,
-        codes,
-        components,
-        &mut numbers[..k],
-        &mut distances[..k],
-    );
-    put_answer(k, count, settings, &numbers[..k], &distances[..k], text)
+    let mut reads = [0u32; MAX_VECTORS];
+    let found = find(d, b, n, k, query, marks, codes, components, &mut reads[..n]);
+    let answer = found.answer;
+    let entries = found.entries;
+    put_answer(k, read_count(answer), settings, entries, text)
 }
 
-// The numbers and distances of the k nearest vectors; how many vectors were read.
-fn nearest(
-    d: usize,
-    b: usize,
-    n: usize,
-    k: usize,
-    query: &[i32],
-    marks: &[i32],
-    codes: &[u8],
-    components: &[i32],
-    numbers: &mut [u32],
-    distances: &mut [u64],
-) -> usize
-    requires { ⌜ first (searchCauses (library d b n (now marks) (now codes) (now components)) (now query) k
-        (roomOf (length (now numbers)) (length (now distances)) n)) ≡ Accepted ⌝ }
-    ensures { λ r. ⌜ r ≡ length (searched (library d b n (now (marks .entry)) (now (codes .entry)) (now (components .entry))) (now (query .entry)) k .reads) ⌝ }
-    ensures { λ _. ⌜ now (numbers .exit)
-        ≡ numbersOf (searched (library d b n (now (marks .entry)) (now (codes .entry)) (now (components .entry))) (now (query .entry)) k .best) ⌝ }
-    ensures { λ _. ⌜ now (distances .exit)
-        ≡ keysOf (searched (library d b n (now (marks .entry)) (now (codes .entry)) (now (components .entry))) (now (query .entry)) k .best) ⌝ }
+// How many vectors a search read, 0 where it refused.
+fn read_count(answer: Searched) -> usize
+    ensures { λ r. ⌜ r ≡ searchedCount answer ⌝ }
 {
-    let mut reads = [0u32; MAX_VECTORS];
-    let answer = search::search::search(
-        d,
-        b,
-        n,
-        k,
-        query,
-        marks,
-        codes,
-        components,
-        numbers,
-        distances,
-        &mut reads[..n],
-    );
     match answer {
         Searched::Read(count) => count,
         Searched::Refused(_) => 0,
     }
 }
 
-// Line one, then a line for each entry.
+// Line one, then a line for each of the first k entries.
 fn put_answer(
     k: usize,
     count: usize,
     settings: &[u32],
-    numbers: &[u32],
-    distances: &[u64],
+    entries: [Entry; MAX_VECTORS],
     text: &mut [u8],
 ) -> usize
-    requires { ⌜ (length (now distances) ≡ length (now numbers))
-        × (length (line k (count ∷ []) ++ entryLines (now settings) (pairsOf (now distances) (now numbers))) ≤ length (now text)) ⌝ }
-    ensures { λ r. ⌜ Puts (line k (count ∷ []) ++ entryLines (now (settings .entry)) (pairsOf (now (distances .entry)) (now (numbers .entry)))) 0
-        (now (text .entry)) (now (text .exit)) r ⌝ }
+    requires { ⌜ (k ≤ maxVectors) × (length (line k (count ∷ []) ++ entryLines (now settings) (pairsIn (take k entries))) ≤ length (now text)) ⌝ }
+    ensures { λ r. ⌜ Puts (line k (count ∷ []) ++ entryLines (now (settings .entry)) (pairsIn (take k entries))) 0 (now (text .entry)) (now (text .exit)) r ⌝ }
 {
     let next = put_pair(k, count, text, 0);
-    put_entries(settings, numbers, distances, text, next)
+    put_entries(settings, k, entries, text, next)
 }

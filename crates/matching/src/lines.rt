@@ -1,13 +1,15 @@
 // Lines of text: decimal numbers with single spaces between them, each line ended by byte 10.
+use limits::MAX_VECTORS;
+use nearest::Entry;
 use refusal::Refusal;
 ghost use mathlib.Core.Path.{_≡_};
 ghost use mathlib.Core.List.{[], _∷_};
 ghost use Prim.Native.Nat.{_+_, _≤_};
-ghost use lib.ListN.{length, getD};
-ghost use Rattle.selection.specs.Kept.{pairsOf};
+ghost use lib.ListN.{length, getD, take};
+ghost use Rattle.limits.specs.Limits.{maxVectors};
 ghost use Rattle.matching.specs.Text.{refusedWord, decimal, line};
 ghost use Rattle.matching.specs.Match.{entryLines, refusedText};
-ghost use Rattle.matching.specs.Puts.{Puts, field};
+ghost use Rattle.matching.specs.Puts.{Puts, field, pairsIn};
 
 const SPACE: u8 = 32;
 
@@ -56,24 +58,23 @@ fn put_entry(number: u32, settings: u32, distance: u64, text: &mut [u8], at: usi
     put_field(distance, LINE_END, text, third)
 }
 
-// A line for each entry: its number, the settings of the vector of that number, its distance.
+// A line for each of the first k entries: its number, the settings of the vector of that number, its distance.
 pub(crate) fn put_entries(
     settings: &[u32],
-    numbers: &[u32],
-    distances: &[u64],
+    k: usize,
+    entries: [Entry; MAX_VECTORS],
     text: &mut [u8],
     at: usize,
 ) -> usize
-    requires { ⌜ (length (now distances) ≡ length (now numbers))
-        × (at + length (entryLines (now settings) (pairsOf (now distances) (now numbers))) ≤ length (now text)) ⌝ }
-    ensures { λ r. ⌜ Puts (entryLines (now (settings .entry)) (pairsOf (now (distances .entry)) (now (numbers .entry)))) at
-        (now (text .entry)) (now (text .exit)) r ⌝ }
+    requires { ⌜ (k ≤ maxVectors) × (at + length (entryLines (now settings) (pairsIn (take k entries))) ≤ length (now text)) ⌝ }
+    ensures { λ r. ⌜ Puts (entryLines (now (settings .entry)) (pairsIn (take k entries))) at (now (text .entry)) (now (text .exit)) r ⌝ }
 {
     let mut next = at;
     let mut i = 0;
-    while i < numbers.len() {
-        let vector_settings = settings_at(settings, numbers[i] as usize);
-        next = put_entry(numbers[i], vector_settings, distances[i], text, next);
+    while i < k {
+        let entry = entries[i];
+        let vector_settings = settings_at(settings, entry.number as usize);
+        next = put_entry(entry.number, vector_settings, entry.distance, text, next);
         i += 1;
     }
     next

@@ -3,28 +3,27 @@ use mathlib.Core.Path.{_≡_, _∙_}
 use mathlib.Core.List.{[], _∷_, _++_}
 use Prim.Native.Nat.{_+_}
 use native.Mathlib.Omega.{arith}
-use lib.ListN.{length, length-append}
-use Rattle.selection.specs.Kept.{pairsOf}
+use lib.ListN.{length, take, length-append}
 use Rattle.matching.specs.Text.{line}
 use Rattle.matching.specs.Match.{entryLines}
-use Rattle.matching.specs.Puts.{puts-length, puts-more}
+use Rattle.matching.specs.Puts.{puts-length, puts-more, pairsIn}
 use Rattle.matching.proofs.answer.put_answer.Statement.{statement}
 use Rattle.matching.proofs.answer.put_answer.Tie as tie
 
 lines-length : (s : tie.Start) → let one = line (s .args .k) (s .args .count ∷ []) in
-    let entries = entryLines (s .args .settings .now) (pairsOf (s .args .distances .now) (s .args .numbers .now)) in
+    let entries = entryLines (s .args .settings .now) (pairsIn (take (s .args .k) (s .args .entries))) in
     length (one ++ entries) ≡ length one + length entries
-lines-length s = length-append (line (s .args .k) (s .args .count ∷ [])) (entryLines (s .args .settings .now) (pairsOf (s .args .distances .now) (s .args .numbers .now)))
+lines-length s = length-append (line (s .args .k) (s .args .count ∷ [])) (entryLines (s .args .settings .now) (pairsIn (take (s .args .k) (s .args .entries))))
 
 put-pair-requires : tie.Need-put-pair-requires
 put-pair-requires c κs =
-    let start = c .before .before .before .before .before in
+    let start = c .before .before .before in
     omega (arith, start .pre .1, lines-length start)
 
 put-entries-requires : tie.Need-put-entries-requires
 put-entries-requires c κs =
     let one = c .before .before .before in
-    let start = one .before .before .before .before .before .before in
+    let start = one .before .before .before .before in
     let puts = one .put-pair .ensures in
     (start .pre .0, omega (arith, start .pre .1, lines-length start, puts .end, puts-length puts))
 
