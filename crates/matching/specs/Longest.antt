@@ -17,7 +17,7 @@ use Rattle.refusal.specs.declared.Refusal.{Refusal}
 use Rattle.refusal.specs.declared.Refusal.the-variants.{Kind, Misplaced, Trailing, Count}
 use Rattle.refusal.specs.declared.Verdict.{Verdict}
 use Rattle.refusal.specs.declared.Verdict.the-variants.{Accepted, Refused}
-use Rattle.refusal.specs.First.{Row, _⇒_, first, passed, first-here, outcome-refused}
+use Rattle.refusal.specs.First.{Row, _⇒_, first, passed, first-here, outcome-refused, apart}
 use Rattle.limits.specs.Limits.{maxDimensions, maxDimensionBits, maxVectors, isVectorCount}
 use Rattle.limits.specs.Tests.{between}
 use Rattle.layout.specs.Layout.{bitsOf, markCount, firstMarks}
@@ -26,7 +26,7 @@ use Rattle.layout.specs.Stretch.{shapeCauses, Shape, shape}
 use Rattle.reading.specs.Intake.{causes}
 use Rattle.records.specs.Records.{headKind, markKind, vectorKind, endKind, freshKind, heldKind, lostKind, formats, widthsAmong, widthsOf, sum, recordLength, isKind, kindOf, valueOf}
 use Rattle.records.specs.Frame.{frameCauses, framed}
-use Rattle.records.specs.RowLaws.{go-on, stop, both, not-refused}
+use Rattle.records.specs.RowLaws.{go-on, stop, both}
 use Rattle.library.specs.Each.{tabulate, every}
 use Rattle.library.specs.EachLaws.{each-same}
 use Rattle.library.specs.Library.{Library, markTotal, markPlace, vectorPlace, libraryLength, headValue, markAt, storedAt, readLibrary}
@@ -324,5 +324,5 @@ pub accepted-length : (input : List ℕ) → first (matchCauses input) ≡ Accep
 accepted-length input accepted = go (decLt longestMatch (length input))
   where
     go : Dec (longestMatch < length input) → length input ≤ longestMatch
-    go (yes long) = absurd (not-refused (sym (longer-is-refused input long .one) ∙ accepted))
+    go (yes long) = absurd (apart (sym accepted ∙ longer-is-refused input long .one))
     go (no short) = omega arith

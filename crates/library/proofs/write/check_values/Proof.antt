@@ -10,11 +10,11 @@ use borrow.Author.Tests.{eq-eqb, not-false}
 use Rattle.refusal.specs.declared.Refusal.{Refusal}
 use Rattle.refusal.specs.declared.Refusal.the-variants.{Length, Mark, Outside}
 use Rattle.refusal.specs.declared.Verdict.the-variants.{Accepted, Refused}
-use Rattle.refusal.specs.First.{_⇒_, first, first-next, passed}
+use Rattle.refusal.specs.First.{_⇒_, first, first-next, passed, apart}
 use Rattle.layout.specs.Stretch.{shapeCauses}
 use Rattle.partition.specs.Marks.{goodMarks}
 use Rattle.partition.specs.MarksCauses.{marksCauses, shapedCauses}
-use Rattle.records.specs.RowLaws.{go-on, not-refused}
+use Rattle.records.specs.RowLaws.{go-on}
 use Rattle.library.specs.Library.{libraryWith}
 use Rattle.library.specs.Write.{valueCauses}
 use Rattle.library.specs.Sizes.{Dimensioned}
@@ -36,7 +36,7 @@ module _ (d b : ℕ) (marks : List ℤ) (is : Dimensioned d b marks) where
   bad-if {cause} refused = go (goodMarks d b marks) (sym values-left ∙ refused)
     where
       go : (good : Bool) → first ((not good ⇒ Mark) ∷ []) ≡ Refused cause → good ≡ false
-      go true e = absurd (not-refused (sym e))
+      go true e = absurd (apart e)
       go false e = refl
 
 returns : tie.Need-returns
