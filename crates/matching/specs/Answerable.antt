@@ -20,8 +20,8 @@ use Rattle.order.specs.Members.{_∈_}
 use Rattle.order.specs.Counted.{counted}
 use Rattle.selection.specs.Theorems.{reads-among}
 use Rattle.layout.specs.Layout.{firstMarks}
-use Rattle.approximation.specs.Codes.{codeLength}
-use Rattle.approximation.specs.PackLaws.{length-packed}
+use Rattle.codes.specs.Codes.{codeLength}
+use Rattle.codes.specs.PackLaws.{length-packed}
 use Rattle.approximation.specs.VectorCauses.{packVectorsCauses}
 use Rattle.approximation.specs.OwnCodes.{own-good}
 use Rattle.search.specs.Search.{numbersIn, distanceIn, lowIn, inOwnCells, scanned, searched, searchCauses}

@@ -11,9 +11,9 @@ use Rattle.refusal.specs.declared.Verdict.the-variants.{Accepted}
 use Rattle.refusal.specs.First.{first}
 use Rattle.partition.specs.Marks.{dimensionMarks}
 use Rattle.partition.specs.Region.{inMarks}
-use Rattle.approximation.specs.PackLaws.{next-column}
+use Rattle.codes.specs.PackLaws.{next-column}
 use Rattle.approximation.specs.Vectors.{insideFrom, vectorsInside, vectorCodes}
-use Rattle.approximation.specs.Cells.{Own}
+use Rattle.cells.specs.Cells.{Own}
 use Rattle.approximation.specs.OwnCodes.{own-codes}
 use Rattle.library.specs.EachLaws.{every-at}
 use Rattle.library.specs.Library.{Library, markTotal, componentAt, readLibrary}

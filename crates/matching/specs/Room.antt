@@ -25,7 +25,7 @@ use Rattle.order.specs.Pair.{Pair}
 use Rattle.order.specs.Members.{_∈_}
 use Rattle.order.specs.Counted.{counted, counted-length}
 use Rattle.selection.specs.Theorems.{reads-among, reads-count, best-length, best-entries}
-use Rattle.approximation.specs.Cells.{vectorAt}
+use Rattle.cells.specs.Cells.{vectorAt}
 use Rattle.distance.specs.Distance.{gap, squared, firstDistance, distanceOf}
 use Rattle.distance.specs.Places.{gap-size}
 use Rattle.distance.specs.CellBounds.{squared-le}

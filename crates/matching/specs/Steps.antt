@@ -19,7 +19,7 @@ use Rattle.limits.specs.Limits.{maxDimensions, maxVectors, isDimensionCount}
 use Rattle.limits.specs.Tests.{between}
 use Rattle.whole.specs.Components.{areComponents}
 use Rattle.layout.specs.Stretch.{shapeCauses}
-use Rattle.approximation.specs.Codes.{codeLength}
+use Rattle.codes.specs.Codes.{codeLength}
 use Rattle.approximation.specs.VectorCauses.{packVectorsCauses}
 use Rattle.search.specs.Search.{searchCauses}
 use Rattle.search.specs.Ready.{roomOf}
