@@ -11,3 +11,4 @@ pub mod Table
 pub mod TableLaws
 pub mod Run
 pub mod Bounded
+pub mod Values

@@ -6,7 +6,7 @@ ghost use mathlib.Core.List.{_++_};
 ghost use lib.ListN.{length, drop};
 ghost use Rattle.refusal.specs.Refusal.{verdictNumber};
 ghost use Rattle.refusal.specs.First.{first, outcome};
-ghost use Rattle.search.specs.Scanning.{scanAnswer, scanCauses};
+ghost use Rattle.scan.specs.Scanning.{scanAnswer, scanCauses};
 ghost use Rattle.search.specs.Search.{searched, searchCauses};
 ghost use Rattle.search.specs.Ready.{library};
 ghost use Rattle.search.specs.Answer.{searchedNumber, searchedCount};

@@ -22,8 +22,8 @@ use Rattle.selection.specs.Kept.{keysOf, numbersOf-map}
 use Rattle.layout.specs.Layout.{firstMarks}
 use Rattle.codes.specs.Codes.{codeLength}
 use Rattle.search.specs.Search.{Library, searchCauses, exactLengths}
-use Rattle.search.specs.Scanning.{scanCauses}
-use Rattle.search.specs.Scanned.{scannable}
+use Rattle.scan.specs.Scanning.{scanCauses}
+use Rattle.scan.specs.Scanned.{scannable}
 use Rattle.search.specs.Accepted.{passes, lengths-told}
 use Rattle.nearest.specs.Entries.{entryRoom}
 use Rattle.nearest.specs.Finding.{roomFor, Stands}

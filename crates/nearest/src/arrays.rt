@@ -8,7 +8,7 @@ ghost use lib.ListN.{length};
 ghost use Rattle.refusal.specs.declared.Verdict.the-variants.{Accepted};
 ghost use Rattle.refusal.specs.First.{first, outcome};
 ghost use Rattle.search.specs.Search.{searchCauses};
-ghost use Rattle.search.specs.Scanning.{scanAnswer, scanCauses};
+ghost use Rattle.scan.specs.Scanning.{scanAnswer, scanCauses};
 ghost use Rattle.search.specs.Ready.{library};
 ghost use Rattle.nearest.specs.Entries.{entryRoom};
 ghost use Rattle.nearest.specs.Finding.{Stands, SearchesInto, roomFor, foundCount};
@@ -53,7 +53,7 @@ fn scan_parts(
     ensures { λ r. let v = first (scanCauses d n k (now (query .entry)) (now (vectors .entry)) room room) in
         ⌜ (r ≡ v) × (v ≡ Accepted → Stands room k (scanAnswer d n k (now (query .entry)) (now (vectors .entry))) (now (numbers .exit)) (now (distances .exit))) ⌝ }
 {
-    search::scan::scan(
+    scan::scan(
         d,
         n,
         k,

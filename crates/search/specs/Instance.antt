@@ -24,7 +24,7 @@ use Rattle.distance.specs.Bounds.{firstBound}
 use Rattle.distance.specs.CellBounds.{lower-le, CellReached, lower-reached, upper-reached}
 use Rattle.search.specs.Search.{Library, numbersIn, distanceIn, lowIn, highIn, scanned, searched}
 use Rattle.search.specs.Settled.{withVectors, CellOf, OwnCodes, SameCells, SettlesAnswer, NeededVector}
-use Rattle.search.specs.Values.{scan-agree}
+use Rattle.scan.specs.Ranked.{scan-agree}
 use Rattle.search.specs.Rows.{Row, Rows, in-a-row}
 
 -- v is the distance of a vector of code i's cell

@@ -16,7 +16,7 @@ ghost use Rattle.refusal.specs.First.{first};
 ghost use Rattle.distance.specs.Table.{boundSum};
 ghost use Rattle.selection.specs.Reading.{readingOrder};
 ghost use Rattle.search.specs.Search.{numbersIn, lowIn, searchCauses};
-ghost use Rattle.search.specs.Values.{valuesFrom};
+ghost use Rattle.distance.specs.Values.{valuesFrom};
 ghost use Rattle.search.specs.Ready.{library, roomOf, Ready};
 ghost use Rattle.search.specs.Searching.{Searches, cellCauses};
 

@@ -48,7 +48,7 @@ use Rattle.refusal.specs.declared.Verdict.the-variants.{Accepted}
 use Rattle.refusal.specs.First.{first, outcome}
 use Rattle.limits.specs.Limits.{maxVectors}
 use Rattle.order.specs.Pair.{Pair}
-use Rattle.search.specs.Scanning.{scanAnswer, scanCauses}
+use Rattle.scan.specs.Scanning.{scanAnswer, scanCauses}
 use Rattle.nearest.specs.declared.Entry.{Entry}
 use Rattle.nearest.specs.Entries.{entriesOf, filled}
 use Rattle.nearest.specs.Finding.{Stands}

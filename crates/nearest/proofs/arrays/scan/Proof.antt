@@ -4,7 +4,7 @@ use Prim.Native.Nat.{ℕ}
 use native.Mathlib.Omega.{arith}
 use borrow.Author.Needs.{needs}
 use Rattle.refusal.specs.First.{first}
-use Rattle.search.specs.Scanning.{scanCauses}
+use Rattle.scan.specs.Scanning.{scanCauses}
 use Rattle.nearest.specs.Room.{room-within, scan-room, scan-tells, stands-room}
 use Rattle.nearest.proofs.arrays.scan.Statement.{statement}
 use Rattle.nearest.proofs.arrays.scan.Tie as tie

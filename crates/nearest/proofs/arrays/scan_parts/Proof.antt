@@ -11,7 +11,7 @@ use Rattle.refusal.specs.declared.Verdict.the-variants.{Accepted}
 use Rattle.refusal.specs.First.{first, outcome}
 use Rattle.order.specs.Pair.{numbersOf}
 use Rattle.selection.specs.Kept.{keysOf}
-use Rattle.search.specs.Scanning.{scanAnswer, scanCauses}
+use Rattle.scan.specs.Scanning.{scanAnswer, scanCauses}
 use Rattle.nearest.specs.Finding.{Stands}
 use Rattle.nearest.specs.Room.{scan-tells, stands-back}
 use Rattle.nearest.proofs.arrays.scan_parts.Statement.{statement}

@@ -22,7 +22,7 @@ use Rattle.selection.specs.Holds.{Holds, holds-keys, holds-numbers, arrays-star
 use Rattle.selection.specs.Theorems.{best-length}
 use Rattle.search.specs.declared.search.Searched.the-variants.{Read, Refused}
 use Rattle.search.specs.Search.{Library, Room, numbersIn, distanceIn, lowIn, inOwnCell, inOwnCells, searched}
-use Rattle.search.specs.Values.{valuesFrom, value-at}
+use Rattle.distance.specs.Values.{valuesFrom, value-at}
 use Rattle.search.specs.Ready.{library, Ready, Place, place, ordered-below}
 use Rattle.search.specs.Answered.{Reads, measured, next-in-cell, next-outside}
 use Rattle.search.proofs.reading.read_all.Statement.{statement}

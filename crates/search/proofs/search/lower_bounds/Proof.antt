@@ -15,7 +15,7 @@ use Rattle.distance.specs.declared.Bound.the-variants.{Lower}
 use Rattle.distance.specs.Table.{maxTable, stepOf, tableOf, lengthCauses, tableCauses, boundSum}
 use Rattle.distance.specs.TableLaws.{bound-sum, table-le}
 use Rattle.search.specs.Search.{Library, Room, lowIn}
-use Rattle.search.specs.Values.{valuesFrom}
+use Rattle.distance.specs.Values.{valuesFrom}
 use Rattle.search.specs.Ready.{Ready}
 use Rattle.search.specs.Buffers.{back-within, shared-is, values-agree}
 use Rattle.search.proofs.search.lower_bounds.Statement.{statement}

@@ -6,7 +6,7 @@ use native.Mathlib.Omega.{arith}
 use lib.ListN.{length, take, drop}
 use borrow.Author.Needs.{needs}
 use Rattle.distance.specs.Table.{boundSum}
-use Rattle.search.specs.Values.{valuesFrom, values-length, value-at}
+use Rattle.distance.specs.Values.{valuesFrom, values-length, value-at}
 use Rattle.search.specs.Buffers.{put-next, put-all}
 use Rattle.search.proofs.search.sum_bounds.Statement.{statement}
 use Rattle.search.proofs.search.sum_bounds.Tie as tie

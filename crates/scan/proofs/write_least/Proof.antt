@@ -11,8 +11,8 @@ use Rattle.refusal.specs.First.{first, outcome, outcome-accepted}
 use Rattle.limits.specs.Limits.{maxVectors}
 use Rattle.order.specs.Rank.{rankCauses, keyAt, ranking}
 use Rattle.partition.proofs.Prefix.{back-within, shared-is}
-use Rattle.search.proofs.scan.write_least.Statement.{statement}
-use Rattle.search.proofs.scan.write_least.Tie as tie
+use Rattle.scan.proofs.write_least.Statement.{statement}
+use Rattle.scan.proofs.write_least.Tie as tie
 
 -- n keys are ranked into room for n numbers
 accepted : (n room : ℕ) → 1 ≤ n → n ≤ maxVectors → room ≡ n → first (rankCauses n room) ≡ Accepted

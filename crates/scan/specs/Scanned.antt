@@ -21,8 +21,9 @@ use Rattle.selection.specs.Reading.{scan}
 use Rattle.selection.specs.Kept.{keysOf}
 use Rattle.cells.specs.Cells.{vectorAt}
 use Rattle.distance.specs.Small.{distance-small}
-use Rattle.search.specs.Scanning.{distancesOf, scanCauses}
-use Rattle.search.specs.Values.{valuesFrom, values-length, values-ranked}
+use Rattle.distance.specs.Values.{valuesFrom, values-length}
+use Rattle.scan.specs.Scanning.{distancesOf, scanCauses}
+use Rattle.scan.specs.Ranked.{values-ranked}
 
 -- n vectors of d components in a row, and a query
 pub record Vectors (d n : ℕ) (query vectors : List ℤ) : Type 0 where

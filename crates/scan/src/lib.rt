@@ -14,9 +14,9 @@ ghost use Rattle.whole.specs.Components.{areComponents};
 ghost use Rattle.order.specs.Pair.{numbersOf};
 ghost use Rattle.order.specs.Rank.{keyAt, ranking};
 ghost use Rattle.selection.specs.Kept.{keysOf};
-ghost use Rattle.search.specs.Scanning.{distancesOf, scanAnswer, scanCauses};
-ghost use Rattle.search.specs.Values.{valuesFrom};
-ghost use Rattle.search.specs.Scanned.{Vectors};
+ghost use Rattle.distance.specs.Values.{valuesFrom};
+ghost use Rattle.scan.specs.Scanning.{distancesOf, scanAnswer, scanCauses};
+ghost use Rattle.scan.specs.Scanned.{Vectors};
 
 // The k of n vectors that are nearest to a query of d components, nearest first, ties by lower number: their numbers and their
 // distances. The vectors stand in a row.

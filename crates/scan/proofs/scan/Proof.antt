@@ -11,10 +11,10 @@ use Rattle.refusal.specs.declared.Verdict.{Verdict}
 use Rattle.refusal.specs.First.{first, outcome, outcome-accepted, outcome-refused}
 use Rattle.order.specs.Pair.{Pair, numbersOf}
 use Rattle.selection.specs.Kept.{keysOf}
-use Rattle.search.specs.Scanning.{scanAnswer, scanCauses}
-use Rattle.search.specs.Scanned.{scannable}
-use Rattle.search.proofs.scan.scan.Statement.{statement}
-use Rattle.search.proofs.scan.scan.Tie as tie
+use Rattle.scan.specs.Scanning.{scanAnswer, scanCauses}
+use Rattle.scan.specs.Scanned.{scannable}
+use Rattle.scan.proofs.scan.Statement.{statement}
+use Rattle.scan.proofs.scan.Tie as tie
 
 -- the verdict on the arguments
 abbrev verdict : tie.Start → Verdict

@@ -6,12 +6,12 @@ use lib.ListN.{length, take}
 use lib.Seq.{length-take-le}
 use borrow.Author.Needs.{needs}
 use Rattle.order.specs.Rank.{keyAt, ranking}
-use Rattle.search.specs.Scanning.{distancesOf}
-use Rattle.search.specs.Values.{valuesFrom}
-use Rattle.search.specs.Scanned.{Vectors, scan-numbers, scan-keys}
+use Rattle.distance.specs.Values.{valuesFrom}
+use Rattle.scan.specs.Scanning.{distancesOf}
+use Rattle.scan.specs.Scanned.{Vectors, scan-numbers, scan-keys}
 use Rattle.partition.proofs.Prefix.{back-within, shared-is, shared-length}
-use Rattle.search.proofs.scan.scan_all.Statement.{statement}
-use Rattle.search.proofs.scan.scan_all.Tie as tie
+use Rattle.scan.proofs.scan_all.Statement.{statement}
+use Rattle.scan.proofs.scan_all.Tie as tie
 
 keys-hold : tie.Need-array-borrow-prefix-keys
 keys-hold c = search needs

@@ -9,12 +9,12 @@ use lib.ListN.{length, take, drop, length-set}
 use borrow.Author.Needs.{needs}
 use Rattle.limits.specs.Limits.{maxDimensions, maxVectors}
 use Rattle.distance.specs.Distance.{distanceOf}
-use Rattle.search.specs.Scanning.{distancesOf}
-use Rattle.search.specs.Scanned.{Vectors, scanned-small}
-use Rattle.search.specs.Values.{valuesFrom, values-length, value-at}
-use Rattle.search.proofs.Filling.{Filling, filling-start, filling-next, filling-end}
-use Rattle.search.proofs.scan.measure_all.Statement.{statement}
-use Rattle.search.proofs.scan.measure_all.Tie as tie
+use Rattle.distance.specs.Values.{valuesFrom, values-length, value-at}
+use Rattle.scan.specs.Scanning.{distancesOf}
+use Rattle.scan.specs.Scanned.{Vectors, scanned-small}
+use Rattle.distance.proofs.Filling.{Filling, filling-start, filling-next, filling-end}
+use Rattle.scan.proofs.measure_all.Statement.{statement}
+use Rattle.scan.proofs.measure_all.Tie as tie
 
 abbrev Inv-loop : tie.InvT-loop
 Inv-loop d query vectors keys₀ i₀ keys i =

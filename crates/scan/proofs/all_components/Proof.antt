@@ -1,7 +1,7 @@
 -- `all_components` meets its contract: both tests hold. Assumes nothing.
 use borrow.Author.Needs.{needs}
-use Rattle.search.proofs.scan.all_components.Statement.{statement}
-use Rattle.search.proofs.scan.all_components.Tie as tie
+use Rattle.scan.proofs.all_components.Statement.{statement}
+use Rattle.scan.proofs.all_components.Tie as tie
 
 returns : tie.Need-returns
 returns c = rw (← c .before .before .are-components .ensures, ← c .are-components2 .ensures, c .before .if1 .taken)

@@ -12,9 +12,9 @@ use Rattle.refusal.specs.declared.Refusal.the-variants.{Dimension, Count, Neigh
 use Rattle.refusal.specs.First.{Row, first, first-here, first-next}
 use Rattle.limits.specs.Limits.{maxDimensions, maxVectors, isDimensionCount, isVectorCount}
 use Rattle.limits.specs.Tests.{between}
-use Rattle.search.specs.Scanning.{scanCauses}
-use Rattle.search.proofs.scan.check_scan.Statement.{statement}
-use Rattle.search.proofs.scan.check_scan.Tie as tie
+use Rattle.scan.specs.Scanning.{scanCauses}
+use Rattle.scan.proofs.check_scan.Statement.{statement}
+use Rattle.scan.proofs.check_scan.Tie as tie
 
 -- the rows from the m-th on
 abbrev rows : ℕ → tie.Start → List Row

@@ -1,8 +1,8 @@
 -- `exact_lengths` meets its contract: each length is tested where those before it are right. Assumes nothing.
 use borrow.Author.Needs.{needs}
 use borrow.Author.Tests.{eq-eqb, ne-eqb}
-use Rattle.search.proofs.scan.exact_lengths.Statement.{statement}
-use Rattle.search.proofs.scan.exact_lengths.Tie as tie
+use Rattle.scan.proofs.exact_lengths.Statement.{statement}
+use Rattle.scan.proofs.exact_lengths.Tie as tie
 
 returns : tie.Need-returns
 returns c = rw (ne-eqb _ _ (c .if1 .taken))

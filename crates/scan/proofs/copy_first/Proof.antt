@@ -8,9 +8,9 @@ use lib.Seq.{length-take-le, getD-take}
 use borrow.Author.Needs.{needs}
 use Rattle.order.specs.Rank.{keyAt, ranking}
 use Rattle.order.specs.Places.{ranking-length, ranking-below}
-use Rattle.search.proofs.Filling.{Filling, filling-start, filling-next, filling-end}
-use Rattle.search.proofs.scan.copy_first.Statement.{statement}
-use Rattle.search.proofs.scan.copy_first.Tie as tie
+use Rattle.distance.proofs.Filling.{Filling, filling-start, filling-next, filling-end}
+use Rattle.scan.proofs.copy_first.Statement.{statement}
+use Rattle.scan.proofs.copy_first.Tie as tie
 
 abbrev Inv-loop : tie.InvT-loop
 Inv-loop keys order numbers₀ least₀ i₀ numbers least i =
