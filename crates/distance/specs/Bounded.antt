@@ -18,8 +18,8 @@ use Rattle.whole.specs.Components.{areComponents}
 use Rattle.layout.specs.Layout.{firstMarks}
 use Rattle.layout.specs.Stretch.{shapeCauses}
 use Rattle.partition.specs.Marks.{goodMarks}
-use Rattle.approximation.specs.Codes.{codeLength}
-use Rattle.approximation.specs.Cells.{goodCodes}
+use Rattle.codes.specs.Codes.{codeLength}
+use Rattle.cells.specs.Cells.{goodCodes}
 use Rattle.distance.specs.Table.{tableCauses, lengthCauses}
 use Rattle.distance.specs.declared.cell.Bounds.{Bounds}
 use Rattle.distance.specs.declared.cell.Bounds.the-variants.{Between, Refused}

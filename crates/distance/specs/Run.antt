@@ -7,9 +7,9 @@ use native.Mathlib.Omega.{arith}
 use borrow.Author.Tests.{le-leb, lt-leb}
 use lib.ListN.{getD}
 use Rattle.layout.specs.Layout.{bitsOf, firstBits, firstMarks}
-use Rattle.approximation.specs.Bits.{bitsAt}
-use Rattle.approximation.specs.BitLaws.{bits-at}
-use Rattle.approximation.specs.Codes.{codeRegion}
+use Rattle.codes.specs.Bits.{bitsAt}
+use Rattle.codes.specs.BitLaws.{bits-at}
+use Rattle.codes.specs.Codes.{codeRegion}
 use Rattle.distance.specs.Table.{tableSum}
 
 -- the sum of the entries of t dimensions of w bits, whose region numbers begin at a bit of the codes, and whose entries at a place of

@@ -13,7 +13,7 @@ use Rattle.limits.specs.Limits.{maxDimensions, maxDimensionBits, maxVectors}
 use Rattle.layout.specs.Layout.{markCount, firstMarks}
 use Rattle.layout.specs.Stretch.{shapeCauses}
 use Rattle.partition.specs.Marks.{dimensionMarks}
-use Rattle.approximation.specs.Codes.{codeRegion}
+use Rattle.codes.specs.Codes.{codeRegion}
 use Rattle.distance.specs.declared.Bound.{Bound}
 use Rattle.distance.specs.declared.Bound.the-variants.{Lower, Upper}
 use Rattle.distance.specs.Bounds.{shortest, longest, stepTo}

@@ -18,8 +18,8 @@ use Rattle.layout.specs.Layout.{markCount, firstMarks}
 use Rattle.layout.specs.Laws.{marks-le, marks-within, first-next-marks}
 use Rattle.layout.specs.Stretch.{shapeCauses, shape}
 use Rattle.partition.specs.Marks.{dimensionMarks, goodMarks}
-use Rattle.approximation.specs.Codes.{codeRegion}
-use Rattle.approximation.specs.PackLaws.{code-region-fits}
+use Rattle.codes.specs.Codes.{codeRegion}
+use Rattle.codes.specs.PackLaws.{code-region-fits}
 use Rattle.distance.specs.declared.Bound.{Bound}
 use Rattle.distance.specs.declared.Bound.the-variants.{Lower, Upper}
 use Rattle.distance.specs.Bounds.{stepTo, firstBound}

@@ -15,7 +15,7 @@ ghost use Rattle.refusal.specs.declared.Verdict.the-variants.{Accepted};
 ghost use Rattle.limits.specs.Limits.{maxVectors};
 ghost use Rattle.layout.specs.Layout.{firstMarks};
 ghost use Rattle.layout.specs.Stretch.{shapeCauses};
-ghost use Rattle.approximation.specs.Codes.{codeLength};
+ghost use Rattle.codes.specs.Codes.{codeLength};
 ghost use Rattle.distance.specs.Bounds.{firstBound, lowerOf, upperOf};
 ghost use Rattle.distance.specs.Table.{stepOf};
 ghost use Rattle.distance.specs.Bounded.{boundsCauses, shapedBoundsCauses};
@@ -91,7 +91,7 @@ fn check_shaped(
     if !whole::components::are_components(query) {
         return Verdict::Refused(Refusal::Component);
     }
-    approximation::cells::check_codes(d, b, n, marks, codes)
+    cells::check_codes(d, b, n, marks, codes)
 }
 
 // Whether the query, the marks and the codes are as many as they must be.

@@ -1,7 +1,7 @@
 // A query's table of squared steps, and the bounds that are sums of its entries.
 use crate::Bound;
 use crate::step;
-use approximation::bits::bits_at;
+use codes::bits::bits_at;
 use limits::MAX_DIMENSION_BITS;
 use limits::MAX_DIMENSIONS;
 use limits::MAX_VECTORS;

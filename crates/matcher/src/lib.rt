@@ -1,5 +1,5 @@
 // The matcher's C interface: thin functions over the public calls. A float is passed as its 32 bits, or as itself.
-pub mod codes;
+pub mod approximations;
 pub mod distances;
 pub mod entries;
 pub mod files;

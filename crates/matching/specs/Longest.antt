@@ -30,9 +30,9 @@ use Rattle.records.specs.RowLaws.{go-on, stop, both}
 use Rattle.library.specs.Each.{tabulate, every}
 use Rattle.library.specs.EachLaws.{each-same}
 use Rattle.library.specs.Library.{Library, markTotal, markPlace, vectorPlace, libraryLength, headValue, markAt, storedAt, readLibrary}
-use Rattle.library.specs.Write.{inside}
+use Rattle.library.specs.Tests.{inside}
 use Rattle.library.specs.Sizes.{mark-place, vector-place, library-length, marks-few}
-use Rattle.library.specs.Load.{recordCauses, headCauses, markCauses, zeroBeyond, componentsCauses, vectorCauses, marksCauses, vectorsCauses, endCauses}
+use Rattle.loading.specs.Load.{recordCauses, headCauses, markCauses, zeroBeyond, componentsCauses, vectorCauses, marksCauses, vectorsCauses, endCauses}
 use Rattle.partition.specs.Marks.{dimensionMarks}
 use Rattle.partition.specs.Region.{inMarks}
 use Rattle.query.specs.Query.{isReading, readingOf, readingCauses, recordsCauses as queryCauses, nextRecord}

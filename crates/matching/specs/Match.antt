@@ -19,7 +19,7 @@ use Rattle.approximation.specs.Vectors.{vectorCodes}
 use Rattle.search.specs.Search.{Library as Searchable, searched}
 use Rattle.records.specs.Bytes.{fromLowFirst}
 use Rattle.library.specs.Library.{Library, libraryLength, readLibrary}
-use Rattle.library.specs.Load.{recordsCauses as libraryCauses}
+use Rattle.loading.specs.Load.{recordsCauses as libraryCauses}
 use Rattle.query.specs.Query.{recordsCauses as queryCauses, componentsOf}
 use Rattle.matching.specs.declared.Printed.{Printed}
 use Rattle.matching.specs.Text.{refusedWord, line}

@@ -14,7 +14,7 @@ ghost use lib.ListN.{length, take};
 ghost use Rattle.refusal.specs.declared.Verdict.the-variants.{Accepted};
 ghost use Rattle.refusal.specs.First.{first};
 ghost use Rattle.limits.specs.Limits.{maxVectors};
-ghost use Rattle.approximation.specs.Codes.{codeLength};
+ghost use Rattle.codes.specs.Codes.{codeLength};
 ghost use Rattle.approximation.specs.VectorCauses.{packVectorsCauses};
 ghost use Rattle.search.specs.Answer.{searchedCount};
 ghost use Rattle.search.specs.Search.{searched, searchCauses};
@@ -47,7 +47,7 @@ pub(crate) fn answer(
 {
     let size = (n * b + 7) / 8;
     let mut codes = [0u8; CODES_ROOM];
-    approximation::vectors::pack_vectors(d, b, n, components, marks, &mut codes[..size]);
+    approximation::pack_vectors(d, b, n, components, marks, &mut codes[..size]);
     answer_coded(
         d,
         b,

@@ -20,7 +20,7 @@ use Rattle.limits.specs.Tests.{between}
 use Rattle.order.specs.Pair.{Pair, numbersOf}
 use Rattle.selection.specs.Kept.{keysOf, numbersOf-map}
 use Rattle.layout.specs.Layout.{firstMarks}
-use Rattle.approximation.specs.Codes.{codeLength}
+use Rattle.codes.specs.Codes.{codeLength}
 use Rattle.search.specs.Search.{Library, searchCauses, exactLengths}
 use Rattle.scan.specs.Scanning.{scanCauses}
 use Rattle.scan.specs.Scanned.{scannable}

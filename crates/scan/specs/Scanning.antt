@@ -11,7 +11,7 @@ use Rattle.limits.specs.Limits.{isDimensionCount, isVectorCount}
 use Rattle.whole.specs.Components.{areComponents}
 use Rattle.order.specs.Pair.{Pair, countFrom}
 use Rattle.selection.specs.Reading.{scan}
-use Rattle.approximation.specs.Cells.{vectorAt}
+use Rattle.cells.specs.Cells.{vectorAt}
 use Rattle.distance.specs.Distance.{distanceOf}
 
 -- the distances of n vectors in a row from the query

@@ -17,8 +17,8 @@ use Rattle.selection.specs.Settles.{LowerBound, Bounds, Within, Settles, Needed
 use Rattle.selection.specs.Changed.{changed-there, changed-elsewhere}
 use Rattle.selection.specs.Least.{member?}
 use Rattle.selection.specs.Theorems.{exact}
-use Rattle.approximation.specs.Codes.{spareZero}
-use Rattle.approximation.specs.Cells.{vectorAt, noneEmpty, noEmptyCodes, goodCodes}
+use Rattle.codes.specs.Codes.{spareZero}
+use Rattle.cells.specs.Cells.{vectorAt, noneEmpty, noEmptyCodes, goodCodes}
 use Rattle.distance.specs.Distance.{distanceOf}
 use Rattle.distance.specs.Bounds.{firstBound}
 use Rattle.distance.specs.CellBounds.{lower-le, CellReached, lower-reached, upper-reached}

@@ -9,7 +9,7 @@ use borrow.Author.Needs.{needs}
 use Rattle.refusal.specs.declared.Verdict.{Verdict}
 use Rattle.refusal.specs.declared.Verdict.the-variants.{Accepted, Refused}
 use Rattle.refusal.specs.First.{first}
-use Rattle.library.specs.Load.{filled}
+use Rattle.loading.specs.Load.{filled}
 use Rattle.matching.specs.Match.{matchText, textRoom, roomCauses, printed}
 use Rattle.kit.proofs.main.Statement.{statement}
 use Rattle.kit.proofs.main.Tie as tie

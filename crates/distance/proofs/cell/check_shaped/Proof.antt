@@ -12,8 +12,8 @@ use Rattle.limits.specs.Tests.{between}
 use Rattle.whole.specs.Components.{areComponents}
 use Rattle.layout.specs.Layout.{firstMarks}
 use Rattle.layout.specs.Stretch.{shapeCauses}
-use Rattle.approximation.specs.Codes.{codeLength}
-use Rattle.approximation.specs.CellCauses.{shapedCodeCauses}
+use Rattle.codes.specs.Codes.{codeLength}
+use Rattle.cells.specs.CellCauses.{shapedCodeCauses}
 use Rattle.distance.proofs.cell.check_shaped.Statement.{statement}
 use Rattle.distance.proofs.cell.check_shaped.Tie as tie
 

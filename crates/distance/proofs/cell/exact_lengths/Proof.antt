@@ -6,7 +6,7 @@ use borrow.Author.Needs.{needs}
 use borrow.Author.Tests.{eq-eqb, ne-eqb}
 use Rattle.layout.specs.Layout.{firstMarks}
 use Rattle.layout.specs.Stretch.{shape, marks-length-is}
-use Rattle.approximation.specs.Pack.{bits-le}
+use Rattle.codes.specs.Pack.{bits-le}
 use Rattle.distance.proofs.cell.exact_lengths.Statement.{statement}
 use Rattle.distance.proofs.cell.exact_lengths.Tie as tie
 

@@ -7,7 +7,7 @@ use borrow.Author.Needs.{needs}
 use Rattle.limits.specs.Limits.{maxDimensions, maxDimensionBits, maxVectors}
 use Rattle.layout.specs.Laws.{fewest-le}
 use Rattle.layout.specs.Stretch.{shape}
-use Rattle.approximation.specs.Pack.{bits-le}
+use Rattle.codes.specs.Pack.{bits-le}
 use Rattle.distance.specs.Run.{two-runs}
 use Rattle.distance.proofs.Regions.{Regions, regions}
 use Rattle.distance.proofs.Sum.{sum-more-mod}

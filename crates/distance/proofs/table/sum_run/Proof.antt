@@ -7,8 +7,8 @@ use native.Mathlib.Numerals.{add-one}
 use native.Mathlib.Omega.{arith}
 use borrow.Author.Needs.{needs}
 use lib.ListN.{getD}
-use Rattle.approximation.specs.Bits.{bitsAt}
-use Rattle.approximation.specs.BitLaws.{bits-at-lt}
+use Rattle.codes.specs.Bits.{bitsAt}
+use Rattle.codes.specs.BitLaws.{bits-at-lt}
 use Rattle.distance.specs.Run.{runSum}
 use Rattle.distance.proofs.Regions.{regions}
 use Rattle.distance.proofs.Sum.{sum-more}

@@ -5,8 +5,8 @@ use lib.ListN.{length}
 use Rattle.refusal.specs.declared.Verdict.{Verdict}
 use Rattle.refusal.specs.Refusal.{verdictNumber}
 use Rattle.refusal.specs.First.{first}
-use Rattle.library.specs.declared.Loaded.{Loaded}
-use Rattle.library.specs.Load.{loadCauses}
+use Rattle.loading.specs.declared.Loaded.{Loaded}
+use Rattle.loading.specs.Load.{loadCauses}
 use Rattle.matcher.proofs.Told.{told-number, told-value}
 use Rattle.matcher.proofs.files.matcher_load.Statement.{statement}
 use Rattle.matcher.proofs.files.matcher_load.Tie as tie

@@ -10,8 +10,8 @@ use lib.Seq.{length-take-le}
 use borrow.Author.Needs.{needs}
 use Rattle.refusal.specs.declared.Verdict.the-variants.{Accepted}
 use Rattle.refusal.specs.First.{first, outcome, outcome-accepted, accepted-front}
-use Rattle.approximation.specs.Codes.{codeLength}
-use Rattle.approximation.specs.Pack.{sizeCauses, sizes}
+use Rattle.codes.specs.Codes.{codeLength}
+use Rattle.codes.specs.Pack.{sizeCauses, sizes}
 use Rattle.approximation.specs.VectorCauses.{locateCauses, packVectorsCauses}
 use Rattle.approximation.specs.Vectors.{vectorCodes}
 use Rattle.search.specs.Search.{searched}

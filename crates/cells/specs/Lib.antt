@@ -1,0 +1,4 @@
+pub mod Cells
+pub mod CellCauses
+pub mod CellLaws
+pub mod Rising
