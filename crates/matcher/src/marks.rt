@@ -11,8 +11,8 @@ ghost use Rattle.partition.specs.MarksCauses.{marksCauses, partCauses};
 ghost use Rattle.partition.specs.Region.{regionOf};
 ghost use Rattle.partition.specs.Lookup.{regionCauses, lookupNumber, lookupRegion};
 ghost use Rattle.partition.specs.View.{seenMarks, valueCauses};
-ghost use Rattle.partition.specs.Made.{madeMarks};
-ghost use Rattle.partition.specs.Making.{makeCauses};
+ghost use Rattle.marking.specs.Made.{madeMarks};
+ghost use Rattle.marking.specs.Making.{makeCauses};
 
 // Where dimension j's marks begin in the marks buffer, and how many bits it has.
 #[no_mangle]
@@ -121,5 +121,5 @@ pub extern "C" fn matcher_make_marks(
         ≡ outcome (first (makeCauses d b n (now (vectors .entry)) (length (now (marks .entry)))))
         (madeMarks d b n (now (vectors .entry))) (λ _. now (marks .entry)) ⌝ }
 {
-    partition::made::make_marks(d, b, n, vectors, marks).number()
+    marking::make_marks(d, b, n, vectors, marks).number()
 }
