@@ -60,7 +60,7 @@ use Rattle.search.proofs.search.Searched.Laws as Ans′
 use Rattle.nearest.specs.declared.Entry.{Entry}
 use Rattle.nearest.specs.Entries.{entriesOf, entryRoom}
 use Rattle.nearest.specs.Finding.{Finds}
-use Rattle.nearest.specs.Room.{search-tells}
+use Rattle.arrays.specs.Room.{search-tells}
 use Rattle.nearest.proofs.Entry as S
 use Rattle.nearest.proofs.Entry.Laws as S′
 use Rattle.nearest.proofs.search as core
