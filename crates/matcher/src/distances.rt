@@ -1,6 +1,6 @@
 // Distances, for C. Each gives 0, or the refusal's number; a refused call leaves the places for distances as they were.
+use bounds::cell::Bounds;
 use distance::Distance;
-use distance::cell::Bounds;
 ghost use mathlib.Core.Path.{_≡_};
 ghost use lib.ListN.{length};
 ghost use Rattle.refusal.specs.Refusal.{verdictNumber};
@@ -8,7 +8,7 @@ ghost use Rattle.refusal.specs.First.{first, outcome};
 ghost use Rattle.distance.specs.Distance.{distanceOf};
 ghost use Rattle.distance.specs.Bounds.{lowerOf, upperOf};
 ghost use Rattle.distance.specs.Measured.{distanceCauses};
-ghost use Rattle.distance.specs.Bounded.{boundsCauses};
+ghost use Rattle.bounds.specs.Bounded.{boundsCauses};
 
 // The distance of a vector from a query, of as many components as the query has.
 #[no_mangle]
@@ -48,7 +48,7 @@ pub extern "C" fn matcher_bounds(
         ≡ outcome (first (boundsCauses d b n (now (query .entry)) (now (marks .entry)) (now (codes .entry)) i))
         (upperOf d b (now (marks .entry)) (now (codes .entry)) (now (query .entry)) i) (λ _. now (upper .entry)) ⌝ }
 {
-    match distance::cell::cell_bounds(d, b, n, query, marks, codes, i) {
+    match bounds::cell::cell_bounds(d, b, n, query, marks, codes, i) {
         Bounds::Between(least, greatest) => {
             *lower = least;
             *upper = greatest;
