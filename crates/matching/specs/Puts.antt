@@ -8,7 +8,7 @@ use native.Mathlib.Omega.{arith}
 use lib.ListN.{length, getD, drop, set, length-append, drop-of-length-le}
 use lib.Seq.{sets, length-sets, sets-eq, drop-cons}
 use Rattle.order.specs.Pair.{Pair}
-use Rattle.selection.specs.Kept.{pair}
+use Rattle.order.specs.Pairs.{pair}
 use Rattle.nearest.specs.declared.Entry.{Entry}
 use Rattle.nearest.specs.Entries.{entriesOf}
 use Rattle.matching.specs.Text.{space, lineEnd, decimal, line}

@@ -13,7 +13,7 @@ use Rattle.refusal.specs.declared.Verdict.the-variants.{Accepted, Refused}
 use Rattle.refusal.specs.First.{outcome}
 use Rattle.limits.specs.Limits.{maxVectors}
 use Rattle.order.specs.Pair.{Pair, numbersOf}
-use Rattle.selection.specs.Kept.{keysOf}
+use Rattle.order.specs.Pairs.{keysOf}
 use Rattle.search.specs.declared.search.Searched.the-variants.{Read}
 use Rattle.search.specs.declared.search.Searched.the-variants as searched
 use Rattle.nearest.specs.declared.Entry.{Entry}

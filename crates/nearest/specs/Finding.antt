@@ -11,7 +11,7 @@ use Rattle.refusal.specs.declared.Verdict.the-variants.{Accepted}
 use Rattle.refusal.specs.First.{outcome}
 use Rattle.limits.specs.Limits.{maxVectors}
 use Rattle.order.specs.Pair.{Pair, numbersOf}
-use Rattle.selection.specs.Kept.{keysOf}
+use Rattle.order.specs.Pairs.{keysOf}
 use Rattle.search.specs.declared.search.Searched.{Searched}
 use Rattle.search.specs.declared.search.Searched.the-variants.{Read, Refused}
 use Rattle.search.specs.Search.{Library, searched}

@@ -18,7 +18,7 @@ use Rattle.order.specs.Pair.{keyed, ranked, numbersOf, countFrom}
 use Rattle.order.specs.Merge.{keyed-ranked}
 use Rattle.order.specs.Rank.{keyAt, ranking}
 use Rattle.selection.specs.Reading.{scan}
-use Rattle.selection.specs.Kept.{keysOf}
+use Rattle.order.specs.Pairs.{keysOf}
 use Rattle.cells.specs.Cells.{vectorAt}
 use Rattle.distance.specs.Small.{distance-small}
 use Rattle.distance.specs.Values.{valuesFrom, values-length}

@@ -13,7 +13,7 @@ ghost use Rattle.limits.specs.Limits.{maxVectors};
 ghost use Rattle.whole.specs.Components.{areComponents};
 ghost use Rattle.order.specs.Pair.{numbersOf};
 ghost use Rattle.order.specs.Rank.{keyAt, ranking};
-ghost use Rattle.selection.specs.Kept.{keysOf};
+ghost use Rattle.order.specs.Pairs.{keysOf};
 ghost use Rattle.distance.specs.Values.{valuesFrom};
 ghost use Rattle.scan.specs.Scanning.{distancesOf, scanAnswer, scanCauses};
 ghost use Rattle.scan.specs.Scanned.{Vectors};

@@ -14,7 +14,7 @@ use Rattle.order.specs.Counted.{counted-length}
 use Rattle.selection.specs.Reading.{readNext, goesOn, readingOrder}
 use Rattle.selection.specs.Loop.{Reached, after, after-next, reached-next}
 use Rattle.selection.specs.Steps.{next-read}
-use Rattle.selection.specs.Kept.{keysOf}
+use Rattle.order.specs.Pairs.{keysOf}
 use Rattle.cells.specs.Cells.{vectorAt, InCell}
 use Rattle.distance.specs.Small.{distance-small}
 use Rattle.distance.specs.CellComponents.{cell-components}

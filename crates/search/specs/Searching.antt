@@ -11,7 +11,7 @@ use Rattle.refusal.specs.declared.Verdict.{Verdict}
 use Rattle.refusal.specs.declared.Verdict.the-variants as verdict
 use Rattle.refusal.specs.First.{Row, _⇒_, first, outcome, first-append, outcome-accepted, outcome-refused}
 use Rattle.order.specs.Pair.{numbersOf}
-use Rattle.selection.specs.Kept.{keysOf}
+use Rattle.order.specs.Pairs.{keysOf}
 use Rattle.search.specs.declared.search.Searched.{Searched}
 use Rattle.search.specs.declared.search.Searched.the-variants.{Read, Refused}
 use Rattle.search.specs.Search.{Library, Room, inOwnCells, searched, entryCauses, searchCauses}

@@ -12,3 +12,5 @@ pub mod Least
 pub mod Kept
 pub mod Place
 pub mod Holds
+pub mod Gathered
+pub mod Selected

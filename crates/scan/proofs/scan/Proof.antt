@@ -10,7 +10,7 @@ use Rattle.refusal.specs.declared.Verdict.the-variants.{Accepted, Refused}
 use Rattle.refusal.specs.declared.Verdict.{Verdict}
 use Rattle.refusal.specs.First.{first, outcome, outcome-accepted, outcome-refused}
 use Rattle.order.specs.Pair.{Pair, numbersOf}
-use Rattle.selection.specs.Kept.{keysOf}
+use Rattle.order.specs.Pairs.{keysOf}
 use Rattle.scan.specs.Scanning.{scanAnswer, scanCauses}
 use Rattle.scan.specs.Scanned.{scannable}
 use Rattle.scan.proofs.scan.Statement.{statement}

@@ -7,7 +7,7 @@ use lib.ListN.{length, getD, take, length-append}
 use lib.Seq.{length-take-le, getD-take}
 use borrow.Author.Needs.{needs}
 use Rattle.limits.specs.Limits.{maxVectors}
-use Rattle.selection.specs.Kept.{pair}
+use Rattle.order.specs.Pairs.{pair}
 use Rattle.nearest.specs.declared.Entry.{Entry}
 use Rattle.matching.specs.Match.{entryLine, entryLines}
 use Rattle.matching.specs.Puts.{Puts, puts-length, puts-none, puts-more, puts-same, pairsIn, linesFrom, lines-next, lines-none}

@@ -10,7 +10,7 @@ use Rattle.refusal.specs.declared.Verdict.{Verdict}
 use Rattle.refusal.specs.declared.Verdict.the-variants.{Accepted}
 use Rattle.refusal.specs.First.{first, outcome}
 use Rattle.order.specs.Pair.{numbersOf}
-use Rattle.selection.specs.Kept.{keysOf}
+use Rattle.order.specs.Pairs.{keysOf}
 use Rattle.scan.specs.Scanning.{scanAnswer, scanCauses}
 use Rattle.nearest.specs.Finding.{Stands}
 use Rattle.nearest.specs.Room.{scan-tells, stands-back}

@@ -17,7 +17,8 @@ use Rattle.order.specs.Counted.{counted-length}
 use Rattle.order.specs.Ranking.{ranked-count}
 use Rattle.selection.specs.Reading.{Reading, readingOrder, goesOn}
 use Rattle.selection.specs.Loop.{Reached, after, reached-start, reached-next, reached-stop, reached-end}
-use Rattle.selection.specs.Kept.{pair, pairsOf, Keeps}
+use Rattle.order.specs.Pairs.{pair, pairsOf}
+use Rattle.selection.specs.Kept.{Keeps}
 use Rattle.selection.specs.Holds.{Holds, holds-keys, holds-numbers, arrays-start, arrays-goes-on, arrays-next}
 use Rattle.selection.specs.Theorems.{best-length}
 use Rattle.search.specs.declared.search.Searched.the-variants.{Read, Refused}
