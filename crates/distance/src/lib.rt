@@ -1,5 +1,4 @@
-// Distances of vectors, and the bounds of a cell's distances.
-pub mod cell;
+// Distances of vectors, and a query's table of squared steps.
 mod step;
 pub mod table;
 

@@ -6,7 +6,7 @@ ghost use Rattle.refusal.specs.First.{first, outcome};
 ghost use Rattle.distance.specs.Distance.{distanceOf};
 ghost use Rattle.distance.specs.Bounds.{lowerOf, upperOf};
 ghost use Rattle.distance.specs.Measured.{distanceCauses};
-ghost use Rattle.distance.specs.Bounded.{boundsCauses};
+ghost use Rattle.bounds.specs.Bounded.{boundsCauses};
 
 // The distance of a vector from a query, of as many components as the query has.
 #[no_mangle]
@@ -40,6 +40,6 @@ pub extern "C" fn matcher_bounds(
         ≡ outcome (first (boundsCauses d b n (now (query .entry)) (now (marks .entry)) (now (codes .entry)) i))
         (upperOf d b (now (marks .entry)) (now (codes .entry)) (now (query .entry)) i) (λ _. now (upper .entry)) ⌝ }
 {
-    let bounds = distance::cell::cell_bounds(d, b, n, query, marks, codes, i);
+    let bounds = bounds::cell::cell_bounds(d, b, n, query, marks, codes, i);
     tell::bounds(bounds, lower, upper)
 }

@@ -1,7 +1,7 @@
 // What a call from C tells of an answer: its values, each in its place, and 0 or the refusal's number. A refusal leaves the place of a
 // component or a distance as it was, and 0 in that of a count.
 use distance::Distance;
-use distance::cell::Bounds;
+use bounds::cell::Bounds;
 use loading::Loaded;
 use partition::region::Lookup;
 use reading::Intake;
@@ -12,7 +12,7 @@ ghost use Rattle.refusal.specs.Refusal.{verdictNumber};
 ghost use Rattle.reading.specs.Intake.{intakeOf};
 ghost use Rattle.partition.specs.Lookup.{lookupNumber, lookupRegion};
 ghost use Rattle.distance.specs.Measured.{distanceNumber};
-ghost use Rattle.distance.specs.Bounded.{boundsNumber, lowerOr, upperOr};
+ghost use Rattle.bounds.specs.Bounded.{boundsNumber, lowerOr, upperOr};
 ghost use Rattle.search.specs.Answer.{searchedNumber, searchedCount};
 ghost use Rattle.tell.specs.Answered.{Answered, distanceOr};
 

@@ -1,7 +1,7 @@
 -- `bounds` meets its contract, by the variant of the answer. Assumes nothing.
 use mathlib.Core.Path.{sym, ap, _∙_}
 use borrow.Author.Needs.{needs}
-use Rattle.distance.specs.Bounded.{boundsNumber, lowerOr, upperOr}
+use Rattle.bounds.specs.Bounded.{boundsNumber, lowerOr, upperOr}
 use Rattle.tell.proofs.bounds.Statement.{statement}
 use Rattle.tell.proofs.bounds.Tie as tie
 

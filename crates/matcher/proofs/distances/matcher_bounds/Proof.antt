@@ -2,7 +2,7 @@
 use mathlib.Core.Path.{refl, _∙_}
 use borrow.Author.Needs.{needs}
 use Rattle.refusal.specs.First.{first}
-use Rattle.distance.specs.Bounded.{boundsCauses, boundsNumber, lowerOr, upperOr}
+use Rattle.bounds.specs.Bounded.{boundsCauses, boundsNumber, lowerOr, upperOr}
 use Rattle.matcher.proofs.Told.{told-number, told-value}
 use Rattle.matcher.proofs.distances.matcher_bounds.Statement.{statement}
 use Rattle.matcher.proofs.distances.matcher_bounds.Tie as tie

@@ -20,9 +20,9 @@ use Rattle.layout.specs.Stretch.{shapeCauses}
 use Rattle.partition.specs.Marks.{goodMarks}
 use Rattle.codes.specs.Codes.{codeLength}
 use Rattle.cells.specs.Cells.{goodCodes}
 use Rattle.distance.specs.Table.{tableCauses, lengthCauses}
-use Rattle.distance.specs.declared.cell.Bounds.{Bounds}
-use Rattle.distance.specs.declared.cell.Bounds.the-variants.{Between, Refused}
+use Rattle.bounds.specs.declared.cell.Bounds.{Bounds}
+use Rattle.bounds.specs.declared.cell.Bounds.the-variants.{Between, Refused}
 
 -- 3 also where there is no code of this number; 5, 6, 7, 9
 abbrev pub shapedBoundsCauses : ℕ → ℕ → ℕ → List ℤ → List ℤ → List ℕ → ℕ → List Row

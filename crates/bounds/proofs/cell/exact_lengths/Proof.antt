@@ -7,8 +7,8 @@ use borrow.Author.Tests.{eq-eqb, ne-eqb}
 use Rattle.layout.specs.Layout.{firstMarks}
 use Rattle.layout.specs.Stretch.{shape, marks-length-is}
 use Rattle.codes.specs.Pack.{bits-le}
-use Rattle.distance.proofs.cell.exact_lengths.Statement.{statement}
-use Rattle.distance.proofs.cell.exact_lengths.Tie as tie
+use Rattle.bounds.proofs.cell.exact_lengths.Statement.{statement}
+use Rattle.bounds.proofs.cell.exact_lengths.Tie as tie
 
 returns : tie.Need-returns
 returns c = rw (ne-eqb _ _ (c .if1 .taken))

@@ -3,9 +3,9 @@ use mathlib.Core.Path.{sym, _∙_}
 use borrow.Author.Needs.{needs}
 use Rattle.refusal.specs.First.{outcome-accepted, outcome-refused, first-append}
 use Rattle.layout.specs.Stretch.{shapeCauses}
-use Rattle.distance.specs.Bounded.{shapedBoundsCauses}
-use Rattle.distance.proofs.cell.check_bounds.Statement.{statement}
-use Rattle.distance.proofs.cell.check_bounds.Tie as tie
+use Rattle.bounds.specs.Bounded.{shapedBoundsCauses}
+use Rattle.bounds.proofs.cell.check_bounds.Statement.{statement}
+use Rattle.bounds.proofs.cell.check_bounds.Tie as tie
 
 returns : tie.Need-returns
 returns c =

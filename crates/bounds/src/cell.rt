@@ -1,8 +1,8 @@
 // The bounds of one code's cell.
-use crate::Bound;
-use crate::table::MAX_TABLE;
-use crate::table::code_bound;
-use crate::table::fill_table;
+use crate::sum::code_bound;
+use distance::Bound;
+use bounds::table::MAX_TABLE;
+use bounds::table::fill_table;
 use refusal::Refusal;
 use refusal::Verdict;
 ghost use mathlib.Core.Path.{_≡_};
@@ -16,9 +16,9 @@ ghost use Rattle.limits.specs.Limits.{maxVectors};
 ghost use Rattle.layout.specs.Layout.{firstMarks};
 ghost use Rattle.layout.specs.Stretch.{shapeCauses};
 ghost use Rattle.codes.specs.Codes.{codeLength};
 ghost use Rattle.distance.specs.Bounds.{firstBound, lowerOf, upperOf};
 ghost use Rattle.distance.specs.Table.{stepOf};
-ghost use Rattle.distance.specs.Bounded.{boundsCauses, shapedBoundsCauses};
+ghost use Rattle.bounds.specs.Bounded.{boundsCauses, shapedBoundsCauses};
 
 // The answer where a cell's bounds are asked for: its least distance and its greatest.
 pub enum Bounds {

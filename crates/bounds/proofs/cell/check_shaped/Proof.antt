@@ -14,8 +14,8 @@ use Rattle.layout.specs.Layout.{firstMarks}
 use Rattle.layout.specs.Stretch.{shapeCauses}
 use Rattle.codes.specs.Codes.{codeLength}
 use Rattle.cells.specs.CellCauses.{shapedCodeCauses}
-use Rattle.distance.proofs.cell.check_shaped.Statement.{statement}
-use Rattle.distance.proofs.cell.check_shaped.Tie as tie
+use Rattle.bounds.proofs.cell.check_shaped.Statement.{statement}
+use Rattle.bounds.proofs.cell.check_shaped.Tie as tie
 
 counted : (c : tie.Else1) → isVectorCount (c .before .before .before .args .n) ≡ true
 counted c = sym (c .before .is-vector-count .ensures) ∙ not-false (c .before .is-vector-count .result) (c .if1 .left)

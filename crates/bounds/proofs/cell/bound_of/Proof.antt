@@ -8,11 +8,11 @@ use lib.Seq.{length-take-le}
 use borrow.Author.Needs.{needs}
 use Rattle.refusal.specs.First.{outcome-accepted}
 use Rattle.partition.proofs.Prefix.{back-within, shared-is}
 use Rattle.distance.specs.Table.{boundSum}
 use Rattle.distance.specs.TableLaws.{bound-sum, table-le}
-use Rattle.distance.specs.Bounded.{Bounded, bounded, table-accepted}
-use Rattle.distance.proofs.cell.bound_of.Statement.{statement}
-use Rattle.distance.proofs.cell.bound_of.Tie as tie
+use Rattle.bounds.specs.Bounded.{Bounded, bounded, table-accepted}
+use Rattle.bounds.proofs.cell.bound_of.Statement.{statement}
+use Rattle.bounds.proofs.cell.bound_of.Tie as tie
 
 told : (c : tie.Start) → let a = c .args in Bounded (a .d) (a .b) (a .n) (a .query .now) (a .marks .now) (a .codes .now) (a .i)
 told c = bounded _ _ _ _ _ _ _ (c .pre)
@@ -26,6 +26,12 @@ table-within : tie.Need-array-share-prefix-table
 table-within c =
     back-within _ _ (c .before .fill-table .last .1 .1 .1 .1 .1 .0) (table-holds (c .before .before .before)) (c .before .fill-table .kept .1 .1 .1 .1 .1 .0)
 
+code-bound-requires : tie.Need-code-bound-requires
+code-bound-requires c κs =
+    let fill = c .before .before in
+    let given = told (fill .before .before .before) in
+    (given .shaped, length-take-le _ _ (table-within (c .before)) ∙ given .of-marks, given .few)
+
 returns : tie.Need-returns
 returns c =
     let fill = c .before .before .before in
@@ -38,7 +44,7 @@ returns c =
     let is = shared-is _ _ back hold (fill .fill-table .kept .1 .1 .1 .1 .1 .0) ∙ fill .fill-table .ensures .1 ∙ outcome-accepted _ _ accepted in
     c .code-bound .ensures
     ∙ ap (λ (table : List ℕ). boundSum (a .d) (a .b) table (a .codes .now) (a .i)) is
-    ∙ bound-sum (a .d) (a .b) (a .marks .now) (a .query .now) (a .codes .now) (a .i) (a .bound) (given .few) (given .shaped) (given .components) (given .good)
+    ∙ bound-sum (a .d) (a .b) (a .marks .now) (a .query .now) (a .codes .now) (a .i) (a .bound) (given .shaped) (given .components) (given .good)
 
 pub bound-of-spec : {M : Type 1} → statement M
 bound-of-spec =
@@ -49,5 +55,5 @@ bound-of-spec =
     (λ c κs. search needs)
     table-within
     (λ c. sym (length-take-le _ _ (table-within (c .before))))
-    (λ c κs. search needs)
+    code-bound-requires
     returns)

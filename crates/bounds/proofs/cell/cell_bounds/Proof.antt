@@ -2,8 +2,8 @@
 use mathlib.Core.Path.{sym, _∙_}
 use borrow.Author.Needs.{needs}
 use Rattle.refusal.specs.First.{outcome-accepted, outcome-refused}
-use Rattle.distance.proofs.cell.cell_bounds.Statement.{statement}
-use Rattle.distance.proofs.cell.cell_bounds.Tie as tie
+use Rattle.bounds.proofs.cell.cell_bounds.Statement.{statement}
+use Rattle.bounds.proofs.cell.cell_bounds.Tie as tie
 
 returns : tie.Need-returns
 returns c =

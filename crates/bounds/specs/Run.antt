@@ -68,6 +68,11 @@ module _ (d b : ℕ) (small : b / d ≤ 6) where
   wide-marks : firstMarks d b (b % d) ≡ b % d * (2 ^ (b / d + 1) + 1)
   unfolding firstMarks
   wide-marks = rw (zero-add (b % d)) at (run-marks (wide d b small) (b % d) (le-refl (b % d))) ∙ zero-add (b % d * (2 ^ (b / d + 1) + 1))
+
+  pub two-marks : b % d ≤ d → b % d * (2 ^ (b / d + 1) + 1) + (d - b % d) * (2 ^ (b / d) + 1) ≡ firstMarks d b d
+  two-marks within =
+      let all : b % d + (d - b % d) ≡ d = omega arith in
+      rw (← wide-marks) (sym (rw all at (run-marks (narrow d b small (d - b % d)) (d - b % d) (le-refl (d - b % d)))))
 
   pub two-runs : (table codes : List ℕ) (i : ℕ) → b % d ≤ d
       → tableSum d b table codes i d
