@@ -1,8 +1,8 @@
 // The bounds of one code's cell.
 use crate::sum::code_bound;
 use distance::Bound;
-use bounds::table::MAX_TABLE;
-use bounds::table::fill_table;
+use distance::table::MAX_TABLE;
+use distance::table::fill_table;
 use refusal::Refusal;
 use refusal::Verdict;
 ghost use mathlib.Core.Path.{_≡_};
