@@ -89,7 +89,7 @@ fn rank_column(d: usize, t: usize, vectors: &[i32], numbers: &mut [u32])
     let n = numbers.len();
     let mut keys = [0u64; MAX_VECTORS];
     column_keys(d, t, vectors, &mut keys[..n]);
-    order::rank(&keys[..n], numbers);
+    ranking::rank(&keys[..n], numbers);
 }
 
 // The keys of one dimension's components.

@@ -146,7 +146,7 @@ fn write_least(keys: &[u64], numbers: &mut [u32], least: &mut [u64])
 {
     let n = keys.len();
     let mut order = [0u32; MAX_VECTORS];
-    order::rank(keys, &mut order[..n]);
+    ranking::rank(keys, &mut order[..n]);
     copy_first(keys, &order[..n], numbers, least);
 }
 

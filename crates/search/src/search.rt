@@ -162,7 +162,7 @@ fn search_bounded(
         (now (numbers .exit)) (now (distances .exit)) (now (reads .exit)) ⌝ }
 {
     let mut order = [0u32; MAX_VECTORS];
-    order::rank(lows, &mut order[..n]);
+    ranking::rank(lows, &mut order[..n]);
     search_ordered(
         d,
         b,
