@@ -19,7 +19,9 @@ fn main() {
         println!("cargo:rustc-link-lib=static=bench_{peer}");
         println!("cargo:rerun-if-changed={}", target.join(format!("bench/libbench_{peer}.a")).display());
         if peer == "faiss" {
-            println!("cargo:rustc-link-lib=dylib=faiss");
+            for library in ["faiss", "gomp", "lapack", "blas"] {
+                println!("cargo:rustc-link-lib=dylib={library}");
+            }
         }
         println!("cargo:rustc-link-lib=dylib=stdc++");
     }

@@ -18,9 +18,9 @@ use Rattle.layout.specs.Stretch.{Shape}
 use Rattle.partition.specs.Marks.{dimensionMarks}
 use Rattle.partition.specs.Region.{regionOf, inMarks}
 use Rattle.partition.specs.View.{marksAt, marks-at}
-use Rattle.approximation.specs.Codes.{nextColumn}
+use Rattle.codes.specs.Codes.{nextColumn}
 use Rattle.approximation.specs.Vectors.{regionsFrom, insideFrom}
-use Rattle.approximation.proofs.Columns.{Width, next-below}
+use Rattle.codes.proofs.Columns.{Width, next-below}
 
 -- the marks of a column's dimension begin at this offset
 pub record Begins (d b column offset : ℕ) : Type 0 where

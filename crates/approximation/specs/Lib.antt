@@ -1,12 +1,3 @@
-pub mod Bits
-pub mod BitLaws
-pub mod Codes
-pub mod PackLaws
-pub mod Pack
 pub mod Vectors
-pub mod Cells
-pub mod CellCauses
-pub mod CellLaws
-pub mod Rising
 pub mod VectorCauses
 pub mod OwnCodes

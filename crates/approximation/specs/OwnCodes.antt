@@ -15,10 +15,10 @@ use Rattle.partition.specs.Marks.{dimensionMarks}
 use Rattle.partition.specs.Region.{inRegion, regionOf, inMarks}
 use Rattle.partition.specs.Within.{within, within-apart}
 use Rattle.partition.specs.Regions.{Holds, region-of-holds}
-use Rattle.approximation.specs.Codes.{nextColumn, regionsFit, packed, codeRegion}
-use Rattle.approximation.specs.PackLaws.{next-column, packed-spare, unpacked-packed, code-region}
+use Rattle.codes.specs.Codes.{nextColumn, regionsFit, packed, codeRegion}
+use Rattle.codes.specs.PackLaws.{next-column, packed-spare, unpacked-packed, code-region}
 use Rattle.approximation.specs.Vectors.{regionsFrom, vectorRegions, insideFrom, vectorsInside, vectorCodes}
-use Rattle.approximation.specs.Cells.{vectorAt, inFirst, InCell, hasValue, noneEmpty, noEmptyCodes, goodCodes, Own}
+use Rattle.cells.specs.Cells.{vectorAt, inFirst, InCell, hasValue, noneEmpty, noEmptyCodes, goodCodes, Own}
 
 -- ---- the region numbers of vectors that lie inside the marks
 

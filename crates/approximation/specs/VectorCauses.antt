@@ -18,7 +18,7 @@ use Rattle.layout.specs.Layout.{firstMarks}
 use Rattle.layout.specs.Stretch.{shapeCauses, Shape, shape}
 use Rattle.partition.specs.Marks.{dimensionMarks, goodDimension, goodFirst, goodMarks}
 use Rattle.partition.specs.MarksCauses.{shapedCauses, marksCauses}
-use Rattle.approximation.specs.Pack.{sizeCauses}
+use Rattle.codes.specs.Pack.{sizeCauses}
 use Rattle.approximation.specs.Vectors.{vectorsInside}
 
 -- 1, 2, 3, and 5 for n rows of d components and n rows of d region numbers

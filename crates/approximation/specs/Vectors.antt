@@ -6,7 +6,7 @@ use Prim.Native.Nat.{ℕ, suc}
 use lib.IntN.{ℤ}
 use Rattle.partition.specs.Marks.{dimensionMarks}
 use Rattle.partition.specs.Region.{regionOf, inMarks}
-use Rattle.approximation.specs.Codes.{nextColumn, packed}
+use Rattle.codes.specs.Codes.{nextColumn, packed}
 
 -- the region of each component in its dimension, from column t on
 unfoldable pub regionsFrom : ℕ → ℕ → List ℤ → ℕ → List ℤ → List ℕ

@@ -1,21 +1,10 @@
 -- A signed number is read back from its bits, and so is what is worked out from it. Assumes nothing.
-use mathlib.Core.Path.{_≡_, ap, _∙_}
-use Prim.Native.Nat.{ℕ, _^_, _<_}
+use mathlib.Core.Path.{_≡_, _∙_}
+use Prim.Native.Nat.{ℕ}
 use lib.IntN.{ℤ}
 use mir.Syntax.{w32}
 use mir.Val.{SFits, toZ, ofZ}
 use mir.ValLaws.{toZ-ofZ}
-use Rattle.whole.specs.Keys.{keyOf, key-fits}
-
--- a number's key, of 32 bits
-pub record Key (z : ℤ) (k : ℕ) : Type 0 where
-  pub is : k ≡ keyOf z
-  pub small : k < 2 ^ 32
-
-pub key-back : {z : ℤ} {k : ℕ} → SFits w32 z → k ≡ keyOf (toZ w32 (ofZ w32 z)) → Key z k
-key-back {z} fits is =
-    let is = is ∙ ap keyOf (toZ-ofZ w32 z fits) in
-    record { is = is; small = rw is (key-fits z (fits .sfits)) }
 
 -- a number that was read from a list
 pub read-back : {z w : ℤ} → SFits w32 z → z ≡ w → toZ w32 (ofZ w32 z) ≡ w

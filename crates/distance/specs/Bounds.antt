@@ -7,7 +7,7 @@ use lib.IntN.{ℤ, pos, predℤ}
 use lib.Signed.{ltZ}
 use lib.ListN.{getD}
 use Rattle.partition.specs.Marks.{dimensionMarks}
-use Rattle.approximation.specs.Codes.{codeRegion}
+use Rattle.codes.specs.Codes.{codeRegion}
 use Rattle.distance.specs.Distance.{gap, squared}
 
 -- the shortest and the longest step from q to the region from low up to, and without, high

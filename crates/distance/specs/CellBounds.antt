@@ -12,8 +12,8 @@ use lib.ListN.{length, getD, length-append, List·getD-append}
 use lib.Seq.{getD-at}
 use Rattle.partition.specs.Marks.{dimensionMarks}
 use Rattle.partition.specs.Region.{inRegion}
-use Rattle.approximation.specs.Codes.{codeRegion}
-use Rattle.approximation.specs.Cells.{InCell, inFirst, hasValue, noneEmpty}
+use Rattle.codes.specs.Codes.{codeRegion}
+use Rattle.cells.specs.Cells.{InCell, inFirst, hasValue, noneEmpty}
 use Rattle.distance.specs.Distance.{squared, firstDistance, distanceOf}
 use Rattle.distance.specs.Bounds.{shortest, longest, firstBound, lowerOf, upperOf}
 use Rattle.distance.specs.Steps.{Inside, shortest-le, le-longest, Reached, shortest-reached, longest-reached}

@@ -13,8 +13,8 @@ use Rattle.limits.specs.Tests.{All, all-fails}
 use Rattle.whole.specs.Components.{areComponents, all-components}
 use Rattle.partition.specs.Marks.{dimensionMarks, notAbove, goodDimension, goodFirst, goodMarks}
 use Rattle.partition.specs.Region.{inRegion}
-use Rattle.approximation.specs.Codes.{codeRegion}
-use Rattle.approximation.specs.Cells.{InCell, inFirst}
+use Rattle.codes.specs.Codes.{codeRegion}
+use Rattle.cells.specs.Cells.{InCell, inFirst}
 use Rattle.distance.specs.Order.{lt-pred, le-trans}
 use Rattle.distance.specs.Steps.{Inside}
 use Rattle.distance.specs.CellBounds.{in-region}

@@ -9,5 +9,4 @@ pub mod CellComponents
 pub mod Small
 pub mod Table
 pub mod TableLaws
-pub mod Run
-pub mod Bounded
+pub mod Values

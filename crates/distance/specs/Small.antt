@@ -11,7 +11,7 @@ use lib.ListN.{getD}
 use Rattle.limits.specs.Limits.{maxDimensions, leastComponent, greatestComponent, isComponent, leastMark, greatestMark, isMark}
 use Rattle.whole.specs.Components.{areComponents, component-at}
 use Rattle.partition.specs.Marks.{dimensionMarks, goodMarks}
-use Rattle.approximation.specs.Codes.{codeRegion}
+use Rattle.codes.specs.Codes.{codeRegion}
 use Rattle.distance.specs.Distance.{gap, squared, firstDistance, distanceOf}
 use Rattle.distance.specs.Bounds.{shortest, longest, firstBound, lowerOf, upperOf}
 use Rattle.distance.specs.Places.{gap-size, pred-size}

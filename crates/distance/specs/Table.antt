@@ -1,19 +1,19 @@
 -- A query's squared steps to every region, worked out once a query (source document 003, section 3.3), so that a code's bound is a sum
 -- of entries. The table has the layout of the marks buffer: a region's entry stands where its lower mark stands. The entry
 -- at a dimension's last mark, where no region begins, is read by no code. Entries are modulo 2^64. Assumes nothing.
-use mathlib.Core.Bool.{not, _&&_, cond}
+use mathlib.Core.Bool.{not, _&&_}
 use mathlib.Core.List.{List, [], _∷_, _++_}
 use Prim.Native.Nat.{ℕ, zero, suc, _+_, _*_, _%_, _^_}
-use lib.Dec.{ltb, eqb}
+use lib.Dec.{eqb}
 use lib.IntN.{ℤ, pos}
 use lib.ListN.{getD}
 use Rattle.refusal.specs.declared.Refusal.the-variants.{Length}
-use Rattle.refusal.specs.First.{Row, _⇒_, first, outcome}
-use Rattle.limits.specs.Limits.{maxDimensions, maxDimensionBits, maxVectors}
+use Rattle.refusal.specs.First.{Row, _⇒_}
+use Rattle.limits.specs.Limits.{maxDimensions, maxDimensionBits}
 use Rattle.layout.specs.Layout.{markCount, firstMarks}
 use Rattle.layout.specs.Stretch.{shapeCauses}
 use Rattle.partition.specs.Marks.{dimensionMarks}
-use Rattle.approximation.specs.Codes.{codeRegion}
+use Rattle.codes.specs.Codes.{codeRegion}
 use Rattle.distance.specs.declared.Bound.{Bound}
 use Rattle.distance.specs.declared.Bound.the-variants.{Lower, Upper}
 use Rattle.distance.specs.Bounds.{shortest, longest, stepTo}
@@ -46,9 +46,9 @@ unfoldable pub tableSum : ℕ → ℕ → List ℕ → List ℕ → ℕ → ℕ 
 tableSum d b table codes i zero = 0
 tableSum d b table codes i (suc t) = tableSum d b table codes i t + getD table (firstMarks d b t + codeRegion d b codes i t) 0
 
--- the same of all dimensions, modulo 2^64; 0 where the numbers of dimensions and bits are refused, and for a number no code can have
+-- the same of all dimensions, modulo 2^64
 unfoldable pub boundSum : ℕ → ℕ → List ℕ → List ℕ → ℕ → ℕ
-boundSum d b table codes i = cond (ltb i maxVectors) (outcome (first (shapeCauses d b)) (tableSum d b table codes i d % 2 ^ 64) (λ _. 0)) 0
+boundSum d b table codes i = tableSum d b table codes i d % 2 ^ 64
 
 -- the causes for which a table is not filled, by the lengths of marks, query and table: 5 behind 1 and 2
 abbrev pub lengthCauses : ℕ → ℕ → ℕ → ℕ → ℕ → List Row

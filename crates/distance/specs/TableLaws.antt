@@ -6,20 +6,19 @@ use mathlib.Core.Logic.{inl, inr}
 use Prim.Native.Nat.{ℕ, zero, suc, _+_, _%_, _^_, _≤_, _<_}
 use native.Mathlib.Nat.{zero-add, add-zero, add-mod, mod-mod, mod-eq-of-lt, le-refl, le-of-suc-le-suc, eq-or-lt-of-le}
 use native.Mathlib.Omega.{arith}
-use borrow.Author.Tests.{lt-ltb}
 use lib.IntN.{ℤ, pos}
 use lib.ListN.{length, getD, length-append, List·getD-append}
 use lib.Seq.{getD-append-add}
 use Rattle.refusal.specs.declared.Verdict.the-variants.{Accepted}
 use Rattle.refusal.specs.First.{first}
-use Rattle.limits.specs.Limits.{maxDimensions, maxDimensionBits, maxVectors}
+use Rattle.limits.specs.Limits.{maxDimensions, maxDimensionBits}
 use Rattle.whole.specs.Components.{areComponents}
 use Rattle.layout.specs.Layout.{markCount, firstMarks}
 use Rattle.layout.specs.Laws.{marks-le, marks-within, first-next-marks}
 use Rattle.layout.specs.Stretch.{shapeCauses, shape}
 use Rattle.partition.specs.Marks.{dimensionMarks, goodMarks}
-use Rattle.approximation.specs.Codes.{codeRegion}
-use Rattle.approximation.specs.PackLaws.{code-region-fits}
+use Rattle.codes.specs.Codes.{codeRegion}
+use Rattle.codes.specs.PackLaws.{code-region-fits}
 use Rattle.distance.specs.declared.Bound.{Bound}
 use Rattle.distance.specs.declared.Bound.the-variants.{Lower, Upper}
 use Rattle.distance.specs.Bounds.{stepTo, firstBound}
@@ -86,13 +85,11 @@ module _ (step : ℤ → ℤ → ℤ → ℕ) (d b : ℕ) (marks query : List �
 
 -- and exactly for components and marks in range
 module _ (d b : ℕ) (marks query : List ℤ) (codes : List ℕ) (i : ℕ) where
-  pub bound-sum : (bound : Bound) → i < maxVectors → first (shapeCauses d b) ≡ Accepted → areComponents query ≡ true → goodMarks d b marks ≡ true
+  pub bound-sum : (bound : Bound) → first (shapeCauses d b) ≡ Accepted → areComponents query ≡ true → goodMarks d b marks ≡ true
       → boundSum d b (tableOf (stepOf bound) d b marks query) codes i ≡ firstBound (stepOf bound) d b marks codes query i d
   unfolding boundSum
-  bound-sum bound within shaped components good =
-      rw (lt-ltb i maxVectors within, shaped)
-      (sum-first (stepOf bound) d b marks query codes i d d (le-refl d)
-      ∙ mod-eq-of-lt (small bound (shape d b shaped .few)))
+  bound-sum bound shaped components good =
+      sum-first (stepOf bound) d b marks query codes i d d (le-refl d) ∙ mod-eq-of-lt (small bound (shape d b shaped .few))
     where
       small : (bound : Bound) → d ≤ maxDimensions → firstBound (stepOf bound) d b marks codes query i d < 2 ^ 64
       small Lower few = lower-small query components d b marks good few codes i

@@ -1,5 +1,4 @@
-// Distances of vectors, and the bounds of a cell's distances.
-pub mod cell;
+// Distances of vectors, and a query's table of squared steps.
 mod step;
 pub mod table;
 
@@ -52,7 +51,7 @@ pub fn squared_distance(d: usize, query: &[i32], vector: &[i32]) -> u64
     let mut t = 0;
     while t < d {
         let gap = step::gap(whole::at(query, t), whole::at(vector, t));
-        sum = std::num::wrapping_add_u64(sum, step::squared(gap));
+        sum = std::num::wrapping_add_u64(sum, step::squared(gap as u64));
         t += 1;
     }
     sum

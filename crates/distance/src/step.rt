@@ -1,17 +1,20 @@
 // One dimension's steps. Differences are those of keys.
 use crate::Bound;
 ghost use mathlib.Core.Path.{_≡_};
-ghost use Prim.Native.Nat.{_+_, _-_, _%_, _^_, _≤_, _<_};
+ghost use Prim.Native.Nat.{_+_, _-_, _%_, _^_, _≤_};
 ghost use lib.IntN.{predℤ};
 ghost use Rattle.distance.specs.Distance as Distance;
 ghost use Rattle.distance.specs.Bounds.{shortest, longest};
 ghost use Rattle.distance.specs.Table.{stepOf};
 
 // How far two numbers are apart.
-pub fn gap(a: i32, b: i32) -> u64
-    ensures { λ r. ⌜ (r ≡ Distance.gap a b) × (r < 2 ^ 32) ⌝ }
+pub fn gap(a: i32, b: i32) -> u32
+    ensures { λ r. ⌜ r ≡ Distance.gap a b ⌝ }
 {
-    difference(whole::key(a), whole::key(b))
+    if a < b {
+        return (whole::key(b) - whole::key(a)) as u32;
+    }
+    (whole::key(a) - whole::key(b)) as u32
 }
 
 // How far a number is from the last value before a mark.
@@ -45,7 +48,7 @@ fn shortest_step(q: i32, low: i32, high: i32) -> u64
     ensures { λ r. ⌜ (r ≡ shortest q low high) × (r ≤ 2 ^ 32) ⌝ }
 {
     if q < low {
-        return gap(low, q);
+        return gap(low, q) as u64;
     }
     if high <= q {
         return gap_to_last(q, high);
@@ -57,7 +60,7 @@ fn shortest_step(q: i32, low: i32, high: i32) -> u64
 fn longest_step(q: i32, low: i32, high: i32) -> u64
     ensures { λ r. ⌜ (r ≡ longest q low high) × (r ≤ 2 ^ 32) ⌝ }
 {
-    let first = gap(q, low);
+    let first = gap(q, low) as u64;
     let last = gap_to_last(q, high);
     if first < last {
         return last;

@@ -1,9 +1,5 @@
 -- The sizes of a library whose counts are within the limits, and the places of its records as numbers. Assumes nothing.
 use mathlib.Core.Path.{_≡_, refl, _∙_}
-use mathlib.Core.Bool.{true}
-use mathlib.Core.List.{List}
-use lib.IntN.{ℤ}
-use lib.ListN.{length}
 use Prim.Native.Nat.{ℕ, suc, _+_, _-_, _*_, _^_, _≤_, _<_}
 use native.Mathlib.Nat.{mul-le-mul-left, le-trans}
 use native.Mathlib.Numerals.{add-one}
@@ -12,38 +8,18 @@ use borrow.Author.Tests.{le-leb}
 use Rattle.refusal.specs.declared.Refusal.the-variants.{Dimension}
 use Rattle.refusal.specs.declared.Verdict.the-variants.{Accepted}
 use Rattle.refusal.specs.First.{first, first-next, outcome-accepted}
-use Rattle.limits.specs.Limits.{maxDimensions, maxDimensionBits, maxVectors}
+use Rattle.limits.specs.Limits.{maxDimensionBits, maxVectors}
 use Rattle.layout.specs.declared.Stretch.{Stretch}
 use Rattle.layout.specs.Layout.{bitsOf, firstMarks}
 use Rattle.layout.specs.Laws.{marks-le}
 use Rattle.layout.specs.Stretch.{Shape, shapeCauses, dimensionCauses, marksLength, Stretches}
 use Rattle.records.specs.Records.{vectorKind, formats, widthsAmong, widthsOf, sum, recordLength}
-use Rattle.whole.specs.Components.{areComponents}
 use Rattle.library.specs.Library.{markTotal, markPlace, vectorPlace, libraryLength}
 
 -- d dimensions with b bits in all, and no more than so many vectors
 pub record Small (d b n : ℕ) : Type 0 where
   pub shape-passes : first (shapeCauses d b) ≡ Accepted
   pub few : n ≤ maxVectors
-
--- as many marks as the dimensions have
-pub record Dimensioned (d b : ℕ) (marks : List ℤ) : Type 0 where
-  pub shape-passes : first (shapeCauses d b) ≡ Accepted
-  pub marks-count : length marks ≡ markTotal d b
-
-pub record Sized (d b n : ℕ) (marks components : List ℤ) : Type 0 where
-  pub of-marks : Dimensioned d b marks
-  pub few : n ≤ maxVectors
-  pub components-count : length components ≡ n * d
-
--- n vectors with room for them behind m marks
-pub record Writing (d n m : ℕ) (settings : List ℕ) (components : List ℤ) (room : ℕ) : Type 0 where
-  pub few-dimensions : d ≤ maxDimensions
-  pub few : n ≤ maxVectors
-  pub few-marks : m ≤ 2080
-  pub settings-count : length settings ≡ n
-  pub of-components : areComponents components ≡ true
-  pub fits : vectorPlace m n ≤ room
 
 -- ---- places as numbers
 

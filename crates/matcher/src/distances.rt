@@ -1,6 +1,4 @@
 // Distances, for C. Each gives 0, or the refusal's number; a refused call leaves the places for distances as they were.
-use distance::Distance;
-use distance::cell::Bounds;
 ghost use mathlib.Core.Path.{_≡_};
 ghost use lib.ListN.{length};
 ghost use Rattle.refusal.specs.Refusal.{verdictNumber};
@@ -8,7 +6,7 @@ ghost use Rattle.refusal.specs.First.{first, outcome};
 ghost use Rattle.distance.specs.Distance.{distanceOf};
 ghost use Rattle.distance.specs.Bounds.{lowerOf, upperOf};
 ghost use Rattle.distance.specs.Measured.{distanceCauses};
-ghost use Rattle.distance.specs.Bounded.{boundsCauses};
+ghost use Rattle.bounds.specs.Bounded.{boundsCauses};
 
 // The distance of a vector from a query, of as many components as the query has.
 #[no_mangle]
@@ -18,13 +16,7 @@ pub extern "C" fn matcher_distance(query: &[i32], vector: &[i32], distance: &mut
         ≡ outcome (first (distanceCauses (now (query .entry)) (now (vector .entry))))
         (distanceOf (length (now (query .entry))) (now (query .entry)) (now (vector .entry))) (λ _. now (distance .entry)) ⌝ }
 {
-    match distance::measure(query, vector) {
-        Distance::Squared(sum) => {
-            *distance = sum;
-            0
-        }
-        Distance::Refused(cause) => cause.number(),
-    }
+    tell::distance(distance::measure(query, vector), distance)
 }
 
 // The least and the greatest distance of code i's cell from a query.
@@ -48,12 +40,6 @@ pub extern "C" fn matcher_bounds(
         ≡ outcome (first (boundsCauses d b n (now (query .entry)) (now (marks .entry)) (now (codes .entry)) i))
         (upperOf d b (now (marks .entry)) (now (codes .entry)) (now (query .entry)) i) (λ _. now (upper .entry)) ⌝ }
 {
-    match distance::cell::cell_bounds(d, b, n, query, marks, codes, i) {
-        Bounds::Between(least, greatest) => {
-            *lower = least;
-            *upper = greatest;
-            0
-        }
-        Bounds::Refused(cause) => cause.number(),
-    }
+    let bounds = bounds::cell::cell_bounds(d, b, n, query, marks, codes, i);
+    tell::bounds(bounds, lower, upper)
 }

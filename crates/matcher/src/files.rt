@@ -4,8 +4,9 @@ ghost use lib.ListN.{length};
 ghost use Rattle.refusal.specs.Refusal.{verdictNumber};
 ghost use Rattle.refusal.specs.First.{first, outcome};
 ghost use Rattle.library.specs.Library.{libraryWith, libraryBytes, libraryLength, readLibrary};
-ghost use Rattle.library.specs.Write.{countsCauses, writeCauses};
-ghost use Rattle.library.specs.Load.{loadCauses, filled};
+ghost use Rattle.library.specs.Tests.{countsCauses};
+ghost use Rattle.writing.specs.Write.{writeCauses};
+ghost use Rattle.loading.specs.Load.{loadCauses, filled};
 ghost use Rattle.query.specs.Query.{queryCauses, componentsOf};
 
 // How many bytes a library of these counts has, 0 where they are out of range.
@@ -13,7 +14,7 @@ ghost use Rattle.query.specs.Query.{queryCauses, componentsOf};
 pub extern "C" fn matcher_library_length(d: usize, b: usize, n: usize) -> usize
     ensures { λ r. ⌜ r ≡ outcome (first (countsCauses d b n)) (libraryLength d b n) (λ _. 0) ⌝ }
 {
-    library::write::bytes_length(d, b, n)
+    writing::bytes_length(d, b, n)
 }
 
 // The bytes of a library, into a buffer of as many.
@@ -32,7 +33,7 @@ pub extern "C" fn matcher_write(
     ensures { λ _. let l = libraryWith d b n (now (marks .entry)) (now (settings .entry)) (now (components .entry)) in
         ⌜ now (bytes .exit) ≡ outcome (first (writeCauses l (length (now (bytes .entry))))) (libraryBytes l) (λ _. now (bytes .entry)) ⌝ }
 {
-    library::write::write(d, b, n, marks, settings, components, bytes).number()
+    writing::write(d, b, n, marks, settings, components, bytes).number()
 }
 
 // The library that the bytes begin with, into the fronts of buffers of the largest size; its counts, and how many of the bytes it is.
@@ -68,13 +69,8 @@ pub extern "C" fn matcher_load(
         let l = readLibrary (now (bytes .entry)) in
         ⌜ now (used .exit) ≡ outcome v (libraryLength (l .d) (l .b) (l .n)) (λ _. 0) ⌝ }
 {
-    let loaded = library::load::load(bytes, marks, settings, components);
-    *d = loaded.d;
-    *b = loaded.b;
-    *n = loaded.n;
-    *used = loaded.used;
-    let verdict = loaded.verdict;
-    verdict.number()
+    let loaded = loading::load(bytes, marks, settings, components);
+    tell::loaded(loaded, d, b, n, used)
 }
 
 // The components of the d readings that the bytes hold, into a buffer of as many.

@@ -3,7 +3,7 @@ ghost use mathlib.Core.Path.{_≡_};
 ghost use lib.ListN.{length};
 ghost use Rattle.refusal.specs.Refusal.{verdictNumber};
 ghost use Rattle.refusal.specs.First.{first, outcome};
-ghost use Rattle.library.specs.Load.{filled};
+ghost use Rattle.loading.specs.Load.{filled};
 ghost use Rattle.matching.specs.Match.{matchText, roomCauses};
 
 // The text of a match, into the front of the output, and its length.

@@ -20,8 +20,8 @@ use Rattle.order.specs.Members.{_∈_}
 use Rattle.order.specs.Counted.{counted}
 use Rattle.selection.specs.Theorems.{reads-among}
 use Rattle.layout.specs.Layout.{firstMarks}
-use Rattle.approximation.specs.Codes.{codeLength}
-use Rattle.approximation.specs.PackLaws.{length-packed}
+use Rattle.codes.specs.Codes.{codeLength}
+use Rattle.codes.specs.PackLaws.{length-packed}
 use Rattle.approximation.specs.VectorCauses.{packVectorsCauses}
 use Rattle.approximation.specs.OwnCodes.{own-good}
 use Rattle.search.specs.Search.{numbersIn, distanceIn, lowIn, inOwnCells, scanned, searched, searchCauses}
@@ -38,11 +38,12 @@ use Rattle.records.specs.Records.{kindOf}
 use Rattle.records.specs.Frame.{frameCauses}
 use Rattle.records.specs.RowLaws.{both}
 use Rattle.library.specs.Library.{Library, readLibrary}
-use Rattle.library.specs.Load.{recordsCauses as libraryCauses}
+use Rattle.loading.specs.Load.{recordsCauses as libraryCauses}
 use Rattle.query.specs.Query.{isReading, readingOf, readingCauses, recordsCauses as queryCauses, componentsOf, nextRecord}
-use Rattle.matching.specs.Text.{line}
-use Rattle.matching.specs.Match.{behind, kLength, kOf, searchable, entryLines, refusedText, matchCauses, matchText}
-use Rattle.library.specs.Loaded.{loaded-shape, loaded-count, marks-count, components-count, loaded-marks, loaded-components}
+use Rattle.text.specs.Text.{line, entryLines, refusedText}
+use Rattle.answer.specs.Answer.{searchable}
+use Rattle.matching.specs.Match.{behind, kLength, kOf, matchCauses, matchText}
+use Rattle.loading.specs.Loaded.{loaded-shape, loaded-count, marks-count, components-count, loaded-marks, loaded-components}
 use Rattle.matching.specs.Packed.{packed-inside, packed-own}
 
 -- ---- the query

@@ -11,15 +11,15 @@ use Rattle.refusal.specs.declared.Verdict.the-variants.{Accepted}
 use Rattle.refusal.specs.First.{first}
 use Rattle.partition.specs.Marks.{dimensionMarks}
 use Rattle.partition.specs.Region.{inMarks}
-use Rattle.approximation.specs.PackLaws.{next-column}
+use Rattle.codes.specs.PackLaws.{next-column}
 use Rattle.approximation.specs.Vectors.{insideFrom, vectorsInside, vectorCodes}
-use Rattle.approximation.specs.Cells.{Own}
+use Rattle.cells.specs.Cells.{Own}
 use Rattle.approximation.specs.OwnCodes.{own-codes}
 use Rattle.library.specs.EachLaws.{every-at}
 use Rattle.library.specs.Library.{Library, markTotal, componentAt, readLibrary}
-use Rattle.library.specs.Write.{inside}
-use Rattle.library.specs.Load.{recordsCauses as libraryCauses}
-use Rattle.library.specs.Loaded.{shaped, components-count, component-at, vector-inside}
+use Rattle.library.specs.Tests.{inside}
+use Rattle.loading.specs.Load.{recordsCauses as libraryCauses}
+use Rattle.loading.specs.Loaded.{shaped, components-count, component-at, vector-inside}
 
 -- components that lie, each, inside the marks of their column's dimension, the first in column p % d
 inside-from : (d b : ℕ) → 0 < d → (marks : List ℤ) (p : ℕ) (zs : List ℤ)

@@ -25,7 +25,7 @@ use Rattle.order.specs.Pair.{Pair}
 use Rattle.order.specs.Members.{_∈_}
 use Rattle.order.specs.Counted.{counted, counted-length}
 use Rattle.selection.specs.Theorems.{reads-among, reads-count, best-length, best-entries}
-use Rattle.approximation.specs.Cells.{vectorAt}
+use Rattle.cells.specs.Cells.{vectorAt}
 use Rattle.distance.specs.Distance.{gap, squared, firstDistance, distanceOf}
 use Rattle.distance.specs.Places.{gap-size}
 use Rattle.distance.specs.CellBounds.{squared-le}
@@ -38,12 +38,13 @@ use Rattle.records.specs.RowLaws.{both}
 use Rattle.library.specs.Each.{tabulate}
 use Rattle.library.specs.EachLaws.{tabulate-at, tabulate-past}
 use Rattle.library.specs.Library.{Library, markTotal, vectorPlace, settingsAt, readLibrary}
-use Rattle.library.specs.Load.{recordsCauses as libraryCauses}
+use Rattle.loading.specs.Load.{recordsCauses as libraryCauses}
 use Rattle.query.specs.Query.{recordsCauses as queryCauses, componentsOf}
-use Rattle.matching.specs.Text.{line}
-use Rattle.matching.specs.TextLaws.{decimal-length}
-use Rattle.matching.specs.Match.{behind, kLength, kOf, kCauses, searchable, entryLine, entryLines, answerText, refusedText, causesWith, matchText, textRoom}
-use Rattle.library.specs.Loaded.{shaped, loaded-count, loaded-components}
+use Rattle.text.specs.TextLaws.{decimal-length}
+use Rattle.text.specs.Text.{line, entryLine, entryLines, refusedText}
+use Rattle.answer.specs.Answer.{searchable, answerText}
+use Rattle.matching.specs.Match.{behind, kLength, kOf, kCauses, causesWith, matchText, textRoom}
+use Rattle.loading.specs.Loaded.{shaped, loaded-count, loaded-components}
 use Rattle.matching.specs.Answerable.{query-components}
 
 -- ---- distances

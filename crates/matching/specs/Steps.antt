@@ -19,17 +19,19 @@ use Rattle.limits.specs.Limits.{maxDimensions, maxVectors, isDimensionCount}
 use Rattle.limits.specs.Tests.{between}
 use Rattle.whole.specs.Components.{areComponents}
 use Rattle.layout.specs.Stretch.{shapeCauses}
-use Rattle.approximation.specs.Codes.{codeLength}
+use Rattle.codes.specs.Codes.{codeLength}
 use Rattle.approximation.specs.VectorCauses.{packVectorsCauses}
 use Rattle.search.specs.Search.{searchCauses}
 use Rattle.search.specs.Ready.{roomOf}
 use Rattle.records.specs.RowLaws.{go-on, stop}
-use Rattle.library.specs.declared.Loaded.{Loaded}
+use Rattle.loading.specs.declared.Loaded.{Loaded}
 use Rattle.library.specs.Library.{Library, libraryWith, markTotal, libraryLength, readLibrary}
-use Rattle.library.specs.Load.{marksRoom, settingsRoom, componentsRoom, recordsCauses as libraryCauses, loadCauses, counts, filled}
-use Rattle.library.specs.Loaded.{loaded-shape, loaded-count, shaped, marks-count, settings-count, components-count, loaded-within}
+use Rattle.loading.specs.Load.{marksRoom, settingsRoom, componentsRoom, recordsCauses as libraryCauses, loadCauses, counts, filled}
+use Rattle.loading.specs.Loaded.{loaded-shape, loaded-count, shaped, marks-count, settings-count, components-count, loaded-within}
 use Rattle.query.specs.Query.{queryCauses as lentCauses, recordsCauses as queryCauses, componentsOf}
-use Rattle.matching.specs.Match.{behind, kLength, kOf, kCauses, searchable, answerText, refusedText, matchText}
+use Rattle.text.specs.Text.{refusedText}
+use Rattle.answer.specs.Answer.{searchable, answerText}
+use Rattle.matching.specs.Match.{behind, kLength, kOf, kCauses, matchText}
 use Rattle.matching.specs.Answerable.{packs, searches}
 
 -- behind a library that passes, and behind a k that passes; `rest` is what stands behind the library

@@ -1,5 +1,4 @@
 // The nearest vectors as entries: the full scan and the search as other programs call them. Each is thin over the search's crate.
-mod arrays;
 mod fill;
 
 use limits::MAX_VECTORS;
@@ -9,7 +8,7 @@ ghost use mathlib.Core.Path.{_≡_};
 ghost use lib.ListN.{length};
 ghost use Rattle.refusal.specs.First.{first, outcome};
 ghost use Rattle.search.specs.Search.{searchCauses};
-ghost use Rattle.search.specs.Scanning.{scanAnswer, scanCauses};
+ghost use Rattle.scan.specs.Scanning.{scanAnswer, scanCauses};
 ghost use Rattle.search.specs.Ready.{library};
 ghost use Rattle.nearest.specs.Entries.{entriesOf, entryRoom};
 ghost use Rattle.nearest.specs.Finding.{Finds};

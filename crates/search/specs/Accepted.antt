@@ -13,8 +13,8 @@ use Rattle.limits.specs.Limits.{isDimensionCount, isBits, isVectorCount}
 use Rattle.whole.specs.Components.{areComponents}
 use Rattle.layout.specs.Layout.{firstMarks}
 use Rattle.partition.specs.Marks.{goodMarks}
-use Rattle.approximation.specs.Codes.{codeLength}
-use Rattle.approximation.specs.Cells.{goodCodes}
+use Rattle.codes.specs.Codes.{codeLength}
+use Rattle.cells.specs.Cells.{goodCodes}
 use Rattle.search.specs.Search.{Library, Room, searched, inOwnCells, exactLengths, searchCauses}
 
 -- the search is not refused

@@ -17,7 +17,7 @@ use Rattle.selection.specs.Loop.{Reached, after, after-next, reached-next}
 use Rattle.selection.specs.Steps.{next-read}
 use Rattle.selection.specs.Gathered.{Gathers}
 use Rattle.selection.specs.Holds.{Holds}
-use Rattle.approximation.specs.Cells.{vectorAt, InCell}
+use Rattle.cells.specs.Cells.{vectorAt, InCell}
 use Rattle.distance.specs.Small.{distance-small}
 use Rattle.distance.specs.CellComponents.{cell-components}
 use Rattle.search.specs.declared.search.Searched.{Searched}

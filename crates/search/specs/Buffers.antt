@@ -6,7 +6,7 @@ use native.Mathlib.Numerals.{add-one}
 use native.Mathlib.Omega.{arith}
 use lib.ListN.{length, take, drop, getD, set, length-append, length-drop, drop-of-length-le}
 use lib.Seq.{length-take-le, take-at, take-all}
-use Rattle.search.specs.Values.{valuesFrom}
+use Rattle.distance.specs.Values.{valuesFrom}
 
 -- the first i elements of a buffer are another list's: one more of them, all of them
 put-one : (i : ℕ) (new old : List ℕ) → i < length new → i < length old → set (take i new ++ drop i old) i (getD new i 0) ≡ take (i + 1) new ++ drop (i + 1) old

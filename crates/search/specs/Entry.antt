@@ -9,7 +9,7 @@ use Rattle.refusal.specs.First.{Row, _⇒_}
 use Rattle.limits.specs.Limits.{isVectorCount}
 use Rattle.whole.specs.Components.{areComponents}
 use Rattle.partition.specs.Marks.{goodMarks}
-use Rattle.approximation.specs.Cells.{goodCodes}
+use Rattle.cells.specs.Cells.{goodCodes}
 use Rattle.search.specs.Search.{Library, Room, exactLengths}
 
 -- 3, 4, 5, 6, 7, 9

@@ -1,8 +1,5 @@
 pub mod Search
 pub mod Accepted
-pub mod Scanning
-pub mod Values
-pub mod Scanned
 pub mod Settled
 pub mod Rows
 pub mod Instance

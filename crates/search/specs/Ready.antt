@@ -17,7 +17,7 @@ use Rattle.limits.specs.Tests.{between}
 use Rattle.whole.specs.Components.{areComponents}
 use Rattle.layout.specs.Stretch.{shapeCauses, shape}
 use Rattle.partition.specs.Marks.{goodMarks}
-use Rattle.approximation.specs.Cells.{vectorAt}
+use Rattle.cells.specs.Cells.{vectorAt}
 use Rattle.order.specs.Members.{member-getD}
 use Rattle.order.specs.Counted.{counted, counted-length}
 use Rattle.order.specs.Ranking.{ranked-count, ranked-among}

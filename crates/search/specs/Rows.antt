@@ -8,7 +8,7 @@ use native.Mathlib.Omega.{arith}
 use lib.IntN.{ℤ}
 use lib.ListN.{length, take, drop, length-append, length-drop}
 use lib.Seq.{take-append-le, drop-append-le, drop-at, take-all}
-use Rattle.approximation.specs.Cells.{vectorAt}
+use Rattle.cells.specs.Cells.{vectorAt}
 
 -- a vector of d components with a property of number i
 pub record Row (d : ℕ) (P : ℕ → List ℤ → Type 0) (i : ℕ) : Type 0 where

@@ -14,8 +14,8 @@ use Rattle.order.specs.Pair.{Pair, countFrom}
 use Rattle.selection.specs.Reading.{scan, Reading, read}
 use Rattle.layout.specs.Layout.{firstMarks}
 use Rattle.partition.specs.Marks.{goodMarks}
-use Rattle.approximation.specs.Codes.{codeLength}
-use Rattle.approximation.specs.Cells.{vectorAt, inFirst, goodCodes}
+use Rattle.codes.specs.Codes.{codeLength}
+use Rattle.cells.specs.Cells.{vectorAt, inFirst, goodCodes}
 use Rattle.distance.specs.Distance.{distanceOf}
 use Rattle.distance.specs.Bounds.{lowerOf, upperOf}
 

@@ -7,7 +7,7 @@ use Prim.Native.Nat.{ℕ, _*_, _<_}
 use lib.IntN.{ℤ}
 use lib.ListN.{length}
 use Rattle.order.specs.Members.{_∈_}
-use Rattle.approximation.specs.Cells.{vectorAt, InCell, Own}
+use Rattle.cells.specs.Cells.{vectorAt, InCell, Own}
 use Rattle.search.specs.Search.{Library, scanned, searched}
 
 -- the library with other vectors, all else kept

@@ -16,7 +16,7 @@ use Rattle.order.specs.Counted.{counted, counted-distinct}
 use Rattle.selection.specs.Reading.{Reading, readingOrder}
 use Rattle.selection.specs.Settles.{Bounds, fixed}
 use Rattle.selection.specs.Theorems.{reads-in-order, reads-among, exact, stable, needed, settling-holds, least}
-use Rattle.approximation.specs.Cells.{vectorAt}
+use Rattle.cells.specs.Cells.{vectorAt}
 use Rattle.distance.specs.Distance.{distanceOf}
 use Rattle.search.specs.Search.{Library, numbersIn, distanceIn, lowIn, highIn, inOwnCell, inOwnCells, scanned, searched, Room}
 use Rattle.search.specs.Accepted.{Accepts, passes, accepts, lengths-told, lengths-exact}

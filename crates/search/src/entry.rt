@@ -90,7 +90,7 @@ fn check_shaped(
     if !whole::components::are_components(query) {
         return Verdict::Refused(Refusal::Component);
     }
-    approximation::cells::check_codes(d, b, n, marks, codes)
+    cells::check_codes(d, b, n, marks, codes)
 }
 
 // Whether every buffer has its exact length.

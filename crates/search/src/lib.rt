@@ -1,5 +1,4 @@
-// The full scan and the near-optimal search.
+// The near-optimal search.
 mod entry;
 mod reading;
-pub mod scan;
 pub mod search;

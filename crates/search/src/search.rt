@@ -1,9 +1,9 @@
 // The search that reads least.
 use crate::entry::check_entry;
 use crate::reading::read_all;
+use bounds::sum::sum_bounds;
 use distance::Bound;
 use distance::table::MAX_TABLE;
-use distance::table::code_bound;
 use distance::table::fill_table;
 use limits::MAX_VECTORS;
 use refusal::Refusal;
@@ -13,10 +13,9 @@ ghost use mathlib.Core.List.{_++_};
 ghost use Prim.Native.Nat.{_≤_};
 ghost use lib.ListN.{length, take, drop};
 ghost use Rattle.refusal.specs.First.{first};
-ghost use Rattle.distance.specs.Table.{boundSum};
 ghost use Rattle.selection.specs.Reading.{readingOrder};
 ghost use Rattle.search.specs.Search.{numbersIn, lowIn, searchCauses};
-ghost use Rattle.search.specs.Values.{valuesFrom};
+ghost use Rattle.distance.specs.Values.{valuesFrom};
 ghost use Rattle.search.specs.Ready.{library, roomOf, Ready};
 ghost use Rattle.search.specs.Searching.{Searches, cellCauses};
 
@@ -137,17 +136,6 @@ fn lower_bounds(
     let mut table = [0u64; MAX_TABLE];
     fill_table(Bound::Lower, d, b, marks, query, &mut table[..size]);
     sum_bounds(d, b, &table[..size], codes, lows);
-}
-
-// The bounds that a table gives.
-fn sum_bounds(d: usize, b: usize, table: &[u64], codes: &[u8], lows: &mut [u64])
-    ensures { λ _. ⌜ now (lows .exit) ≡ valuesFrom (boundSum d b (now (table .entry)) (now (codes .entry))) 0 (length (now (lows .entry))) ⌝ }
-{
-    let mut i = 0;
-    while i < lows.len() {
-        lows[i] = code_bound(d, b, table, codes, i);
-        i += 1;
-    }
 }
 
 // The search with the lower bounds.

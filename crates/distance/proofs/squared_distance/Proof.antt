@@ -24,7 +24,7 @@ here : (c : tie.After-squared Inv-loop μ-loop) → let at = c .before .before .
 here c =
     let query = read-back (record { sfits = c .before .before .before .at .ok }) (c .before .before .before .at .ensures) in
     let vector = read-back (record { sfits = c .before .before .at2 .ok }) (c .before .before .at2 .ensures) in
-    c .squared .ensures ∙ ap (λ (n : ℕ). squared n % 2 ^ 64) (rw (query, vector) at (c .before .gap .ensures .0))
+    c .squared .ensures ∙ ap (λ (n : ℕ). squared n % 2 ^ 64) (rw (query, vector) at (c .before .gap .ensures))
 
 loop-again : tie.Need-loop-again Inv-loop μ-loop
 unfolding firstDistance
@@ -47,7 +47,8 @@ squared-distance-spec =
     (λ c κs. search needs)
     (λ c κs. search needs)
     (λ c κs. search needs)
-    (λ c κs. omega (arith, c .gap .ensures .1))
+    (λ c. search needs)
+    (λ c κs. omega (arith, c .gap .ok))
     (λ c κs. search needs)
     (λ c. omega arith)
     (λ c. omega arith)

@@ -48,21 +48,21 @@ use Rattle.refusal.specs.declared.Verdict.the-variants.{Accepted}
 use Rattle.refusal.specs.First.{first, outcome}
 use Rattle.limits.specs.Limits.{maxVectors}
 use Rattle.order.specs.Pair.{Pair}
-use Rattle.search.specs.Scanning.{scanAnswer, scanCauses}
+use Rattle.scan.specs.Scanning.{scanAnswer, scanCauses}
 use Rattle.nearest.specs.declared.Entry.{Entry}
 use Rattle.nearest.specs.Entries.{entriesOf, filled}
-use Rattle.nearest.specs.Finding.{Stands}
+use Rattle.arrays.specs.Arrays.{Stands}
 use Rattle.nearest.specs.Filled.{outcome-filled, outcome-room}
 use Rattle.nearest.proofs.Local.{zeros, blank, blank-typed, lies, lent-mut, back-mut, lent-shr, room-again}
 use Rattle.nearest.proofs.ToFill.{R, Numbers, Distances, Fill, lfts-fill, given-fill, to-fill, TokensFill, asked-fill}
-use Rattle.nearest.proofs.arrays.scan as core
-use Rattle.nearest.proofs.arrays.scan.Symbol as core-def
-use Rattle.nearest.proofs.arrays.scan.Symbol.{name as #core}
-use Rattle.nearest.proofs.arrays.scan.Met as core-thm
-use Rattle.nearest.proofs.arrays.accepted as count
-use Rattle.nearest.proofs.arrays.accepted.Symbol as count-def
-use Rattle.nearest.proofs.arrays.accepted.Symbol.{name as #count}
-use Rattle.nearest.proofs.arrays.accepted.Met as count-thm
+use Rattle.arrays.proofs.scan as core
+use Rattle.arrays.proofs.scan.Symbol as core-def
+use Rattle.arrays.proofs.scan.Symbol.{name as #core}
+use Rattle.arrays.proofs.scan.Met as core-thm
+use Rattle.arrays.proofs.accepted as count
+use Rattle.arrays.proofs.accepted.Symbol as count-def
+use Rattle.arrays.proofs.accepted.Symbol.{name as #count}
+use Rattle.arrays.proofs.accepted.Met as count-thm
 use Rattle.nearest.proofs.fill.fill as fill
 use Rattle.nearest.proofs.fill.fill.Symbol as fill-def
 use Rattle.nearest.proofs.fill.fill.Symbol.{name as #fill}
@@ -261,6 +261,6 @@ scan-spec 𝓤 H 𝓜 𝓖 𝓡 =
     entered 𝓤 H (tripleOf 𝓤 H (𝓖 .A) face.signature (face.spec 𝓤 H (𝓖 .A) (𝓜 .mem) (𝓡 .run)))
     (tables 𝓤 H 𝓜 𝓡 code.env .C) (tables 𝓤 H 𝓜 𝓡 code.env .Λ) #nearest·scan code.function (code.unfolded 𝓤 H 𝓜 𝓡)
     (meets 𝓤 H (𝓖 .A) (givenOf 𝓤 H 𝓜 𝓖) (𝓜 .mem) (𝓡 .run) (tablesOf 𝓤 H 𝓜 (tables 𝓤 H 𝓜 𝓡 code.env))
-    (cited 𝓤 H (Core 𝓤 H (𝓖 .A) (𝓜 .mem) (𝓡 .run)) 𝓜 𝓡 code.env #core core-def.routine code.calls-nearest·arrays·scan (core-thm.met 𝓤 H 𝓜 𝓖 𝓡))
-    (cited 𝓤 H (Count 𝓤 H (𝓖 .A) (𝓜 .mem) (𝓡 .run)) 𝓜 𝓡 code.env #count count-def.routine code.calls-nearest·arrays·accepted (count-thm.met 𝓤 H 𝓜 𝓖 𝓡))
+    (cited 𝓤 H (Core 𝓤 H (𝓖 .A) (𝓜 .mem) (𝓡 .run)) 𝓜 𝓡 code.env #core core-def.routine code.calls-arrays·scan (core-thm.met 𝓤 H 𝓜 𝓖 𝓡))
+    (cited 𝓤 H (Count 𝓤 H (𝓖 .A) (𝓜 .mem) (𝓡 .run)) 𝓜 𝓡 code.env #count count-def.routine code.calls-arrays·accepted (count-thm.met 𝓤 H 𝓜 𝓖 𝓡))
     (cited 𝓤 H (Fill 𝓤 H (𝓖 .A) (𝓜 .mem) (𝓡 .run)) 𝓜 𝓡 code.env #fill fill-def.routine code.calls-nearest·fill·fill (fill-thm.met 𝓤 H 𝓜 𝓖 𝓡)))

@@ -1,8 +1,8 @@
 -- `gap_to_last` meets its contract: the value before a mark has the key before the mark's. Assumes nothing.
 use native.Mathlib.Omega.{arith}
 use borrow.Author.Needs.{needs}
+use Rattle.whole.proofs.ReadBack.{key-back}
 use Rattle.distance.specs.Places.{gap-key-pred}
-use Rattle.distance.proofs.Read.{key-back}
 use Rattle.distance.proofs.step.gap_to_last.Statement.{statement}
 use Rattle.distance.proofs.step.gap_to_last.Tie as tie
 

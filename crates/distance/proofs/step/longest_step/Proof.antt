@@ -18,13 +18,14 @@ ends c =
     let q = toZ-ofZ w32 (args .q) (fits .q) in
     let low = toZ-ofZ w32 (args .low) (fits .low) in
     let high = toZ-ofZ w32 (args .high) (fits .high) in
-    rw (rw (q, low) at (c .before .gap .ensures .0), rw (q, high) at (c .gap-to-last .ensures .0))
+    rw (rw (q, low) at (c .before .gap .ensures), rw (q, high) at (c .gap-to-last .ensures .0))
 
 pub longest-step-spec : {M : Type 1} → statement M
 longest-step-spec =
     tie.close
     (tie.spec
     (λ c κs. search needs)
+    (λ c. search needs)
     (λ c κs. search needs)
     (λ c. omega (arith, ends (c .before)))
     (λ c. omega (arith, ends (c .before))))

@@ -28,7 +28,7 @@ unfolding shortest
 returns c =
     let start = c .before .before in
     let below = rw (q-back start, low-back start) at (c .before .if1 .taken) in
-    (rw below (rw (q-back start, low-back start) at (c .gap .ensures .0)), omega (arith, c .gap .ensures .1))
+    (rw below (rw (q-back start, low-back start) at (c .gap .ensures)), omega (arith, c .gap .ok))
 
 returns-2 : tie.Need-returns-2
 unfolding shortest
@@ -47,4 +47,4 @@ returns-3 c =
     (rw (below, pred-lt (start .args .high) (start .args .q), above), omega arith)
 
 pub shortest-step-spec : {M : Type 1} → statement M
-shortest-step-spec = tie.close (tie.spec (λ c κs. search needs) returns (λ c κs. search needs) returns-2 returns-3)
+shortest-step-spec = tie.close (tie.spec (λ c κs. search needs) (λ c. search needs) returns (λ c κs. search needs) returns-2 returns-3)

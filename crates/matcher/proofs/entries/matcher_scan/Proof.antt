@@ -43,7 +43,7 @@ use Rattle.refusal.specs.Refusal.{verdictNumber}
 use Rattle.refusal.specs.First.{first, outcome}
 use Rattle.refusal.proofs.Verdict as Ans
 use Rattle.refusal.proofs.Verdict.Laws as Ans′
-use Rattle.search.specs.Scanning.{scanAnswer, scanCauses}
+use Rattle.scan.specs.Scanning.{scanAnswer, scanCauses}
 use Rattle.nearest.specs.Entries.{entriesOf}
 use Rattle.nearest.specs.declared.Entry.{Entry}
 use Rattle.nearest.proofs.Entry as S

@@ -1,4 +1,4 @@
--- `matcher_search` meets its contract: a walk of its MIR, by hand. The buffers go on to `nearest::search`, and `told` puts the count in its place.
+-- `matcher_search` meets its contract: a walk of its MIR, by hand. The buffers go on to `nearest::search`, and `tell::searched` puts the count in its place.
 -- Of each callee the proof knows the contract alone. In the notes on the context, [x] is the token of x's lifetime. Assumes nothing.
 use mathlib.Core.Path.{_≡_, refl, _∙_}
 use Prim.Native.Nat.{ℕ, _<_, _^_}
@@ -55,10 +55,10 @@ use Rattle.nearest.proofs.search as core
 use Rattle.nearest.proofs.search.Symbol as core-def
 use Rattle.nearest.proofs.search.Symbol.{name as #core}
 use Rattle.nearest.proofs.search.Met as core-thm
-use Rattle.matcher.proofs.entries.told as number
-use Rattle.matcher.proofs.entries.told.Symbol as number-def
-use Rattle.matcher.proofs.entries.told.Symbol.{name as #number}
-use Rattle.matcher.proofs.entries.told.Met as number-thm
+use Rattle.tell.proofs.searched as number
+use Rattle.tell.proofs.searched.Symbol as number-def
+use Rattle.tell.proofs.searched.Symbol.{name as #number}
+use Rattle.tell.proofs.searched.Met as number-thm
 use Rattle.matcher.proofs.Told.{told-number, told-value}
 use Rattle.matcher.proofs.entries.matcher_search.Key.{name as #matcher-search}
 use Rattle.matcher.proofs.entries.matcher_search as face
@@ -228,4 +228,4 @@ matcher-search-spec 𝓤 H 𝓜 𝓖 𝓡 =
     (tables 𝓤 H 𝓜 𝓡 code.env .C) (tables 𝓤 H 𝓜 𝓡 code.env .Λ) #matcher-search code.function (code.unfolded 𝓤 H 𝓜 𝓡)
     (meets 𝓤 H (𝓖 .A) (givenOf 𝓤 H 𝓜 𝓖) (𝓜 .mem) (𝓡 .run) (tablesOf 𝓤 H 𝓜 (tables 𝓤 H 𝓜 𝓡 code.env))
     (cited 𝓤 H (Core 𝓤 H (𝓖 .A) (𝓜 .mem) (𝓡 .run)) 𝓜 𝓡 code.env #core core-def.routine code.calls-nearest·search (core-thm.met 𝓤 H 𝓜 𝓖 𝓡))
-    (cited 𝓤 H (Number 𝓤 H (𝓖 .A) (𝓜 .mem) (𝓡 .run)) 𝓜 𝓡 code.env #number number-def.routine code.calls-matcher·entries·told (number-thm.met 𝓤 H 𝓜 𝓖 𝓡)))
+    (cited 𝓤 H (Number 𝓤 H (𝓖 .A) (𝓜 .mem) (𝓡 .run)) 𝓜 𝓡 code.env #number number-def.routine code.calls-tell·searched (number-thm.met 𝓤 H 𝓜 𝓖 𝓡)))

@@ -9,8 +9,8 @@ use borrow.Author.Needs.{needs}
 use borrow.Author.Tests.{eq-eqb, ne-eqb}
 use Rattle.layout.specs.Layout.{firstMarks}
 use Rattle.layout.specs.Stretch.{shape, marks-length-is}
-use Rattle.approximation.specs.Codes.{codeLength}
-use Rattle.approximation.specs.Pack.{bits-le, numbers-le}
+use Rattle.codes.specs.Codes.{codeLength}
+use Rattle.codes.specs.Pack.{bits-le, numbers-le}
 use Rattle.search.proofs.entry.exact_lengths.Statement.{statement}
 use Rattle.search.proofs.entry.exact_lengths.Tie as tie
 

@@ -7,7 +7,7 @@ use borrow.Author.Needs.{needs}
 use borrow.Author.Tests.{lt-ltb}
 use Rattle.refusal.specs.First.{outcome-accepted}
 use Rattle.limits.specs.Limits.{maxVectors}
-use Rattle.approximation.specs.CellCauses.{cellHolds}
+use Rattle.cells.specs.CellCauses.{cellHolds}
 use Rattle.search.proofs.reading.in_own_cell.Statement.{statement}
 use Rattle.search.proofs.reading.in_own_cell.Tie as tie
 

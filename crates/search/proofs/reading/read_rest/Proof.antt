@@ -22,7 +22,7 @@ use Rattle.selection.specs.Kept.{Keeps}
 use Rattle.selection.specs.Holds.{holds-keys, holds-numbers, arrays-goes-on, arrays-next}
 use Rattle.search.specs.declared.search.Searched.the-variants.{Read, Refused}
 use Rattle.search.specs.Search.{Library, Room, numbersIn, distanceIn, lowIn, inOwnCell, searched}
-use Rattle.search.specs.Values.{valuesFrom, values-length, value-at}
+use Rattle.distance.specs.Values.{valuesFrom, values-length, value-at}
 use Rattle.search.specs.Ready.{library, Ready, Place, place, ordered-below}
 use Rattle.search.specs.Answered.{Reads, HasRead, afterReads, measured, next-in-cell, next-outside}
 use Rattle.search.proofs.reading.read_rest.Statement.{statement}

@@ -14,8 +14,8 @@ use Rattle.layout.specs.Stretch.{shapeCauses}
 use Rattle.distance.specs.declared.Bound.the-variants.{Lower}
 use Rattle.distance.specs.Table.{maxTable, stepOf, tableOf, lengthCauses, tableCauses, boundSum}
 use Rattle.distance.specs.TableLaws.{bound-sum, table-le}
+use Rattle.distance.specs.Values.{valuesFrom}
 use Rattle.search.specs.Search.{Library, Room, lowIn}
-use Rattle.search.specs.Values.{valuesFrom}
 use Rattle.search.specs.Ready.{Ready}
 use Rattle.search.specs.Buffers.{back-within, shared-is, values-agree}
 use Rattle.search.proofs.search.lower_bounds.Statement.{statement}
@@ -40,7 +40,7 @@ module _ {l : Library} {query : List ℤ} {k : ℕ} {room : Room} (is : Ready l 
       let table = same ∙ filled ∙ outcome-accepted _ _ (accepted size exact) in
       rw (table, count)
       (values-agree (boundSum (l .d) (l .b) (tableOf (stepOf Lower) (l .d) (l .b) (l .marks) query) (l .codes)) (lowIn l query) 0 (l .n)
-      (λ j below. bound-sum (l .d) (l .b) (l .marks) query (l .codes) j Lower (omega (arith, is .count)) (is .shaped) (is .components) (is .marks)))
+      (λ j below. bound-sum (l .d) (l .b) (l .marks) query (l .codes) j Lower (is .shaped) (is .components) (is .marks)))
 
 table-hold : tie.Need-array-borrow-prefix-table
 table-hold c =
@@ -49,6 +49,12 @@ table-hold c =
 
 table-within : tie.Need-array-share-prefix-table
 table-within c = back-within _ _ (c .before .fill-table .last .1 .1 .1 .1 .1 .0) (table-hold (c .before .before .before)) (c .before .fill-table .kept .1 .1 .1 .1 .1 .0)
+
+sum-bounds-requires : tie.Need-sum-bounds-requires
+sum-bounds-requires c κs =
+    let start = c .before .before .before .before .before .before .before in
+    let is = start .pre .0 in
+    (is .shaped, length-take-le _ _ (table-within (c .before .before)) ∙ is .lengths .of-marks, omega (arith, start .pre .1, is .count))
 
 returns : tie.Need-returns
 returns c =
@@ -68,6 +74,6 @@ lower-bounds-spec =
     (λ c κs. search needs)
     table-within
     (λ c. sym (length-take-le _ _ (table-within (c .before))))
-    (λ c κs. search needs)
+    sum-bounds-requires
     (λ c. search needs)
     returns)

@@ -13,7 +13,8 @@ use Rattle.limits.specs.Limits.{maxVectors}
 use Rattle.order.specs.Pair.{countFrom}
 use Rattle.order.specs.Rank.{rankCauses, ranking}
 use Rattle.selection.specs.Reading.{readingOrder}
-use Rattle.search.specs.Values.{valuesFrom, values-length, values-ranking}
+use Rattle.distance.specs.Values.{valuesFrom, values-length}
+use Rattle.scan.specs.Ranked.{values-ranking}
 use Rattle.search.specs.Buffers.{back-within, shared-is}
 use Rattle.search.proofs.search.search_bounded.Statement.{statement}
 use Rattle.search.proofs.search.search_bounded.Tie as tie

@@ -1,0 +1,127 @@
+-- `locate_all` meets its contract: what is written so far, with the regions of the components from i on, is the whole.
+-- Assumes nothing.
+use mathlib.Core.Path.{_≡_, refl}
+use mathlib.Core.Bool.{true, cond, and-eq-true-iff}
+use mathlib.Core.List.{List, _++_, append-nil}
+use Prim.Native.Nat.{ℕ, suc, _+_, _-_, _≤_, _<_}
+use native.Mathlib.Omega.{arith}
+use borrow.Author.Needs.{needs}
+use lib.Dec.{eqb}
+use lib.IntN.{ℤ, pos}
+use lib.ListN.{length, getD, take, drop, set, length-set, drop-of-length-le}
+use mir.Syntax.{w32}
+use mir.ValLaws.{toZ-ofZ}
+use Rattle.order.proofs.Written.{written-one}
+use Rattle.partition.specs.Marks.{dimensionMarks}
+use Rattle.partition.specs.Region.{regionOf, inMarks}
+use Rattle.partition.specs.Located.{Located, located-is}
+use Rattle.partition.specs.View.{marksAt}
+use Rattle.codes.specs.Codes.{nextColumn}
+use Rattle.approximation.specs.Vectors.{vectorRegions, regionsFrom, insideFrom}
+use Rattle.approximation.specs.VectorCauses.{Inside, good-each}
+use Rattle.codes.proofs.Columns.{Width, fewest, width}
+use Rattle.approximation.proofs.Stretches.{Begins, begins, part-is, part-few, part-within, goes-on, inside-next, regions-next}
+use Rattle.approximation.proofs.locate_all.Statement.{statement}
+use Rattle.approximation.proofs.locate_all.Tie as tie
+
+-- what holds while the region numbers are written, with room for so many
+record Locating (d b : ℕ) (vectors marks : List ℤ) (room : ℕ) (regions : List ℕ) (column offset i : ℕ) : Type 0 where
+  begins-at : Begins d b column offset
+  among : i ≤ length vectors
+  same : length regions ≡ room
+  inside : insideFrom d b marks column (drop i vectors) ≡ true
+  so-far : take i regions ++ regionsFrom d b marks column (drop i vectors) ≡ vectorRegions d b marks vectors
+
+abbrev Inv-loop : tie.InvT-loop
+Inv-loop d b vectors marks regions₀ fewest more column₀ offset₀ i₀ regions column offset i = Locating d b vectors marks (length regions₀) regions column offset i
+
+abbrev μ-loop : tie.MeasureT-loop
+μ-loop d b vectors marks regions₀ fewest more column₀ offset₀ i₀ regions column offset i = length vectors - i
+
+module _ {d b : ℕ} {vectors marks : List ℤ} {room : ℕ} {regions : List ℕ} {column offset i : ℕ} (given : Inside d b marks vectors) (fits : length vectors ≤ room) (at : Locating d b vectors marks room regions column offset i) where
+  -- the region that is located in the column's marks is written
+  turn : {part : List ℤ} {w r : ℕ} → Width d b column w → part ≡ marksAt marks offset w → i < length vectors → Located part (getD vectors i (pos 0)) r
+      → Locating d b vectors marks room (set regions i r) (nextColumn d column) (cond (eqb (nextColumn d column) 0) 0 (offset + length part)) (i + 1)
+  turn {part} {w} {r} wide is more located =
+      let exact = given .exact in
+      let own = dimensionMarks d b marks (suc column) in
+      let z = getD vectors i (pos 0) in
+      let tests = and-eq-true-iff (inMarks own z) (insideFrom d b marks (nextColumn d column) (drop (i + 1) vectors)) .0 (rw (inside-next d b marks column vectors i more) at (at .inside)) in
+      let found : r ≡ regionOf own z = located-is (good-each d b marks column (at .begins-at .inside) (given .good)) (tests .0) (rw (part-is marks exact (at .begins-at) wide is) at located) in
+      record {
+        begins-at = goes-on marks exact (at .begins-at) wide is;
+        among = omega arith;
+        same = simp length-set (at .same);
+        inside = tests .1;
+        so-far = written-one regions i r _ _ (omega (arith, at .same)) (rw (found, ← regions-next d b marks column vectors i more) (at .so-far));
+      }
+
+  done : length vectors ≤ i → take (length vectors) regions ≡ vectorRegions d b marks vectors
+  unfolding regionsFrom
+  done past =
+      let all : i ≡ length vectors = omega (arith, at .among) in
+      rw (drop-of-length-le vectors past, append-nil, all) at (at .so-far)
+
+wide : (c : tie.After-column-bits Inv-loop μ-loop) → let at = c .before .before in Width (at .before .before .args .d) (at .before .before .args .b) (at .loop .column) (c .column-bits .result)
+wide c = width (c .before .before .before .before .pre .0 .shaped) (c .column-bits .ensures)
+
+-- the region in the column's marks, for the component that was read
+found : (c : tie.After-locate Inv-loop μ-loop) → let at = c .before .before .before .before .before in
+    Located (c .before .before .marks-at .result .now) (getD (at .before .before .args .vectors .now) (at .loop .i) (pos 0)) (c .locate .result)
+found c = rw (toZ-ofZ w32 _ (record { sfits = c .before .locate-arg .given })) at (c .locate .ensures)
+
+loop-holds : tie.Need-loop-holds Inv-loop μ-loop
+loop-holds c =
+    let start = c .before in
+    record { begins-at = begins (start .pre .0 .shaped); among = omega arith; same = refl; inside = start .pre .0 .inside; so-far = refl }
+
+cast-regions : tie.Need-cast-regions Inv-loop μ-loop
+cast-regions c =
+    let part = c .before .before in
+    let at = part .before .before .before in
+    omega (arith, found c .bound, part-few (at .before .before .args .marks .now) (at .before .before .pre .0 .exact) (at .loop .inv .begins-at) (wide (part .before)) (part .marks-at .ensures))
+
+slice-write-regions : tie.Need-slice-write-regions Inv-loop μ-loop
+slice-write-regions c =
+    let at = c .before .before .before .before .before in
+    omega (arith, at .before .before .pre .1, at .loop .inv .same)
+
+add-next-offset : tie.Need-add-next-offset Inv-loop μ-loop
+add-next-offset c =
+    let part = c .before .before .before in
+    let at = part .before .before .before in
+    let start = at .before .before in
+    omega (arith, part-within (start .args .marks .now) (start .pre .0 .exact) (at .loop .inv .begins-at) (wide (part .before)) (part .marks-at .ensures), start .good)
+
+loop-again : tie.Need-loop-again Inv-loop μ-loop
+loop-again c =
+    let locate = c .before .before in
+    let part = locate .before .before in
+    let at = part .before .before .before in
+    rw (c .next-offset .ensures, c .before .next-column .ensures)
+    (turn (at .before .before .pre .0) (at .before .before .pre .1) (at .loop .inv) (wide (part .before)) (part .marks-at .ensures) (part .before .before .loop-test .taken) (found locate))
+
+pub locate-all-spec : {M : Type 1} → statement M
+locate-all-spec =
+    tie.close
+    (tie.spec
+    Inv-loop
+    μ-loop
+    (λ c. c .before .pre .0 .shaped .some)
+    (λ c. c .before .pre .0 .shaped .some)
+    loop-holds
+    (λ c κs. fewest (c .before .before .before .pre .0 .shaped))
+    (λ c κs. search needs)
+    (λ c. search needs)
+    (λ c. search needs)
+    (λ c κs. search needs)
+    cast-regions
+    slice-write-regions
+    (λ c κs. c .before .before .before .before .before .loop .inv .begins-at .inside)
+    add-next-offset
+    (λ c κs. search needs)
+    (λ c. search needs)
+    (λ c. search needs)
+    loop-again
+    (λ c. c .before .loop .inv .same)
+    (λ c. done (c .before .before .before .pre .0) (c .before .before .before .pre .1) (c .before .loop .inv) (omega arith)))

@@ -1,0 +1,32 @@
+-- `check_bounds` meets its contract: the shape first. Assumes nothing.
+use mathlib.Core.Path.{sym, _∙_}
+use borrow.Author.Needs.{needs}
+use Rattle.refusal.specs.First.{outcome-accepted, outcome-refused, first-append}
+use Rattle.layout.specs.Stretch.{shapeCauses}
+use Rattle.bounds.specs.Bounded.{shapedBoundsCauses}
+use Rattle.bounds.proofs.cell.check_bounds.Statement.{statement}
+use Rattle.bounds.proofs.cell.check_bounds.Tie as tie
+
+returns : tie.Need-returns
+returns c =
+    let a = c .before .before .before .before .before .args in
+    c .check-shaped .ensures
+    ∙ sym (first-append (shapeCauses (a .d) (a .b)) (shapedBoundsCauses (a .d) (a .b) (a .n) (a .query .now) (a .marks .now) (a .codes .now) (a .i))
+    ∙ outcome-accepted _ _ (sym (c .before .before .before .check-shape .ensures) ∙ c .before .enum-told .given .1))
+
+returns-2 : tie.Need-returns-2
+returns-2 c =
+    let a = c .before .before .before .before .before .args in
+    sym (first-append (shapeCauses (a .d) (a .b)) (shapedBoundsCauses (a .d) (a .b) (a .n) (a .query .now) (a .marks .now) (a .codes .now) (a .i))
+    ∙ outcome-refused _ _ (sym (c .before .before .before .check-shape .ensures) ∙ c .before .cause .given .1))
+
+pub check-bounds-spec : {M : Type 1} → statement M
+check-bounds-spec =
+    tie.close
+    (tie.spec
+    (λ c κs. search needs)
+    (λ c. search needs)
+    (λ c κs. sym (c .before .before .check-shape .ensures) ∙ c .enum-told .given .1)
+    (λ c. search needs)
+    returns
+    returns-2)

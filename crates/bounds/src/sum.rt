@@ -1,0 +1,70 @@
+// The bounds of codes, as sums of a table's entries.
+use crate::waiting::begin;
+use crate::waiting::take;
+ghost use mathlib.Core.Path.{_≡_};
+ghost use Prim.Native.Nat.{_+_, _*_, _%_, _^_, _≤_, _<_};
+ghost use lib.ListN.{length};
+ghost use Rattle.refusal.specs.declared.Verdict.the-variants.{Accepted};
+ghost use Rattle.refusal.specs.First.{first};
+ghost use Rattle.limits.specs.Limits.{maxDimensions, maxVectors};
+ghost use Rattle.layout.specs.Layout.{firstMarks};
+ghost use Rattle.layout.specs.Stretch.{shapeCauses};
+ghost use Rattle.distance.specs.Table.{boundSum};
+ghost use Rattle.distance.specs.Values.{valuesFrom};
+ghost use Rattle.bounds.specs.Run.{runSum};
+
+// The bounds of the first codes, as many as there is room for.
+pub fn sum_bounds(d: usize, b: usize, table: &[u64], codes: &[u8], bounds: &mut [u64])
+    requires { ⌜ (first (shapeCauses d b) ≡ Accepted) × (length (now table) ≡ firstMarks d b d) × (length (now bounds) ≤ maxVectors) ⌝ }
+    ensures { λ _. ⌜ now (bounds .exit) ≡ valuesFrom (boundSum d b (now (table .entry)) (now (codes .entry))) 0 (length (now (bounds .entry))) ⌝ }
+{
+    let mut i = 0;
+    while i < bounds.len() {
+        bounds[i] = code_bound(d, b, table, codes, i);
+        i += 1;
+    }
+}
+
+// The bound of code i: the sum of the entries of the regions that it names, those of the dimensions with one bit more, and those of the
+// others.
+pub fn code_bound(d: usize, b: usize, table: &[u64], codes: &[u8], i: usize) -> u64
+    requires { ⌜ (first (shapeCauses d b) ≡ Accepted) × (length (now table) ≡ firstMarks d b d) × (i < maxVectors) ⌝ }
+    ensures { λ r. ⌜ r ≡ boundSum d b (now (table .entry)) (now (codes .entry)) i ⌝ }
+{
+    let fewest = b / d;
+    let more = b % d;
+    let wide = fewest + 1;
+    let bit = i * b;
+    let start = more * ((1usize << wide) + 1);
+    let sum = sum_run(table, codes, wide, bit, 0, more);
+    let rest = sum_run(table, codes, fewest, bit + more * wide, start, d - more);
+    std::num::wrapping_add_u64(sum, rest)
+}
+
+// The sum of the entries of so many dimensions of w bits, whose regions' numbers begin at a bit of the codes, and whose entries at a
+// place of the table.
+fn sum_run(
+    table: &[u64],
+    codes: &[u8],
+    w: usize,
+    first_bit: usize,
+    first_start: usize,
+    count: usize,
+) -> u64
+    requires { ⌜ (w ≤ 7) × («first_bit» ≤ 2 ^ 32) × (count ≤ maxDimensions) × («first_start» + count * (2 ^ w + 1) ≤ length (now table)) ⌝ }
+    ensures { λ r. ⌜ r ≡ runSum (now (table .entry)) (now (codes .entry)) w «first_bit» «first_start» count % 2 ^ 64 ⌝ }
+{
+    let mask = (1usize << w) - 1;
+    let mut waiting = begin(codes, first_bit);
+    let mut start = first_start;
+    let mut sum = 0;
+    let mut t = 0;
+    while t < count {
+        waiting = take(codes, waiting, w);
+        let region = (waiting.bits >> waiting.count) & mask;
+        sum = std::num::wrapping_add_u64(sum, table[start + region]);
+        start += mask + 2;
+        t += 1;
+    }
+    sum
+}

@@ -1,0 +1,45 @@
+// Bits of codes, taken in turn.
+use codes::bits::bits_at;
+ghost use Prim.Native.Nat.{_-_, _*_, _^_, _≤_};
+ghost use Rattle.bounds.specs.Waiting.{Waits, Taken};
+
+// Bits that were read and not yet taken: the last `count` of `bits`. The next to be read is byte `next`.
+pub struct Waiting {
+    pub bits: usize,
+    pub count: usize,
+    pub next: usize,
+}
+
+// The bits from a place to the end of its byte.
+pub fn begin(codes: &[u8], from: usize) -> Waiting
+    ensures { λ r. ⌜ Waits (now (codes .entry)) from (r .bits) (r .count) (r .next) ⌝ }
+{
+    let count = 8 - from % 8;
+    Waiting {
+        bits: bits_at(codes, from, count),
+        count,
+        next: from / 8 + 1,
+    }
+}
+
+// The same without the first w, which then stand in front of the last `count` of `bits`.
+pub fn take(codes: &[u8], waiting: Waiting, w: usize) -> Waiting
+    requires { ⌜ (Waits (now codes) (waiting .next * 8 - waiting .count) (waiting .bits) (waiting .count) (waiting .next))
+        × (waiting .next ≤ 2 ^ 32) × (w ≤ 7) ⌝ }
+    ensures { λ r. ⌜ Taken (now (codes .entry)) w (waiting .next * 8 - waiting .count) (r .bits) (r .count) (r .next) ⌝ }
+{
+    let count = waiting.count;
+    let next = waiting.next;
+    if count < w {
+        return Waiting {
+            bits: waiting.bits % 256 * 256 + bits_at(codes, next * 8, 8),
+            count: count + 8 - w,
+            next: next + 1,
+        };
+    }
+    Waiting {
+        bits: waiting.bits,
+        count: count - w,
+        next,
+    }
+}

@@ -1,0 +1,4 @@
+-- What the proofs of several functions use.
+pub mod Answers
+pub mod Columns
+mod Writing

@@ -1,0 +1,21 @@
+-- `next_column` meets its contract. Assumes nothing.
+use Prim.Native.Nat.{suc}
+use native.Mathlib.Numerals.{add-one}
+use native.Mathlib.Omega.{arith}
+use borrow.Author.Needs.{needs}
+use borrow.Author.Tests.{eq-eqb, ne-eqb}
+use Rattle.codes.proofs.next_column.Statement.{statement}
+use Rattle.codes.proofs.next_column.Tie as tie
+
+returns : tie.Need-returns
+returns c =
+    let args = c .before .args in
+    rw (eq-eqb (suc (args .column)) (args .d) (omega arith))
+
+returns-2 : tie.Need-returns-2
+returns-2 c =
+    let args = c .before .args in
+    rw (ne-eqb (suc (args .column)) (args .d) (omega arith), add-one)
+
+pub next-column-spec : {M : Type 1} → statement M
+next-column-spec = tie.close (tie.spec (λ c. search needs) (λ c. search needs) returns returns-2)

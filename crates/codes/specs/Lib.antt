@@ -1,0 +1,5 @@
+pub mod Bits
+pub mod BitLaws
+pub mod Codes
+pub mod PackLaws
+pub mod Pack

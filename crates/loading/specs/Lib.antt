@@ -1,0 +1,7 @@
+pub mod Load
+pub mod Loaded
+pub mod Loadable
+pub mod Heads
+pub mod Filled
+pub mod ReadLaws
+pub mod Checks

@@ -1,0 +1,34 @@
+-- Ranking the values of a function ranks the numbers by the function. Assumes nothing.
+use mathlib.Core.Path.{_≡_, refl, ap}
+use mathlib.Core.List.{List, [], _∷_, List·Memᴰ·head, List·Memᴰ·tail}
+use Prim.Native.Nat.{ℕ}
+use native.Mathlib.Omega.{arith}
+use Rattle.order.specs.Pair.{countFrom, keyed, ranked, numbersOf}
+use Rattle.order.specs.Counted.{counted}
+use Rattle.order.specs.Rank.{keyAt, ranking}
+use Rattle.selection.specs.Reading.{scan}
+use Rattle.selection.specs.Settles.{Agree}
+use Rattle.distance.specs.Values.{valuesFrom, values-length, value-at}
+
+-- keys that agree at the numbers rank them alike
+keyed-agree : (key other : ℕ → ℕ) (is : List ℕ) → Agree is other key → keyed other is ≡ keyed key is
+unfolding keyed
+keyed-agree key other [] agree = refl
+keyed-agree key other (i ∷ is) agree =
+    rw (agree i (List·Memᴰ·head refl), keyed-agree key other is (λ j m. agree j (List·Memᴰ·tail m)))
+
+pub ranked-agree : (key other : ℕ → ℕ) (is : List ℕ) → Agree is other key → ranked other is ≡ ranked key is
+unfolding ranked
+ranked-agree key other is agree = rw (keyed-agree key other is agree)
+
+pub scan-agree : (k : ℕ) (distance other : ℕ → ℕ) (is : List ℕ) → Agree is other distance → scan k other is ≡ scan k distance is
+unfolding scan
+scan-agree k distance other is agree = rw (ranked-agree distance other is agree)
+
+-- so ranking the values ranks the numbers by the function
+pub values-ranked : (f : ℕ → ℕ) (n : ℕ) → ranked (keyAt (valuesFrom f 0 n)) (countFrom 0 n) ≡ ranked f (countFrom 0 n)
+values-ranked f n = ranked-agree f (keyAt (valuesFrom f 0 n)) (countFrom 0 n) (λ i m. value-at f n i (omega (arith, (counted 0 n m) .below)))
+
+pub values-ranking : (f : ℕ → ℕ) (n : ℕ) → ranking (valuesFrom f 0 n) ≡ numbersOf (ranked f (countFrom 0 n))
+unfolding ranking
+values-ranking f n = rw (values-length f 0 n) (ap numbersOf (values-ranked f n))

@@ -1,0 +1,118 @@
+// Whether a library can be written.
+use library::ends_of;
+use library::library_length;
+use refusal::Refusal;
+use refusal::Verdict;
+ghost use mathlib.Core.Path.{_≡_};
+ghost use mathlib.Core.Bool.{true};
+ghost use mathlib.Core.List.{[]};
+ghost use Prim.Native.Nat.{_+_, _*_, _^_, _<_};
+ghost use lib.IntN.{pos};
+ghost use lib.ListN.{getD};
+ghost use Rattle.refusal.specs.declared.Verdict.the-variants.{Accepted};
+ghost use Rattle.refusal.specs.First.{first};
+ghost use Rattle.layout.specs.Stretch.{shapeCauses};
+ghost use Rattle.library.specs.Each.{every};
+ghost use Rattle.library.specs.Library.{libraryWith};
+ghost use Rattle.library.specs.Tests.{inside};
+ghost use Rattle.writing.specs.Sized.{Dimensioned, Sized};
+ghost use Rattle.writing.specs.Write.{valueCauses, shapedCauses, writeCauses};
+
+// Whether a library can be written to so many bytes.
+pub(crate) fn check_library(
+    d: usize,
+    b: usize,
+    n: usize,
+    marks: &[i32],
+    settings: &[u32],
+    components: &[i32],
+    room: usize,
+) -> Verdict
+    ensures { λ r. ⌜ r ≡ first (writeCauses (libraryWith d b n (now (marks .entry)) (now (settings .entry)) (now (components .entry))) room) ⌝ }
+{
+    match layout::check_shape(d, b) {
+        Verdict::Accepted => check_shaped(d, b, n, marks, settings, components, room),
+        Verdict::Refused(cause) => Verdict::Refused(cause),
+    }
+}
+
+fn check_shaped(
+    d: usize,
+    b: usize,
+    n: usize,
+    marks: &[i32],
+    settings: &[u32],
+    components: &[i32],
+    room: usize,
+) -> Verdict
+    requires { ⌜ first (shapeCauses d b) ≡ Accepted ⌝ }
+    ensures { λ r. ⌜ r ≡ first (shapedCauses (libraryWith d b n (now (marks .entry)) (now (settings .entry)) (now (components .entry))) room) ⌝ }
+{
+    if !limits::is_vector_count(n) {
+        return Verdict::Refused(Refusal::Count);
+    }
+    if marks.len() != layout::marks_length(d, b) {
+        return Verdict::Refused(Refusal::Length);
+    }
+    if settings.len() != n {
+        return Verdict::Refused(Refusal::Length);
+    }
+    if components.len() != n * d {
+        return Verdict::Refused(Refusal::Length);
+    }
+    if room != library_length(d, b, n) {
+        return Verdict::Refused(Refusal::Length);
+    }
+    check_values(d, b, n, marks, components)
+}
+
+// The components, the marks, and each vector against the marks.
+fn check_values(d: usize, b: usize, n: usize, marks: &[i32], components: &[i32]) -> Verdict
+    requires { ⌜ Sized d b n (now marks) (now components) ⌝ }
+    ensures { λ r. ⌜ r ≡ first (valueCauses (libraryWith d b n (now (marks .entry)) [] (now (components .entry)))) ⌝ }
+{
+    if !whole::components::are_components(components) {
+        return Verdict::Refused(Refusal::Component);
+    }
+    let Verdict::Accepted = partition::marks::check_marks(d, b, marks) else {
+        return Verdict::Refused(Refusal::Mark);
+    };
+    if !all_inside(d, b, n, marks, components) {
+        return Verdict::Refused(Refusal::Outside);
+    }
+    Verdict::Accepted
+}
+
+// Whether every vector lies inside the marks.
+fn all_inside(d: usize, b: usize, n: usize, marks: &[i32], components: &[i32]) -> bool
+    requires { ⌜ Sized d b n (now marks) (now components) ⌝ }
+    ensures { λ r. ⌜ r ≡ every n (λ i. inside d b (now (marks .entry)) (λ t. getD (now (components .entry)) (i * d + t) (pos 0))) ⌝ }
+{
+    let mut i = 0;
+    while i < n {
+        if !is_inside(d, b, marks, components, i * d) {
+            return false;
+        }
+        i += 1;
+    }
+    true
+}
+
+// Whether the d components from an index on lie, each, inside the marks of their dimension.
+fn is_inside(d: usize, b: usize, marks: &[i32], components: &[i32], from: usize) -> bool
+    requires { ⌜ (Dimensioned d b (now marks)) × (from < 2 ^ 32) ⌝ }
+    ensures { λ r. ⌜ r ≡ inside d b (now (marks .entry)) (λ t. getD (now (components .entry)) (from + t) (pos 0)) ⌝ }
+{
+    let mut t = 0;
+    while t < d {
+        let ends = ends_of(d, b, t);
+        if !whole::compare::at_most(marks, ends.first, components, from + t) {
+            return false;
+        }
+        if !whole::compare::is_below(components, from + t, marks, ends.last) {
+            return false;
+        }
+        t += 1;
+    }
+    true
+}
