@@ -17,7 +17,7 @@ use Rattle.selection.specs.Reading.{scan, unread, leastPair, goesOn, readNext, 
 use Rattle.layout.specs.Layout.{bitsOf, firstBits, firstMarks}
 use Rattle.partition.specs.Marks.{dimensionMarks}
 use Rattle.partition.specs.Region.{regionOf}
-use Rattle.partition.specs.Made.{column, inOrder, madeDimension, madeFirst, madeMarks}
+use Rattle.marking.specs.Made.{column, inOrder, madeDimension, madeFirst, madeMarks}
 use Rattle.codes.specs.Bits.{lowBits, fromBits, bytesOf, byteBits}
 use Rattle.codes.specs.Codes.{joined, packed, codeRegion}
 use Rattle.approximation.specs.Vectors.{regionsFrom, vectorCodes}

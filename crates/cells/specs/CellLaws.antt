@@ -1,8 +1,9 @@
 -- A code's cell by the marks buffer's own places. Assumes nothing.
-use mathlib.Core.Path.{_≡_, ap₂, ap, _∙_}
-use mathlib.Core.Bool.{_&&_}
+use mathlib.Core.Path.{_≡_, refl, ap₂, ap, _∙_}
+use mathlib.Core.Bool.{Bool, true, _&&_}
 use mathlib.Core.List.{List}
-use Prim.Native.Nat.{ℕ, suc, _+_, _≤_}
+use Prim.Native.Nat.{ℕ, zero, suc, _+_, _≤_}
+use native.Mathlib.Nat.{zero-add}
 use native.Mathlib.Omega.{arith}
 use lib.IntN.{ℤ, pos}
 use lib.Signed.{leZ, ltZ}
@@ -17,17 +18,18 @@ use Rattle.partition.specs.Region.{inRegion}
 use Rattle.partition.specs.Parts.{part-at}
 use Rattle.codes.specs.Codes.{codeLength, codeRegion}
 use Rattle.codes.specs.PackLaws.{code-region-fits}
-use Rattle.cells.specs.Cells.{hasValue}
-
--- the place of the lower mark of the region that code i names for dimension t + 1
-abbrev pub markPlace : ℕ → ℕ → List ℕ → ℕ → ℕ → ℕ
-markPlace d b codes i t = firstMarks d b t + codeRegion d b codes i t
+use Rattle.cells.specs.Cells.{inFirst, hasValue, noneEmpty}
+use Rattle.cells.specs.Places.{markPlace, markPlaces, place-at}
 
 -- what is known where only the codes are left to test
 pub record Named (d b n : ℕ) (codes : List ℕ) : Type 0 where
   pub shaped : first (shapeCauses d b) ≡ Accepted
   pub few : n ≤ maxVectors
   pub bytes : length codes ≡ codeLength b n
+
+-- whether a number lies between the mark at a place, which may be equal, and the next
+unfoldable pub between : List ℤ → ℕ → ℤ → Bool
+between marks at v = leZ (getD marks at (pos 0)) v && ltZ v (getD marks (at + 1) (pos 0))
 
 module _ (d b : ℕ) (marks : List ℤ) (codes : List ℕ) (i t : ℕ) where
   lower-at : getD (dimensionMarks d b marks (suc t)) (codeRegion d b codes i t) (pos 0) ≡ getD marks (markPlace d b codes i t) (pos 0)
@@ -40,12 +42,36 @@ module _ (d b : ℕ) (marks : List ℤ) (codes : List ℕ) (i t : ℕ) where
       ∙ ap (λ (n : ℕ). getD marks n (pos 0)) next
 
   -- a value of the region, and whether there is one
-  pub region-test : (v : ℤ) → inRegion (dimensionMarks d b marks (suc t)) (codeRegion d b codes i t) v
-      ≡ leZ (getD marks (markPlace d b codes i t) (pos 0)) v && ltZ v (getD marks (markPlace d b codes i t + 1) (pos 0))
-  unfolding inRegion
+  region-test : (v : ℤ) → inRegion (dimensionMarks d b marks (suc t)) (codeRegion d b codes i t) v ≡ between marks (markPlace d b codes i t) v
+  unfolding inRegion between
   region-test v = ap₂ (λ (low high : ℤ). leZ low v && ltZ v high) lower-at upper-at
 
   pub value-test : hasValue (dimensionMarks d b marks (suc t)) (codeRegion d b codes i t)
       ≡ ltZ (getD marks (markPlace d b codes i t) (pos 0)) (getD marks (markPlace d b codes i t + 1) (pos 0))
   unfolding hasValue
   value-test = ap₂ ltZ lower-at upper-at
+
+-- ---- the tests at places
+
+-- whether each of the first t components lies between the mark at its place and the next
+unfoldable pub allBetween : List ℤ → List ℕ → List ℤ → ℕ → Bool
+allBetween marks places vector zero = true
+allBetween marks places vector (suc t) = allBetween marks places vector t && between marks (getD places t 0) (getD vector t (pos 0))
+
+-- whether the mark at each of the first t places is below the next
+unfoldable pub riseAt : List ℤ → List ℕ → ℕ → Bool
+riseAt marks places zero = true
+riseAt marks places (suc t) = riseAt marks places t && ltZ (getD marks (getD places t 0) (pos 0)) (getD marks (getD places t 0 + 1) (pos 0))
+
+-- at a code's places they are the tests of its cell
+module _ (d b : ℕ) (marks : List ℤ) (codes : List ℕ) (i : ℕ) where
+  pub between-in : (vector : List ℤ) (t : ℕ) → t ≤ d → allBetween marks (markPlaces d b codes i) vector t ≡ inFirst d b marks codes i vector t
+  unfolding allBetween inFirst
+  between-in vector zero within = refl
+  between-in vector (suc t) within =
+      rw (between-in vector t (omega arith), place-at d b codes i 0 d t within, zero-add t, region-test d b marks codes i t (getD vector t (pos 0)))
+
+  pub rise-none : (t : ℕ) → t ≤ d → riseAt marks (markPlaces d b codes i) t ≡ noneEmpty d b marks codes i t
+  unfolding riseAt noneEmpty
+  rise-none zero within = refl
+  rise-none (suc t) within = rw (rise-none t (omega arith), place-at d b codes i 0 d t within, zero-add t, value-test d b marks codes i t)

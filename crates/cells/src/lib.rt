@@ -1,9 +1,11 @@
 // The cells that codes name.
+mod places;
 mod rising;
 
+use crate::places::mark_places;
 use crate::rising::all_rise;
 use codes::bits::bits_at;
-use codes::code_region;
+use limits::MAX_DIMENSIONS;
 use limits::MAX_VECTORS;
 use refusal::Refusal;
 use refusal::Verdict;
@@ -11,21 +13,20 @@ use whole::compare::at_most;
 use whole::compare::is_below;
 ghost use mathlib.Core.Path.{_≡_};
 ghost use mathlib.Core.Bool.{_&&_};
-ghost use Prim.Native.Nat.{suc, _≤_, _<_};
+ghost use Prim.Native.Nat.{_≤_, _<_};
 ghost use lib.IntN.{pos};
 ghost use lib.Dec.{eqb};
-ghost use lib.ListN.{getD};
+ghost use lib.ListN.{length, getD};
 ghost use Rattle.refusal.specs.declared.Verdict.the-variants.{Accepted};
 ghost use Rattle.refusal.specs.First.{first};
 ghost use Rattle.limits.specs.Limits.{maxVectors};
 ghost use Rattle.layout.specs.Layout.{firstMarks};
 ghost use Rattle.layout.specs.Stretch.{shapeCauses};
-ghost use Rattle.partition.specs.Marks.{dimensionMarks};
-ghost use Rattle.partition.specs.Region.{inRegion};
-ghost use Rattle.codes.specs.Codes.{codeLength, codeRegion};
-ghost use Rattle.cells.specs.Cells.{inFirst, hasValue, noneEmpty, noEmptyCodes};
+ghost use Rattle.codes.specs.Codes.{codeLength};
+ghost use Rattle.cells.specs.Cells.{inFirst, noneEmpty, noEmptyCodes};
 ghost use Rattle.cells.specs.CellCauses.{cellHolds, namedCauses, shapedCodeCauses, codeCauses};
-ghost use Rattle.cells.specs.CellLaws.{markPlace, Named};
+ghost use Rattle.cells.specs.Places.{Small};
+ghost use Rattle.cells.specs.CellLaws.{between, allBetween, riseAt, Named};
 
 // Whether a vector lies in code i's cell.
 pub fn in_cell(d: usize, b: usize, marks: &[i32], codes: &[u8], i: usize, vector: &[i32]) -> bool
@@ -47,14 +48,32 @@ fn all_in_regions(d: usize, b: usize, marks: &[i32], codes: &[u8], i: usize, vec
     requires { ⌜ (first (shapeCauses d b) ≡ Accepted) × (i < maxVectors) ⌝ }
     ensures { λ r. ⌜ r ≡ inFirst d b (now (marks .entry)) (now (codes .entry)) i (now (vector .entry)) d ⌝ }
 {
+    let mut places = [0usize; MAX_DIMENSIONS];
+    mark_places(d, b, codes, i, &mut places);
+    all_between(marks, &places[..d], vector)
+}
+
+// Whether each component lies between the mark at its place, which may be equal, and the next one.
+fn all_between(marks: &[i32], places: &[usize], vector: &[i32]) -> bool
+    requires { ⌜ Small (now places) ⌝ }
+    ensures { λ r. ⌜ r ≡ allBetween (now (marks .entry)) (now (places .entry)) (now (vector .entry)) (length (now (places .entry))) ⌝ }
+{
     let mut t = 0;
-    while t < d {
-        if !in_region(d, b, marks, codes, i, vector, t) {
+    while t < places.len() {
+        if !is_between(marks, places[t], vector, t) {
             return false;
         }
         t += 1;
     }
     true
+}
+
+// Whether component t does.
+fn is_between(marks: &[i32], at: usize, vector: &[i32], t: usize) -> bool
+    requires { ⌜ at ≤ 4096 ⌝ }
+    ensures { λ r. ⌜ r ≡ between (now (marks .entry)) at (getD (now (vector .entry)) t (pos 0)) ⌝ }
+{
+    at_most(marks, at, vector, t) && is_below(vector, t, marks, at + 1)
 }
 
 // Whether no code names an empty region and no spare bit is set, for codes and marks of the right lengths.
@@ -136,48 +155,23 @@ fn none_empty(d: usize, b: usize, marks: &[i32], codes: &[u8], i: usize) -> bool
     requires { ⌜ (first (shapeCauses d b) ≡ Accepted) × (i < maxVectors) ⌝ }
     ensures { λ r. ⌜ r ≡ noneEmpty d b (now (marks .entry)) (now (codes .entry)) i d ⌝ }
 {
+    let mut places = [0usize; MAX_DIMENSIONS];
+    mark_places(d, b, codes, i, &mut places);
+    rise_at(marks, &places[..d])
+}
+
+// Whether the mark at each of these places is below the next one.
+fn rise_at(marks: &[i32], places: &[usize]) -> bool
+    requires { ⌜ Small (now places) ⌝ }
+    ensures { λ r. ⌜ r ≡ riseAt (now (marks .entry)) (now (places .entry)) (length (now (places .entry))) ⌝ }
+{
     let mut t = 0;
-    while t < d {
-        if !has_value(d, b, marks, codes, i, t) {
+    while t < places.len() {
+        let at = places[t];
+        if !is_below(marks, at, marks, at + 1) {
             return false;
         }
         t += 1;
     }
     true
-}
-
-// Whether the component of dimension t + 1 lies in the region that code i names for it.
-fn in_region(
-    d: usize,
-    b: usize,
-    marks: &[i32],
-    codes: &[u8],
-    i: usize,
-    vector: &[i32],
-    t: usize,
-) -> bool
-    requires { ⌜ (first (shapeCauses d b) ≡ Accepted) × (t < d) × (i < maxVectors) ⌝ }
-    ensures { λ r. ⌜ r ≡ inRegion (dimensionMarks d b (now (marks .entry)) (suc t)) (codeRegion d b (now (codes .entry)) i t)
-        (getD (now (vector .entry)) t (pos 0)) ⌝ }
-{
-    let at = lower_mark(d, b, codes, i, t);
-    at_most(marks, at, vector, t) && is_below(vector, t, marks, at + 1)
-}
-
-// Whether that region has a value.
-fn has_value(d: usize, b: usize, marks: &[i32], codes: &[u8], i: usize, t: usize) -> bool
-    requires { ⌜ (first (shapeCauses d b) ≡ Accepted) × (t < d) × (i < maxVectors) ⌝ }
-    ensures { λ r. ⌜ r ≡ hasValue (dimensionMarks d b (now (marks .entry)) (suc t)) (codeRegion d b (now (codes .entry)) i t) ⌝ }
-{
-    let at = lower_mark(d, b, codes, i, t);
-    is_below(marks, at, marks, at + 1)
-}
-
-// Where the lower mark of the region that code i names for dimension t + 1 stands in the marks buffer.
-fn lower_mark(d: usize, b: usize, codes: &[u8], i: usize, t: usize) -> usize
-    requires { ⌜ (first (shapeCauses d b) ≡ Accepted) × (t < d) × (i < maxVectors) ⌝ }
-    ensures { λ r. ⌜ (r ≡ markPlace d b (now (codes .entry)) i t) × (r ≤ 4096) ⌝ }
-{
-    let stretch = layout::stretch_of(d, b, t + 1);
-    stretch.offset + code_region(d, b, codes, i, t + 1)
 }

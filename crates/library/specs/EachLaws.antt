@@ -1,10 +1,10 @@
 -- Laws of lists by number. Assumes nothing.
 use mathlib.Core.Path.{_≡_, refl, sym, ap, _∙_}
 use mathlib.Core.Logic.{_⊎_, inl, inr}
-use mathlib.Core.Bool.{Bool, true, false, and-eq-true-iff}
+use mathlib.Core.Bool.{Bool, true, false, _&&_, and-eq-true-iff}
 use mathlib.Core.List.{List, [], _∷_, _++_, append-assoc, append-nil}
 use Prim.Native.Nat.{ℕ, zero, suc, _+_, _*_, _≤_, _<_}
-use native.Mathlib.Nat.{zero-mul, suc-mul, mul-one, eq-or-lt-of-le, le-of-suc-le-suc, add-zero}
+use native.Mathlib.Nat.{zero-mul, suc-mul, mul-one, eq-or-lt-of-le, le-of-suc-le-suc, add-zero, add-suc}
 use native.Mathlib.Numerals.{add-one}
 use native.Mathlib.Omega.{arith}
 use lib.ListN.{length, getD, take, drop, set, length-append, List·getD-eq-default}
@@ -29,6 +29,11 @@ module _ {A : Type 0} where
   unfolding each
   each-length size zero f sized = sym (zero-mul size)
   each-length size (suc n) f sized = rw (length-append (each n f) (f n), each-length size n f sized, sized n, suc-mul n size)
+
+  pub each-add : (k n : ℕ) (f : ℕ → List A) → each (k + n) f ≡ each k f ++ each n (λ i. f (k + i))
+  unfolding each
+  each-add k zero f = rw (add-zero, append-nil)
+  each-add k (suc n) f = rw (add-suc k n, each-add k n f) (append-assoc (each k f) (each n (λ i. f (k + i))) (f (k + n)))
 
   -- one more list, where they are written one behind the other
   pub each-grows : {so-far next : List A} (front : List A) (i : ℕ) (f : ℕ → List A) → so-far ≡ front ++ each i f → next ≡ so-far ++ f i → next ≡ front ++ each (i + 1) f
@@ -116,6 +121,16 @@ every-fails n test i h fails = go (every n test) refl
     go : (all : Bool) → every n test ≡ all → all ≡ false
     go true e = sym (every-at n test e i h) ∙ fails
     go false e = refl
+
+pub every-same : (n : ℕ) (test other : ℕ → Bool) → ((i : ℕ) → i < n → test i ≡ other i) → every n test ≡ every n other
+unfolding every
+every-same zero test other same = refl
+every-same (suc n) test other same = rw (every-same n test other (λ i h. same i (omega arith)), same n (omega arith))
+
+-- one more test, whether those before it hold or not
+pub every-next : (i : ℕ) (test : ℕ → Bool) → every (i + 1) test ≡ every i test && test i
+unfolding every
+every-next i test = rw add-one
 
 pub every-more : (i : ℕ) (test : ℕ → Bool) → every i test ≡ true → test i ≡ true → every (i + 1) test ≡ true
 unfolding every

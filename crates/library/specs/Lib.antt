@@ -4,3 +4,4 @@ pub mod Library
 pub mod Tests
 pub mod MarkLaws
 pub mod Sizes
+pub mod Ends

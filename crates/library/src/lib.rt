@@ -13,6 +13,7 @@ ghost use Rattle.layout.specs.Stretch.{shapeCauses};
 ghost use Rattle.library.specs.Library.{markPlace, vectorPlace, libraryLength};
 ghost use Rattle.library.specs.Tests.{countsCauses};
 ghost use Rattle.library.specs.Sizes.{Small, EndsAt};
+ghost use Rattle.library.specs.Ends.{lies};
 
 // Whether the counts of a library are within the limits.
 pub fn check_counts(d: usize, b: usize, n: usize) -> Verdict
@@ -70,4 +71,11 @@ pub fn ends_of(d: usize, b: usize, t: usize) -> Ends
         first,
         last: first + (1usize << stretch.bits),
     }
+}
+
+// Whether a number is at least `low` and below `high`.
+pub fn lies(low: i32, z: i32, high: i32) -> bool
+    ensures { λ r. ⌜ r ≡ lies low z high ⌝ }
+{
+    low <= z && z < high
 }

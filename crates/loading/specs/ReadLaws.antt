@@ -9,7 +9,7 @@ use lib.IntN.{ℤ, pos, negsuc}
 use lib.Signed.{mag}
 use lib.ListN.{length, getD, take, drop, replicate, length-replicate, getD-replicate}
 use lib.Seq.{getD-drop, drop-drop}
-use mir.Syntax.{w16, w32}
+use mir.Syntax.{w32}
 use mir.Val.{toZ, sel}
 use mir.ValLaws.{toZ-fits}
 use Rattle.limits.specs.Limits.{maxDimensions}
@@ -17,7 +17,7 @@ use Rattle.records.specs.Bytes.{fromLowFirst, AreBytes}
 use Rattle.records.specs.ByteLaws.{bytes-drop}
 use Rattle.records.specs.Records.{headKind, markKind, vectorKind, widthsOf, sum, valueOf}
 use Rattle.records.specs.RecordLaws.{value-at, value-below, head-widths, mark-widths, vector-widths}
-use Rattle.library.specs.Library.{markPlace, headValue, markAt, settingsAt, storedAt, vectorPlace}
+use Rattle.library.specs.Library.{markPlace, headValue, markAt, settingsAt, vectorPlace}
 
 -- ---- places
 
@@ -81,9 +81,3 @@ module _ (bytes : List ℕ) (are : AreBytes bytes) where
       let within : suc t < length (widthsOf vectorKind) = rw vector-widths (omega (arith, length-replicate {A = ℕ} maxDimensions 2)) in
       let two : getD (widthsOf vectorKind) (suc t) 0 ≡ 2 = rw vector-widths (getD-replicate {A = ℕ} maxDimensions t 2 0 few) in
       rw two at (value-below vectorKind (suc t) rest (bytes-drop at bytes are) within)
-
-  pub component-fits : (at t : ℕ) → t < maxDimensions → mag (storedAt (drop at bytes) t) < 2 ^ 31
-  unfolding storedAt
-  component-fits at t few =
-      let small = toZ-fits w16 (valueOf vectorKind (suc t) (drop at bytes)) (record { fits = component-below at t few }) .sfits in
-      omega arith

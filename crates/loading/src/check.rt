@@ -1,10 +1,12 @@
 // The causes for which a library is not loaded, left to right through its bytes.
+use crate::values::component_at;
 use crate::values::component_bits;
-use crate::values::component_key;
 use crate::values::counts_of;
+use crate::values::mark_at;
 use crate::values::mark_key;
 use library::check_counts;
 use library::ends_of;
+use library::lies;
 use library::mark_place;
 use library::vector_place;
 use limits::GREATEST_MARK;
@@ -21,47 +23,35 @@ use refusal::Verdict;
 ghost use mathlib.Core.Path.{_≡_};
 ghost use mathlib.Core.List.{_++_};
 ghost use Prim.Native.Nat.{_+_, _^_, _≤_, _<_};
-ghost use lib.ListN.{drop};
+ghost use lib.ListN.{length, drop};
 ghost use Rattle.refusal.specs.declared.Verdict.the-variants.{Accepted};
 ghost use Rattle.refusal.specs.First.{first};
 ghost use Rattle.layout.specs.Stretch.{shapeCauses};
+ghost use Rattle.records.specs.Records.{vectorKind, recordLength};
 ghost use Rattle.library.specs.Each.{each, tabulate};
-ghost use Rattle.library.specs.Library.{markTotal, markAt, storedAt, readLibrary};
+ghost use Rattle.library.specs.Library.{vectorPlace, markAt, storedAt, readLibrary};
+ghost use Rattle.library.specs.Ends.{between, firstMark, lastMark};
 ghost use Rattle.library.specs.Tests.{inside};
-ghost use Rattle.loading.specs.Load.{headCauses, markWrong, markCauses, zeroBeyond, componentsCauses, vectorCauses, marksCauses, vectorsCauses, endCauses, recordsCauses};
-ghost use Rattle.loading.specs.Heads.{ShapeOf};
+ghost use Rattle.loading.specs.Load.{headCauses, markWrong, markCauses, zeroBeyond, marksCauses, vectorsCauses, endCauses, recordsCauses};
+ghost use Rattle.loading.specs.Checks.{Room, ownCauses, betweenCauses};
 
 // The records of a library.
 pub(crate) fn check_records(bytes: &[u8]) -> Verdict
     ensures { λ r. ⌜ r ≡ first (recordsCauses (readLibrary (now (bytes .entry))) (now (bytes .entry))) ⌝ }
 {
-    match check_to_vectors(bytes) {
-        Verdict::Accepted => check_end(bytes),
-        Verdict::Refused(cause) => Verdict::Refused(cause),
-    }
-}
-
-// Its records up to the last vector.
-fn check_to_vectors(bytes: &[u8]) -> Verdict
-    ensures { λ r. ⌜ r ≡ first (headCauses (readLibrary (now (bytes .entry))) (now (bytes .entry))
-        ++ marksCauses (readLibrary (now (bytes .entry))) (now (bytes .entry))
-        ++ vectorsCauses (readLibrary (now (bytes .entry))) (now (bytes .entry))) ⌝ }
-{
-    match check_to_marks(bytes) {
-        Verdict::Accepted => check_vectors(bytes),
-        Verdict::Refused(cause) => Verdict::Refused(cause),
-    }
-}
-
-// Its records up to the last mark.
-fn check_to_marks(bytes: &[u8]) -> Verdict
-    ensures { λ r. ⌜ r ≡ first (headCauses (readLibrary (now (bytes .entry))) (now (bytes .entry))
-        ++ marksCauses (readLibrary (now (bytes .entry))) (now (bytes .entry))) ⌝ }
-{
-    match check_head(bytes) {
-        Verdict::Accepted => check_marks(bytes),
-        Verdict::Refused(cause) => Verdict::Refused(cause),
-    }
+    let head = check_head(bytes);
+    let Verdict::Accepted = head else {
+        return head;
+    };
+    let marks = check_marks(bytes);
+    let Verdict::Accepted = marks else {
+        return marks;
+    };
+    let vectors = check_vectors(bytes);
+    let Verdict::Accepted = vectors else {
+        return vectors;
+    };
+    check_end(bytes)
 }
 
 fn check_head(bytes: &[u8]) -> Verdict
@@ -149,15 +139,42 @@ fn is_mark_wrong(bytes: &[u8], p: usize, i: usize) -> bool
     key < mark_key(bytes, p - 1)
 }
 
-// The vectors, for a head that passes.
+// The vectors, for a head that passes. Each component is held against the ends of its dimension's marks, which are read once.
 fn check_vectors(bytes: &[u8]) -> Verdict
     requires { ⌜ first (headCauses (readLibrary (now bytes)) (now bytes)) ≡ Accepted ⌝ }
     ensures { λ r. ⌜ r ≡ first (vectorsCauses (readLibrary (now (bytes .entry))) (now (bytes .entry))) ⌝ }
 {
     let counts = counts_of(bytes);
+    let m = layout::marks_length(counts.d, counts.b);
+    let mut lows = [0i32; MAX_DIMENSIONS];
+    let mut highs = [0i32; MAX_DIMENSIONS];
+    read_ends(bytes, counts.d, counts.b, &mut lows, &mut highs);
+    check_each(bytes, counts.d, m, counts.n, &lows, &highs)
+}
+
+// The first and the last mark of each dimension, into the fronts of two buffers.
+fn read_ends(bytes: &[u8], d: usize, b: usize, lows: &mut [i32], highs: &mut [i32])
+    requires { ⌜ (first (shapeCauses d b) ≡ Accepted) × (d ≤ length (now lows)) × (d ≤ length (now highs)) ⌝ }
+    ensures { λ _. ⌜ now (lows .exit) ≡ tabulate d (firstMark d b (markAt (now (bytes .entry)))) ++ drop d (now (lows .entry)) ⌝ }
+    ensures { λ _. ⌜ now (highs .exit) ≡ tabulate d (lastMark d b (markAt (now (bytes .entry)))) ++ drop d (now (highs .entry)) ⌝ }
+{
+    let mut t = 0;
+    while t < d {
+        let ends = ends_of(d, b, t);
+        lows[t] = mark_at(bytes, ends.first);
+        highs[t] = mark_at(bytes, ends.last);
+        t += 1;
+    }
+}
+
+// Each of n vectors behind m marks.
+fn check_each(bytes: &[u8], d: usize, m: usize, n: usize, lows: &[i32], highs: &[i32]) -> Verdict
+    requires { ⌜ (Room d (now lows) (now highs)) × (m < 2 ^ 32) × (n < 2 ^ 32) ⌝ }
+    ensures { λ r. ⌜ r ≡ first (each n (λ i. betweenCauses d (now (lows .entry)) (now (highs .entry)) (drop (vectorPlace m i) (now (bytes .entry))))) ⌝ }
+{
     let mut i = 0;
-    while i < counts.n {
-        match check_vector(bytes, counts.d, counts.b, i) {
+    while i < n {
+        match check_vector(bytes, d, vector_place(m, i), lows, highs) {
             Verdict::Accepted => {
                 i += 1;
             }
@@ -169,24 +186,24 @@ fn check_vectors(bytes: &[u8]) -> Verdict
     Verdict::Accepted
 }
 
-fn check_vector(bytes: &[u8], d: usize, b: usize, i: usize) -> Verdict
-    requires { ⌜ (ShapeOf (now bytes) d b) × (i < 2 ^ 32) ⌝ }
-    ensures { λ r. ⌜ r ≡ first (vectorCauses (readLibrary (now (bytes .entry))) (now (bytes .entry)) i) ⌝ }
+// The vector whose record begins at an index.
+fn check_vector(bytes: &[u8], d: usize, at: usize, lows: &[i32], highs: &[i32]) -> Verdict
+    requires { ⌜ Room d (now lows) (now highs) ⌝ }
+    ensures { λ r. ⌜ r ≡ first (betweenCauses d (now (lows .entry)) (now (highs .entry)) (drop at (now (bytes .entry)))) ⌝ }
 {
-    let at = vector_place(layout::marks_length(d, b), i);
     match check_frame(bytes, at, byte_at(bytes, at) == VECTOR) {
-        Verdict::Accepted => check_components(bytes, d, b, at),
+        Verdict::Accepted => check_components(bytes, d, at, lows, highs),
         Verdict::Refused(cause) => Verdict::Refused(cause),
     }
 }
 
-// The components of the vector whose record begins at an index.
-fn check_components(bytes: &[u8], d: usize, b: usize, at: usize) -> Verdict
-    requires { ⌜ (first (shapeCauses d b) ≡ Accepted) × (at < 2 ^ 40) ⌝ }
-    ensures { λ r. ⌜ r ≡ first (componentsCauses d b (tabulate (markTotal d b) (markAt (now (bytes .entry)))) (drop at (now (bytes .entry)))) ⌝ }
+// Its components, where the record is whole.
+fn check_components(bytes: &[u8], d: usize, at: usize, lows: &[i32], highs: &[i32]) -> Verdict
+    requires { ⌜ (Room d (now lows) (now highs)) × (at + recordLength vectorKind ≤ length (now bytes)) ⌝ }
+    ensures { λ r. ⌜ r ≡ first (ownCauses d (now (lows .entry)) (now (highs .entry)) (drop at (now (bytes .entry)))) ⌝ }
 {
     let zero = is_zero_beyond(bytes, d, at);
-    let inside = is_inside(bytes, d, b, at);
+    let inside = is_between(bytes, d, at, lows, highs);
     if !zero {
         return Verdict::Refused(Refusal::Component);
     }
@@ -198,7 +215,7 @@ fn check_components(bytes: &[u8], d: usize, b: usize, at: usize) -> Verdict
 
 // Whether the components beyond d are zero.
 fn is_zero_beyond(bytes: &[u8], d: usize, at: usize) -> bool
-    requires { ⌜ at < 2 ^ 40 ⌝ }
+    requires { ⌜ at + recordLength vectorKind ≤ length (now bytes) ⌝ }
     ensures { λ r. ⌜ r ≡ zeroBeyond d (drop at (now (bytes .entry))) ⌝ }
 {
     let mut t = d;
@@ -211,19 +228,14 @@ fn is_zero_beyond(bytes: &[u8], d: usize, at: usize) -> bool
     true
 }
 
-// Whether the first d components lie, each, inside the marks of their dimension.
-fn is_inside(bytes: &[u8], d: usize, b: usize, at: usize) -> bool
-    requires { ⌜ (first (shapeCauses d b) ≡ Accepted) × (at < 2 ^ 40) ⌝ }
-    ensures { λ r. ⌜ r ≡ inside d b (tabulate (markTotal d b) (markAt (now (bytes .entry)))) (storedAt (drop at (now (bytes .entry)))) ⌝ }
+// Whether the first d components lie, each, between the ends of the marks of their dimension.
+fn is_between(bytes: &[u8], d: usize, at: usize, lows: &[i32], highs: &[i32]) -> bool
+    requires { ⌜ (Room d (now lows) (now highs)) × (at + recordLength vectorKind ≤ length (now bytes)) ⌝ }
+    ensures { λ r. ⌜ r ≡ between d (now (lows .entry)) (now (highs .entry)) (storedAt (drop at (now (bytes .entry)))) ⌝ }
 {
     let mut t = 0;
     while t < d {
-        let ends = ends_of(d, b, t);
-        let key = component_key(bytes, at, t);
-        if key < mark_key(bytes, ends.first) {
-            return false;
-        }
-        if mark_key(bytes, ends.last) <= key {
+        if !lies(lows[t], component_at(bytes, at, t), highs[t]) {
             return false;
         }
         t += 1;

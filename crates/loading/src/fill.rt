@@ -4,11 +4,12 @@ use crate::values::mark_at;
 use library::vector_place;
 ghost use mathlib.Core.Path.{_≡_};
 ghost use mathlib.Core.List.{_++_};
-ghost use Prim.Native.Nat.{_*_, _/_, _%_, _^_, _≤_, _<_};
-ghost use lib.ListN.{length, drop};
+ghost use Prim.Native.Nat.{_+_, _*_, _/_, _%_, _^_, _≤_, _<_};
+ghost use lib.ListN.{length, take, drop};
 ghost use Rattle.limits.specs.Limits.{maxDimensions, maxVectors};
+ghost use Rattle.records.specs.Records.{vectorKind, recordLength};
 ghost use Rattle.library.specs.Each.{tabulate};
-ghost use Rattle.library.specs.Library.{markAt, settingsAt, componentAt};
+ghost use Rattle.library.specs.Library.{vectorPlace, markAt, settingsAt, storedAt, componentAt};
 
 // The first m marks, into the front of the buffer.
 pub(crate) fn fill_marks(bytes: &[u8], m: usize, marks: &mut [i32])
@@ -36,14 +37,26 @@ pub(crate) fn fill_settings(bytes: &[u8], m: usize, n: usize, settings: &mut [u3
 
 // The d components of each of n vectors behind m marks.
 pub(crate) fn fill_components(bytes: &[u8], m: usize, d: usize, n: usize, components: &mut [i32])
-    requires { ⌜ (m < 2 ^ 32) × (0 < d) × (d ≤ maxDimensions) × (n ≤ maxVectors) × (n * d ≤ length (now components)) ⌝ }
+    requires { ⌜ (m < 2 ^ 32) × (d ≤ maxDimensions) × (n ≤ maxVectors) × (n * d ≤ length (now components)) × (vectorPlace m n ≤ length (now bytes)) ⌝ }
     ensures { λ _. ⌜ now (components .exit)
         ≡ tabulate (n * d) (λ k. componentAt m (now (bytes .entry)) (k / d) (k % d)) ++ drop (n * d) (now (components .entry)) ⌝ }
 {
-    let count = n * d;
-    let mut k = 0;
-    while k < count {
-        components[k] = component_at(bytes, vector_place(m, k / d), k % d);
-        k += 1;
+    let mut i = 0;
+    while i < n {
+        fill_vector(bytes, vector_place(m, i), d, i * d, components);
+        i += 1;
+    }
+}
+
+// Those of the vector whose record begins at an index and is whole, from another index of the buffer on.
+fn fill_vector(bytes: &[u8], at: usize, d: usize, from: usize, components: &mut [i32])
+    requires { ⌜ (at + recordLength vectorKind ≤ length (now bytes)) × (d ≤ maxDimensions) × (from + d ≤ length (now components)) ⌝ }
+    ensures { λ _. ⌜ now (components .exit)
+        ≡ take from (now (components .entry)) ++ (tabulate d (storedAt (drop at (now (bytes .entry)))) ++ drop (from + d) (now (components .entry))) ⌝ }
+{
+    let mut t = 0;
+    while t < d {
+        components[from + t] = component_at(bytes, at, t);
+        t += 1;
     }
 }

@@ -1,14 +1,15 @@
 // The values of a library's records, read from its bytes. Signed numbers have keys, by which they are compared.
 use library::mark_place;
+use records::VECTOR_FRONT;
 use records::byte_at;
 use records::u16_at;
 use records::u32_at;
 ghost use mathlib.Core.Path.{_≡_};
-ghost use Prim.Native.Nat.{suc, _*_, _^_, _≤_, _<_};
-ghost use lib.ListN.{drop};
+ghost use Prim.Native.Nat.{suc, _+_, _*_, _^_, _≤_, _<_};
+ghost use lib.ListN.{length, drop};
 ghost use Rattle.limits.specs.Limits.{maxDimensions};
 ghost use Rattle.whole.specs.Keys.{keyOf};
-ghost use Rattle.records.specs.Records.{vectorKind, valueOf};
+ghost use Rattle.records.specs.Records.{vectorKind, recordLength, valueOf};
 ghost use Rattle.library.specs.Library.{headValue, markAt, storedAt};
 ghost use Rattle.loading.specs.ReadLaws.{twosComplement};
 
@@ -45,28 +46,21 @@ pub(crate) fn mark_key(bytes: &[u8], i: usize) -> u64
     whole::key(mark_at(bytes, i))
 }
 
-// The bits of component t of the vector whose record begins at an index.
+// The bits of component t of the vector whose record begins at an index and is whole.
 pub(crate) fn component_bits(bytes: &[u8], at: usize, t: usize) -> u32
-    requires { ⌜ (at < 2 ^ 40) × (t < maxDimensions) ⌝ }
+    requires { ⌜ (at + recordLength vectorKind ≤ length (now bytes)) × (t < maxDimensions) ⌝ }
     ensures { λ r. ⌜ r ≡ valueOf vectorKind (suc t) (drop at (now (bytes .entry))) ⌝ }
 {
-    u16_at(bytes, at + 5 + 2 * t)
+    let i = at + VECTOR_FRONT + 2 * t;
+    bytes[i] as u32 + 256 * bytes[i + 1] as u32
 }
 
 // The component.
 pub(crate) fn component_at(bytes: &[u8], at: usize, t: usize) -> i32
-    requires { ⌜ (at < 2 ^ 40) × (t < maxDimensions) ⌝ }
+    requires { ⌜ (at + recordLength vectorKind ≤ length (now bytes)) × (t < maxDimensions) ⌝ }
     ensures { λ r. ⌜ r ≡ storedAt (drop at (now (bytes .entry))) t ⌝ }
 {
     signed(component_bits(bytes, at, t), 0x8000)
-}
-
-// Its key.
-pub(crate) fn component_key(bytes: &[u8], at: usize, t: usize) -> u64
-    requires { ⌜ (at < 2 ^ 40) × (t < maxDimensions) ⌝ }
-    ensures { λ r. ⌜ r ≡ keyOf (storedAt (drop at (now (bytes .entry))) t) ⌝ }
-{
-    whole::key(component_at(bytes, at, t))
 }
 
 // The number that bits stand for in two's complement, where those from `half` on are negative.

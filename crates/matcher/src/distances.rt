@@ -1,6 +1,4 @@
 // Distances, for C. Each gives 0, or the refusal's number; a refused call leaves the places for distances as they were.
-use bounds::cell::Bounds;
-use distance::Distance;
 ghost use mathlib.Core.Path.{_≡_};
 ghost use lib.ListN.{length};
 ghost use Rattle.refusal.specs.Refusal.{verdictNumber};
@@ -18,13 +16,7 @@ pub extern "C" fn matcher_distance(query: &[i32], vector: &[i32], distance: &mut
         ≡ outcome (first (distanceCauses (now (query .entry)) (now (vector .entry))))
         (distanceOf (length (now (query .entry))) (now (query .entry)) (now (vector .entry))) (λ _. now (distance .entry)) ⌝ }
 {
-    match distance::measure(query, vector) {
-        Distance::Squared(sum) => {
-            *distance = sum;
-            0
-        }
-        Distance::Refused(cause) => cause.number(),
-    }
+    tell::distance(distance::measure(query, vector), distance)
 }
 
 // The least and the greatest distance of code i's cell from a query.
@@ -48,12 +40,6 @@ pub extern "C" fn matcher_bounds(
         ≡ outcome (first (boundsCauses d b n (now (query .entry)) (now (marks .entry)) (now (codes .entry)) i))
         (upperOf d b (now (marks .entry)) (now (codes .entry)) (now (query .entry)) i) (λ _. now (upper .entry)) ⌝ }
 {
-    match bounds::cell::cell_bounds(d, b, n, query, marks, codes, i) {
-        Bounds::Between(least, greatest) => {
-            *lower = least;
-            *upper = greatest;
-            0
-        }
-        Bounds::Refused(cause) => cause.number(),
-    }
+    let bounds = bounds::cell::cell_bounds(d, b, n, query, marks, codes, i);
+    tell::bounds(bounds, lower, upper)
 }

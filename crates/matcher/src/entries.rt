@@ -1,6 +1,5 @@
 // The nearest vectors, for C. Each gives 0, or the refusal's number; a refused call leaves the buffers as they were, and a count is 0.
 use nearest::Entry;
-use search::search::Searched;
 ghost use mathlib.Core.Path.{_≡_};
 ghost use mathlib.Core.List.{_++_};
 ghost use lib.ListN.{length, drop};
@@ -9,7 +8,6 @@ ghost use Rattle.refusal.specs.First.{first, outcome};
 ghost use Rattle.scan.specs.Scanning.{scanAnswer, scanCauses};
 ghost use Rattle.search.specs.Search.{searched, searchCauses};
 ghost use Rattle.search.specs.Ready.{library};
-ghost use Rattle.search.specs.Answer.{searchedNumber, searchedCount};
 ghost use Rattle.nearest.specs.Entries.{entriesOf, entryRoom};
 
 // The k of n vectors that are nearest to a query, by all their distances.
@@ -51,21 +49,5 @@ pub extern "C" fn matcher_search(
         × (now (reads .exit) ≡ outcome v (searched l (now (query .entry)) k .reads ++ drop (length (searched l (now (query .entry)) k .reads)) (now (reads .entry))) (λ _. now (reads .entry))) ⌝ }
 {
     let answer = nearest::search(d, b, n, k, query, marks, codes, vectors, entries, reads);
-    told(answer, count)
-}
-
-// Puts an answer's count in its place and gives its number.
-fn told(answer: Searched, count: &mut usize) -> u32
-    ensures { λ r. ⌜ (r ≡ searchedNumber answer) × (now (count .exit) ≡ searchedCount answer) ⌝ }
-{
-    match answer {
-        Searched::Read(read) => {
-            *count = read;
-            0
-        }
-        Searched::Refused(cause) => {
-            *count = 0;
-            cause.number()
-        }
-    }
+    tell::searched(answer, count)
 }

@@ -70,12 +70,7 @@ pub extern "C" fn matcher_load(
         ⌜ now (used .exit) ≡ outcome v (libraryLength (l .d) (l .b) (l .n)) (λ _. 0) ⌝ }
 {
     let loaded = loading::load(bytes, marks, settings, components);
-    *d = loaded.d;
-    *b = loaded.b;
-    *n = loaded.n;
-    *used = loaded.used;
-    let verdict = loaded.verdict;
-    verdict.number()
+    tell::loaded(loaded, d, b, n, used)
 }
 
 // The components of the d readings that the bytes hold, into a buffer of as many.

@@ -6,32 +6,18 @@ pub mod files;
 pub mod marks;
 pub mod program;
 
-use reading::Intake;
 use reading::Reading;
 ghost use lib.Ieee.{binary32, ofBits};
 ghost use Rattle.reading.specs.declared.Reading.the-variants.{Fresh, Held, Lost};
 ghost use Rattle.reading.specs.Intake.{intakeOf};
-ghost use Rattle.matcher.specs.Answered.{Answered};
-
-// Puts a reading's component in its place and gives 0, or gives the refusal's number.
-fn take_in(reading: Reading, component: &mut i32) -> u32
-    ensures { λ r. ⌜ Answered (intakeOf reading) r (now (component .entry)) (now (component .exit)) ⌝ }
-{
-    match reading.intake() {
-        Intake::Component(z) => {
-            *component = z;
-            0
-        }
-        Intake::Refused(cause) => cause.number(),
-    }
-}
+ghost use Rattle.tell.specs.Answered.{Answered};
 
 // A fresh reading of the value with these 32 bits.
 #[no_mangle]
 pub extern "C" fn matcher_fresh(bits: u32, component: &mut i32) -> u32
     ensures { λ r. ⌜ Answered (intakeOf (Fresh (ofBits binary32 bits))) r (now (component .entry)) (now (component .exit)) ⌝ }
 {
-    take_in(Reading::fresh_bits(bits), component)
+    tell::component(Reading::fresh_bits(bits), component)
 }
 
 // A held reading of the value with these 32 bits, of an age in tenths of a second.
@@ -39,7 +25,7 @@ pub extern "C" fn matcher_fresh(bits: u32, component: &mut i32) -> u32
 pub extern "C" fn matcher_held(bits: u32, age: u8, component: &mut i32) -> u32
     ensures { λ r. ⌜ Answered (intakeOf (Held (ofBits binary32 bits) age)) r (now (component .entry)) (now (component .exit)) ⌝ }
 {
-    take_in(Reading::held_bits(bits, age), component)
+    tell::component(Reading::held_bits(bits, age), component)
 }
 
 // A lost reading.
@@ -47,7 +33,7 @@ pub extern "C" fn matcher_held(bits: u32, age: u8, component: &mut i32) -> u32
 pub extern "C" fn matcher_lost(component: &mut i32) -> u32
     ensures { λ r. ⌜ Answered (intakeOf Lost) r (now (component .entry)) (now (component .exit)) ⌝ }
 {
-    take_in(Reading::Lost, component)
+    tell::component(Reading::Lost, component)
 }
 
 // A fresh reading of a float.
@@ -55,5 +41,5 @@ pub extern "C" fn matcher_lost(component: &mut i32) -> u32
 pub extern "C" fn matcher_fresh_value(value: f32, component: &mut i32) -> u32
     ensures { λ r. ⌜ Answered (intakeOf (Fresh value)) r (now (component .entry)) (now (component .exit)) ⌝ }
 {
-    take_in(Reading::Fresh(value), component)
+    tell::component(Reading::Fresh(value), component)
 }

@@ -1,5 +1,4 @@
 // Marks and regions, for C. Each gives 0, or the refusal's number; a refused call leaves a buffer as it was, and 0 in a place for a count.
-use partition::region::Lookup;
 ghost use mathlib.Core.Path.{_≡_};
 ghost use lib.IntN.{pos};
 ghost use lib.ListN.{length, getD};
@@ -9,10 +8,10 @@ ghost use Rattle.layout.specs.Stretch.{dimensionCauses, stretchOf};
 ghost use Rattle.partition.specs.Marks.{dimensionMarks};
 ghost use Rattle.partition.specs.MarksCauses.{marksCauses, partCauses};
 ghost use Rattle.partition.specs.Region.{regionOf};
-ghost use Rattle.partition.specs.Lookup.{regionCauses, lookupNumber, lookupRegion};
+ghost use Rattle.partition.specs.Lookup.{regionCauses};
 ghost use Rattle.partition.specs.View.{seenMarks, valueCauses};
-ghost use Rattle.partition.specs.Made.{madeMarks};
-ghost use Rattle.partition.specs.Making.{makeCauses};
+ghost use Rattle.marking.specs.Made.{madeMarks};
+ghost use Rattle.marking.specs.Making.{makeCauses};
 
 // Where dimension j's marks begin in the marks buffer, and how many bits it has.
 #[no_mangle]
@@ -79,7 +78,7 @@ pub extern "C" fn matcher_region_of(
     ensures { λ _. ⌜ now (region .exit)
         ≡ outcome (first (valueCauses d b (now (marks .entry)) j v)) (regionOf (dimensionMarks d b (now (marks .entry)) j) v) (λ _. 0) ⌝ }
 {
-    tell_region(partition::view::region_of(d, b, marks, j, v), region)
+    tell::region(partition::view::region_of(d, b, marks, j, v), region)
 }
 
 // The region of a value in one dimension's marks, of which there is one more than regions.
@@ -88,23 +87,7 @@ pub extern "C" fn matcher_region(marks: &[i32], regions: usize, v: i32, region: 
     ensures { λ r. ⌜ r ≡ verdictNumber (first (regionCauses (now (marks .entry)) regions v)) ⌝ }
     ensures { λ _. ⌜ now (region .exit) ≡ outcome (first (regionCauses (now (marks .entry)) regions v)) (regionOf (now (marks .entry)) v) (λ _. 0) ⌝ }
 {
-    tell_region(partition::region::region(marks, regions, v), region)
-}
-
-// The region that was found and 0, or 0 and the refusal's number.
-fn tell_region(lookup: Lookup, region: &mut usize) -> u32
-    ensures { λ r. ⌜ (r ≡ lookupNumber lookup) × (now (region .exit) ≡ lookupRegion lookup) ⌝ }
-{
-    match lookup {
-        Lookup::Region(number) => {
-            *region = number;
-            0
-        }
-        Lookup::Refused(cause) => {
-            *region = 0;
-            cause.number()
-        }
-    }
+    tell::region(partition::region::region(marks, regions, v), region)
 }
 
 // The marks of d dimensions, with b bits in all, made from n vectors.
@@ -121,5 +104,5 @@ pub extern "C" fn matcher_make_marks(
         ≡ outcome (first (makeCauses d b n (now (vectors .entry)) (length (now (marks .entry)))))
         (madeMarks d b n (now (vectors .entry))) (λ _. now (marks .entry)) ⌝ }
 {
-    partition::made::make_marks(d, b, n, vectors, marks).number()
+    marking::make_marks(d, b, n, vectors, marks).number()
 }

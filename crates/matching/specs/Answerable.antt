@@ -40,8 +40,9 @@ use Rattle.records.specs.RowLaws.{both}
 use Rattle.library.specs.Library.{Library, readLibrary}
 use Rattle.loading.specs.Load.{recordsCauses as libraryCauses}
 use Rattle.query.specs.Query.{isReading, readingOf, readingCauses, recordsCauses as queryCauses, componentsOf, nextRecord}
-use Rattle.matching.specs.Text.{line}
-use Rattle.matching.specs.Match.{behind, kLength, kOf, searchable, entryLines, refusedText, matchCauses, matchText}
+use Rattle.text.specs.Text.{line, entryLines, refusedText}
+use Rattle.answer.specs.Answer.{searchable}
+use Rattle.matching.specs.Match.{behind, kLength, kOf, matchCauses, matchText}
 use Rattle.loading.specs.Loaded.{loaded-shape, loaded-count, marks-count, components-count, loaded-marks, loaded-components}
 use Rattle.matching.specs.Packed.{packed-inside, packed-own}
 

@@ -1,11 +1,7 @@
-pub mod Text
 pub mod Match
-pub mod TextLaws
 pub mod Packed
 pub mod Answerable
 pub mod Alike
 pub mod Longest
 pub mod Room
-pub mod Puts
-pub mod Lent
 pub mod Steps

@@ -10,7 +10,8 @@ use native.Mathlib.Omega.{arith}
 use borrow.Author.Tests.{eqb-true, not-false, lt-ltb, le-ltb, ne-eqb}
 use lib.Dec.{lit≤, ltb, eqb}
 use lib.IntN.{ℤ}
-use lib.ListN.{length, take, drop}
+use lib.ListN.{length, take, drop, length-append}
+use lib.Seq.{take-all}
 use mir.Syntax.{w16}
 use mir.Val.{toZ}
 use Rattle.refusal.specs.declared.Refusal.{Refusal}
@@ -36,7 +37,8 @@ use Rattle.loading.specs.Load.{recordCauses, headCauses, markCauses, zeroBeyond
 use Rattle.partition.specs.Marks.{dimensionMarks}
 use Rattle.partition.specs.Region.{inMarks}
 use Rattle.query.specs.Query.{isReading, readingOf, readingCauses, recordsCauses as queryCauses, nextRecord}
-use Rattle.matching.specs.Match.{behind, kLength, kCauses, matchCauses, refusedText, matchText}
+use Rattle.text.specs.Text.{refusedText}
+use Rattle.matching.specs.Match.{behind, kLength, kCauses, matchCauses, matchText}
 use Rattle.matching.specs.Alike.{Alike, alike-take, alike-drop, same-number, same-value, same-kind, record-most, vector-length, same-frame}
 
 -- the longest library, k, and a held reading for each dimension
@@ -326,3 +328,28 @@ accepted-length input accepted = go (decLt longestMatch (length input))
     go : Dec (longestMatch < length input) → length input ≤ longestMatch
     go (yes long) = absurd (apart (sym accepted ∙ longer-is-refused input long .one))
     go (no short) = omega arith
+
+-- ---- what is read
+
+-- Bytes that were read, no more than that and one, have the text of all that they were read of.
+pub read-text : (input : List ℕ) → matchText (take (suc longestMatch) input) ≡ matchText input
+read-text input = go (decLt longestMatch (length input))
+  where
+    go : Dec (longestMatch < length input) → matchText (take (suc longestMatch) input) ≡ matchText input
+    go (yes long) = sym (longer-text input long)
+    go (no short) = ap matchText (take-all (suc longestMatch) input (omega arith))
+
+-- the front of a buffer is a text of r bytes, and the rest as it was
+pub record Front (text before after : List ℕ) (r : ℕ) : Type 0 where
+  pub is : after ≡ text ++ drop (length text) before
+  pub size : r ≡ length text
+
+pub front-within : {text before after : List ℕ} {r : ℕ} → Front text before after r → r ≤ length after
+front-within {text} {before} {after} front = omega (arith, front .size, ap length (front .is) ∙ length-append text (drop (length text) before))
+
+-- the text of whatever input these bytes were read of
+abbrev pub PrintsRead : List ℕ → List ℕ → List ℕ → ℕ → Type 0
+PrintsRead bytes before after r = (input : List ℕ) → take (suc longestMatch) input ≡ bytes → Front (matchText input) before after r
+
+pub prints-read : {bytes before after : List ℕ} {r : ℕ} → Front (matchText bytes) before after r → PrintsRead bytes before after r
+prints-read {before = before} {after} {r} front input read = subst (λ (text : List ℕ). Front text before after r) (ap matchText (sym read) ∙ read-text input) front

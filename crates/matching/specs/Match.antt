@@ -4,25 +4,19 @@ use mathlib.Core.Bool.{not, _&&_}
 use mathlib.Core.List.{List, [], _∷_, _++_}
 use Prim.Native.Nat.{ℕ, _+_, _*_}
 use lib.Dec.{leb, ltb, eqb}
-use lib.IntN.{ℤ}
-use lib.ListN.{length, getD, drop}
-use Rattle.refusal.specs.declared.Refusal.{Refusal}
+use lib.ListN.{length, drop}
 use Rattle.refusal.specs.declared.Refusal.the-variants.{Neighbours, Length, Truncated}
 use Rattle.refusal.specs.declared.Verdict.{Verdict}
 use Rattle.refusal.specs.declared.Verdict.the-variants.{Accepted, Refused}
-use Rattle.refusal.specs.Refusal.{numberOf}
 use Rattle.refusal.specs.First.{Row, _⇒_, first, outcome}
 use Rattle.limits.specs.Limits.{maxVectors}
-use Rattle.order.specs.Pair.{Pair}
-use Rattle.selection.specs.Reading.{Reading}
-use Rattle.approximation.specs.Vectors.{vectorCodes}
-use Rattle.search.specs.Search.{Library as Searchable, searched}
 use Rattle.records.specs.Bytes.{fromLowFirst}
 use Rattle.library.specs.Library.{Library, libraryLength, readLibrary}
 use Rattle.loading.specs.Load.{recordsCauses as libraryCauses}
 use Rattle.query.specs.Query.{recordsCauses as queryCauses, componentsOf}
 use Rattle.matching.specs.declared.Printed.{Printed}
-use Rattle.matching.specs.Text.{refusedWord, line}
+use Rattle.text.specs.Text.{refusedText}
+use Rattle.answer.specs.Answer.{answerText}
 
 -- ---- what stands where
 
@@ -52,37 +46,7 @@ matchCauses input = causesWith (readLibrary input) input
 
 -- ---- text
 
--- the library, with the codes that packing gives for its vectors
-abbrev pub searchable : Library → Searchable
-searchable l = record {
-  d = l .d;
-  b = l .b;
-  n = l .n;
-  marks = l .marks;
-  codes = vectorCodes (l .d) (l .b) (l .n) (l .marks) (l .components);
-  vectors = l .components;
-}
-
--- "then one line for each entry: number, settings, distance"
-abbrev pub entryLine : List ℕ → Pair → List ℕ
-entryLine settings p = line (p .number) (getD settings (p .number) 0 ∷ p .key ∷ [])
-
-unfoldable pub entryLines : List ℕ → List Pair → List ℕ
-entryLines settings [] = []
-entryLines settings (p ∷ ps) = entryLine settings p ++ entryLines settings ps
-
--- "line one is k and the read count"
-abbrev pub answerLines : List ℕ → ℕ → Reading → List ℕ
-answerLines settings k reading = line k (length (reading .reads) ∷ []) ++ entryLines settings (reading .best)
-
--- the k nearest vectors to the query
-abbrev pub answerText : Library → List ℤ → ℕ → List ℕ
-answerText l query k = answerLines (l .settings) k (searched (searchable l) query k)
-
--- "Its first fault from the left comes out as `refused ` and the number"
-abbrev pub refusedText : Refusal → List ℕ
-refusedText cause = refusedWord ++ line (numberOf cause) []
-
+-- the answer, or "its first fault from the left"
 abbrev pub textWith : Library → List ℕ → List ℕ
 textWith l input =
     outcome (first (causesWith l input))

@@ -40,9 +40,10 @@ use Rattle.library.specs.EachLaws.{tabulate-at, tabulate-past}
 use Rattle.library.specs.Library.{Library, markTotal, vectorPlace, settingsAt, readLibrary}
 use Rattle.loading.specs.Load.{recordsCauses as libraryCauses}
 use Rattle.query.specs.Query.{recordsCauses as queryCauses, componentsOf}
-use Rattle.matching.specs.Text.{line}
-use Rattle.matching.specs.TextLaws.{decimal-length}
-use Rattle.matching.specs.Match.{behind, kLength, kOf, kCauses, searchable, entryLine, entryLines, answerText, refusedText, causesWith, matchText, textRoom}
+use Rattle.text.specs.TextLaws.{decimal-length}
+use Rattle.text.specs.Text.{line, entryLine, entryLines, refusedText}
+use Rattle.answer.specs.Answer.{searchable, answerText}
+use Rattle.matching.specs.Match.{behind, kLength, kOf, kCauses, causesWith, matchText, textRoom}
 use Rattle.loading.specs.Loaded.{shaped, loaded-count, loaded-components}
 use Rattle.matching.specs.Answerable.{query-components}
 

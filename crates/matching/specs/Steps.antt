@@ -29,7 +29,9 @@ use Rattle.library.specs.Library.{Library, libraryWith, markTotal, libraryLengt
 use Rattle.loading.specs.Load.{marksRoom, settingsRoom, componentsRoom, recordsCauses as libraryCauses, loadCauses, counts, filled}
 use Rattle.loading.specs.Loaded.{loaded-shape, loaded-count, shaped, marks-count, settings-count, components-count, loaded-within}
 use Rattle.query.specs.Query.{queryCauses as lentCauses, recordsCauses as queryCauses, componentsOf}
-use Rattle.matching.specs.Match.{behind, kLength, kOf, kCauses, searchable, answerText, refusedText, matchText}
+use Rattle.text.specs.Text.{refusedText}
+use Rattle.answer.specs.Answer.{searchable, answerText}
+use Rattle.matching.specs.Match.{behind, kLength, kOf, kCauses, matchText}
 use Rattle.matching.specs.Answerable.{packs, searches}
 
 -- behind a library that passes, and behind a k that passes; `rest` is what stands behind the library

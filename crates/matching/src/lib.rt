@@ -1,41 +1,26 @@
 // A match (document 01, "The program"): the bytes of a library, k and a query in, text out. `run` is the whole program.
-mod answer;
-mod found;
-mod lines;
 mod parts;
 
-use crate::lines::put_refusal;
-use crate::parts::K_LENGTH;
 use crate::parts::match_rest;
-use limits::MAX_DIMENSIONS;
-use limits::MAX_VECTORS;
 use loading::COMPONENTS_ROOM;
 use loading::MARKS_ROOM;
 use loading::SETTINGS_ROOM;
 use loading::load;
-use records::END_LENGTH;
-use records::HEAD_LENGTH;
-use records::HELD_LENGTH;
-use records::MARK_LENGTH;
-use records::VECTOR_LENGTH;
+use limits::MAX_VECTORS;
 use refusal::Refusal;
 use refusal::Verdict;
+use text::put_refusal;
 ghost use mathlib.Core.Path.{_≡_};
 ghost use Prim.Native.Nat.{_≤_};
 ghost use lib.ListN.{length};
 ghost use Rattle.refusal.specs.First.{first};
 ghost use Rattle.loading.specs.Load.{marksRoom, settingsRoom, componentsRoom, filled};
+ghost use Rattle.text.specs.Puts.{Puts};
 ghost use Rattle.matching.specs.Match.{matchText, roomCauses, printed};
-ghost use Rattle.matching.specs.Puts.{Puts};
 ghost use Rattle.matching.specs.Steps.{Holds};
 
-// The longest match that is accepted: the longest library, k, and a held reading for each dimension.
-pub const LONGEST_MATCH: usize = HEAD_LENGTH
-    + MARKS_ROOM * MARK_LENGTH
-    + MAX_VECTORS * VECTOR_LENGTH
-    + END_LENGTH
-    + K_LENGTH
-    + MAX_DIMENSIONS * HELD_LENGTH;
+// How many bytes k has.
+pub const K_LENGTH: usize = 2;
 
 // The longest text: two counts, then for each entry a number, settings and a distance, each with the byte behind it.
 pub const TEXT_ROOM: usize = (4 + 4) + MAX_VECTORS * (4 + 11 + 13);

@@ -1,9 +1,10 @@
 // The parts of a match behind its library: k, then a query.
-use crate::answer::answer;
-use crate::lines::put_refusal;
+use crate::K_LENGTH;
+use answer::answer;
 use limits::MAX_DIMENSIONS;
 use refusal::Refusal;
 use refusal::Verdict;
+use text::put_refusal;
 ghost use mathlib.Core.Path.{_≡_};
 ghost use mathlib.Core.Bool.{true, _&&_};
 ghost use Prim.Native.Nat.{_≤_};
@@ -12,11 +13,8 @@ ghost use lib.ListN.{length};
 ghost use Rattle.refusal.specs.First.{first};
 ghost use Rattle.library.specs.Library.{libraryWith};
 ghost use Rattle.matching.specs.Match.{kCauses};
-ghost use Rattle.matching.specs.Puts.{Puts};
+ghost use Rattle.text.specs.Puts.{Puts};
 ghost use Rattle.matching.specs.Steps.{Ready, restText, queryText};
-
-// How many bytes k has.
-pub(crate) const K_LENGTH: usize = 2;
 
 // The text of a match whose library passes, from what stands behind the library.
 pub(crate) fn match_rest(

@@ -18,7 +18,7 @@ use Rattle.search.specs.declared.search.Searched.the-variants.{Read}
 use Rattle.search.specs.declared.search.Searched.the-variants as searched
 use Rattle.nearest.specs.declared.Entry.{Entry}
 use Rattle.nearest.specs.Entries.{entriesOf, entryAt, filled}
-use Rattle.nearest.specs.Finding.{Stands, foundCount}
+use Rattle.arrays.specs.Arrays.{Stands, foundCount}
 
 -- ---- one after the other
 

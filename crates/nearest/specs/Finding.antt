@@ -1,17 +1,11 @@
--- What the search gives as entries, and what the search and the scan leave in arrays from which entries are filled. Assumes nothing.
+-- What the search gives as entries. Assumes nothing.
 use mathlib.Core.Path.{_≡_}
-use mathlib.Core.Bool.{cond}
 use mathlib.Core.List.{List, _++_}
-use Prim.Native.Nat.{ℕ, _≤_}
-use lib.Dec.{leb}
+use Prim.Native.Nat.{ℕ}
 use lib.IntN.{ℤ}
-use lib.ListN.{length, take, drop}
+use lib.ListN.{length, drop}
 use Rattle.refusal.specs.declared.Verdict.{Verdict}
-use Rattle.refusal.specs.declared.Verdict.the-variants.{Accepted}
 use Rattle.refusal.specs.First.{outcome}
-use Rattle.limits.specs.Limits.{maxVectors}
-use Rattle.order.specs.Pair.{Pair, numbersOf}
-use Rattle.order.specs.Pairs.{keysOf}
 use Rattle.search.specs.declared.search.Searched.{Searched}
 use Rattle.search.specs.declared.search.Searched.the-variants.{Read, Refused}
 use Rattle.search.specs.Search.{Library, searched}
@@ -22,29 +16,4 @@ use Rattle.nearest.specs.Entries.{entriesOf}
 pub record Finds (v : Verdict) (l : Library) (query : List ℤ) (k : ℕ) (r : Searched) (entries : List Entry) (reads : List ℕ) (entries-then : List Entry) (reads-then : List ℕ) : Type 0 where
   pub answer : r ≡ outcome v (Read (length (searched l query k .reads))) Refused
   pub entries-are : entries-then ≡ outcome v (entriesOf (searched l query k .best)) (λ _. entries)
-  pub reads-are : reads-then ≡ outcome v (searched l query k .reads ++ drop (length (searched l query k .reads)) reads) (λ _. reads)
-
--- ---- into arrays
-
--- how much of arrays of maxVectors a number of entries takes: none where it is more than there is, which no k is
-abbrev pub roomFor : ℕ → ℕ
-roomFor entries = cond (leb entries maxVectors) entries 0
-
--- how many entries an answer leaves to fill
-abbrev pub foundCount : Searched → ℕ → ℕ
-foundCount (Read count) k = k
-foundCount (Refused cause) k = 0
-
--- the k pairs of an answer stand at the front of two arrays, and there are as many entries
-pub record Stands (entries k : ℕ) (pairs : List Pair) (numbers distances : List ℕ) : Type 0 where
-  pub room : entries ≡ k
-  pub few : k ≤ maxVectors
-  pub size : length pairs ≡ k
-  pub numbers-are : take k numbers ≡ numbersOf pairs
-  pub distances-are : take k distances ≡ keysOf pairs
-
--- the outcome of a verdict on a search into arrays
-pub record SearchesInto (v : Verdict) (l : Library) (query : List ℤ) (k : ℕ) (r : Searched) (entries : ℕ) (reads numbers-then distances-then reads-then : List ℕ) : Type 0 where
-  pub answer : r ≡ outcome v (Read (length (searched l query k .reads))) Refused
-  pub stands : v ≡ Accepted → Stands entries k (searched l query k .best) numbers-then distances-then
   pub reads-are : reads-then ≡ outcome v (searched l query k .reads ++ drop (length (searched l query k .reads)) reads) (λ _. reads)

@@ -1,4 +1,3 @@
 pub mod Entries
 pub mod Finding
 pub mod Filled
-pub mod Room

@@ -1,5 +1,4 @@
-// The nearest vectors as entries: the full scan and the search as other programs call them. Each is thin over the search's crate.
-mod arrays;
+// The nearest vectors as entries: the full scan and the search as other programs call them. Each is thin over `arrays`.
 mod fill;
 
 use limits::MAX_VECTORS;

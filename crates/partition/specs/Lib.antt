@@ -8,8 +8,3 @@ pub mod Located
 pub mod RegionCount
 pub mod Lookup
 pub mod View
-pub mod Made
-pub mod Making
-pub mod InOrder
-pub mod MadeDimension
-pub mod MadeLaws

@@ -1,5 +1,4 @@
 // The partition of each dimension into regions by marks.
-pub mod made;
 pub mod marks;
 pub mod region;
 pub mod view;

@@ -2,11 +2,11 @@
 use mathlib.Core.Path.{_≡_, refl, ap}
 use mathlib.Core.List.{List, [], _∷_, _++_}
 use Prim.Native.Nat.{ℕ, zero, suc, _+_, _*_, _/_, _%_, _^_, _≤_, _<_}
-use native.Mathlib.Nat.{pow-suc, div-lt-iff-lt-mul}
+use native.Mathlib.Nat.{add-zero, pow-suc, div-lt-iff-lt-mul}
 use native.Mathlib.Omega.{arith}
 use lib.Dec.{lit<}
 use lib.ListN.{length, getD, take, drop}
-use lib.Seq.{getD-drop}
+use lib.Seq.{getD-drop, drop-drop}
 use Rattle.records.specs.Bytes.{lowFirst, fromLowFirst, AreBytes}
 
 pub low-length : (w x : ℕ) → length (lowFirst w x) ≡ w
@@ -52,3 +52,8 @@ pub from-none : (w : ℕ) → fromLowFirst w [] ≡ 0
 unfolding fromLowFirst
 from-none zero = refl
 from-none (suc w) = rw (from-none w)
+
+-- two bytes by their indices
+pub two-bytes : (bytes : List ℕ) (at : ℕ) → fromLowFirst 2 (drop at bytes) ≡ getD bytes at 0 + 256 * getD bytes (at + 1) 0
+unfolding fromLowFirst
+two-bytes bytes at = rw (drop-drop 1 at bytes, getD-drop at bytes 0 0, getD-drop (at + 1) bytes 0 0, add-zero at, add-zero (at + 1)) (omega arith)

@@ -29,7 +29,7 @@ pub const HEAD_LENGTH: usize = 5;
 
 pub const MARK_LENGTH: usize = 5;
 
-pub const VECTOR_LENGTH: usize = 5 + 2 * MAX_DIMENSIONS;
+pub const VECTOR_LENGTH: usize = VECTOR_FRONT + 2 * MAX_DIMENSIONS;
 
 pub const END_LENGTH: usize = 1;
 
@@ -38,6 +38,9 @@ pub const FRESH_LENGTH: usize = 5;
 pub const HELD_LENGTH: usize = 6;
 
 pub const LOST_LENGTH: usize = 1;
+
+// What stands in a vector's record in front of its components: the byte of kind and the settings.
+pub const VECTOR_FRONT: usize = 5;
 
 // The byte at an index, 0 past the end.
 pub fn byte_at(bytes: &[u8], i: usize) -> u32

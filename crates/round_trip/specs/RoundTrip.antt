@@ -15,8 +15,7 @@ use Rattle.writing.specs.Writable.{writable}
 use Rattle.round_trip.specs.Places.{library-size}
 use Rattle.round_trip.specs.ReadWritten.{read-written}
 use Rattle.round_trip.specs.LoadWritten.{storable, load-passes}
-use Rattle.round_trip.specs.WriteLoaded.{loaded-writable}
-use Rattle.round_trip.specs.WriteLoaded.{written-loaded}
+use Rattle.round_trip.specs.WriteLoaded.{loaded-writable, written-loaded}
 
 -- loading accepts the bytes, finds this library and uses so many of them
 pub record Loads (bytes : List ℕ) (l : Library) (used : ℕ) : Type 0 where

@@ -2,19 +2,21 @@
 use mathlib.Core.Path.{_≡_, refl, sym, _∙_}
 use mathlib.Core.Bool.{Bool, true, false, cond, and-eq-true-iff}
 use mathlib.Core.List.{List, [], _∷_, _++_, List·Memᴰ·head, List·Memᴰ·tail}
-use Prim.Native.Nat.{ℕ, suc, _%_, _^_, _<_}
+use Prim.Native.Nat.{ℕ, suc, _%_, _^_, _≤_, _<_}
 use native.Mathlib.Nat.{mod-eq-of-lt}
 use native.Mathlib.Omega.{arith}
 use lib.IntN.{ℤ}
-use lib.ListN.{length, getD}
+use lib.ListN.{length, take, getD}
 use Rattle.refusal.specs.declared.Refusal.the-variants.{Cell}
 use Rattle.order.specs.Pair.{numbersOf, pairOf}
+use Rattle.order.specs.Pairs.{keysOf}
 use Rattle.order.specs.Members.{_∈_}
 use Rattle.order.specs.Counted.{counted-length}
-use Rattle.selection.specs.Reading.{readNext, goesOn, readingOrder}
+use Rattle.selection.specs.Reading.{Reading, readNext, goesOn, readingOrder}
 use Rattle.selection.specs.Loop.{Reached, after, after-next, reached-next}
 use Rattle.selection.specs.Steps.{next-read}
-use Rattle.order.specs.Pairs.{keysOf}
+use Rattle.selection.specs.Gathered.{Gathers}
+use Rattle.selection.specs.Holds.{Holds}
 use Rattle.cells.specs.Cells.{vectorAt, InCell}
 use Rattle.distance.specs.Small.{distance-small}
 use Rattle.distance.specs.CellComponents.{cell-components}
@@ -28,6 +30,23 @@ pub record Reads (l : Library) (query : List ℤ) (k : ℕ) (r : Searched) (keys
   pub answer : r ≡ cond (inOwnCells l ((searched l query k) .reads)) (Read (length ((searched l query k) .reads))) (Refused Cell)
   pub keys-are : inOwnCells l ((searched l query k) .reads) ≡ true → keys ≡ keysOf ((searched l query k) .best)
   pub numbers-are : inOwnCells l ((searched l query k) .reads) ≡ true → numbers ≡ numbersOf ((searched l query k) .best)
+
+-- the outcome of reading the first k: where each lies in its cell, they stand in the two lists with their distances
+pub record FirstReads (l : Library) (query : List ℤ) (k : ℕ) (r : Bool) (keys numbers : List ℕ) : Type 0 where
+  pub inside : r ≡ true → inOwnCells l (take k (readingOrder (lowIn l query) (numbersIn l))) ≡ true
+  pub gathered : r ≡ true → Gathers k (distanceIn l query) (take k (readingOrder (lowIn l query) (numbersIn l))) keys numbers
+  pub outside : r ≡ false → inOwnCells l ((searched l query k) .reads) ≡ false
+
+-- after the first `done` reads
+abbrev pub afterReads : Library → List ℤ → ℕ → ℕ → Reading
+afterReads l query k done = after k (lowIn l query) (distanceIn l query) (numbersIn l) done
+
+-- so many were read, each lies in its cell, and the two lists hold the k best
+pub record HasRead (l : Library) (query : List ℤ) (k done : ℕ) (keys numbers : List ℕ) : Type 0 where
+  pub within : done ≤ l .n
+  pub reached : Reached k (lowIn l query) (distanceIn l query) (numbersIn l) done
+  pub holds : Holds k keys numbers k (afterReads l query k done .best)
+  pub inside : inOwnCells l (afterReads l query k done .reads) ≡ true
 
 -- ---- cells of several vectors
 

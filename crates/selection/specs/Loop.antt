@@ -3,15 +3,16 @@
 use mathlib.Core.Path.{_≡_, sym, ap, _∙_}
 use mathlib.Core.Bool.{true, false}
 use mathlib.Core.List.{List, [], _∷_}
-use Prim.Native.Nat.{ℕ, suc, _≤_, _<_}
+use Prim.Native.Nat.{ℕ, zero, suc, _≤_, _<_, min}
 use native.Mathlib.Omega.{arith}
 use lib.ListN.{length, take, drop, getD, drop-of-length-le}
-use lib.Seq.{take-suc, drop-cons}
+use lib.Seq.{take-suc, drop-cons, length-take-le}
+use borrow.Author.Tests.{lt-ltb}
 use Rattle.order.specs.Pair.{Pair, pairOf, keyed, ranked}
 use Rattle.order.specs.Merge.{keyed-ranked}
 use Rattle.order.specs.Ranking.{ranked-count}
 use Rattle.selection.specs.Reading.{scan, Reading, unread, goesOn, readNext, reading, readingOrder, read}
-use Rattle.selection.specs.Scan.{scan-snoc}
+use Rattle.selection.specs.Scan.{scan-length, scan-snoc}
 use Rattle.selection.specs.Steps.{unread-best}
 
 -- ---- one step, from any state
@@ -69,3 +70,23 @@ module _ (k : ℕ) (low distance : ℕ → ℕ) (numbers : List ℕ) where
     pub reached-end : length numbers ≤ done → read k low distance numbers ≡ after k low distance numbers done
     unfolding keyed reading
     reached-end all = sym (rw (drop-of-length-le (readingOrder low numbers) {i = done} (omega (arith, ranked-count low numbers))) at (reached .rest))
+
+  -- the first k are read, whatever their lows are, and from then on there are k best
+  best-count : (done : ℕ) → done ≤ length numbers → length ((after k low distance numbers done) .best) ≡ min k done
+  unfolding after
+  best-count done within =
+      scan-length k distance (take done (readingOrder low numbers))
+      ∙ ap (min k) (length-take-le done (readingOrder low numbers) (omega (arith, ranked-count low numbers)))
+
+  pub goes-on-first : (done : ℕ) → done < k → done ≤ length numbers → (p : Pair) → goesOn k ((after k low distance numbers done) .best) p ≡ true
+  unfolding goesOn
+  goes-on-first done few within p =
+      let short : length ((after k low distance numbers done) .best) < k = omega (arith, best-count done within) in
+      rw (lt-ltb (length ((after k low distance numbers done) .best)) k short)
+
+  pub reached-first : (done : ℕ) → done ≤ k → k ≤ length numbers → Reached k low distance numbers done
+  reached-first zero few enough = reached-start
+  reached-first (suc done) few enough = reached-next done (reached-first done (omega arith) enough) (omega arith) (goes-on-first done (omega arith) (omega arith) _)
+
+  pub full-after : (done : ℕ) → k ≤ done → done ≤ length numbers → length ((after k low distance numbers done) .best) ≡ k
+  full-after done all within = omega (arith, best-count done within)

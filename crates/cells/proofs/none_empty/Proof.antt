@@ -1,66 +1,41 @@
--- `none_empty` meets its contract: the regions passed have values. Assumes nothing.
-use mathlib.Core.Path.{_≡_, refl, sym, ap, _∙_}
-use mathlib.Core.Bool.{true}
-use mathlib.Core.List.{List}
-use Prim.Native.Nat.{ℕ, suc, _-_, _≤_, zero-le}
-use native.Mathlib.Numerals.{add-one}
-use native.Mathlib.Omega.{arith}
-use borrow.Author.Tests.{not-true, not-false}
-use lib.IntN.{ℤ}
-use Rattle.limits.specs.Tests.{All, all-next, all-fails}
-use Rattle.partition.specs.Marks.{dimensionMarks}
-use Rattle.codes.specs.Codes.{codeRegion}
-use Rattle.cells.specs.Cells.{hasValue, noneEmpty}
+-- `none_empty` meets its contract: the places that came back are the code's, and the tests at them those of its regions. Assumes nothing.
+use mathlib.Core.Path.{refl, sym, _∙_}
+use Prim.Native.Nat.{_≤_}
+use native.Mathlib.Nat.{le-trans, le-refl, le-of-eq}
+use lib.Seq.{length-take-le}
+use Rattle.limits.specs.Limits.{maxDimensions}
+use Rattle.layout.specs.Stretch.{shape}
+use Rattle.cells.specs.Places.{length-places, places-small}
+use Rattle.cells.specs.CellLaws.{rise-none}
 use Rattle.cells.proofs.none_empty.Statement.{statement}
 use Rattle.cells.proofs.none_empty.Tie as tie
 
-abbrev Inv-loop : tie.InvT-loop
-Inv-loop d b marks codes i t₀ t = (t ≤ d) × (noneEmpty d b marks codes i t ≡ true)
+few : (c : tie.Start) → c .args .d ≤ maxDimensions
+few c = shape (c .args .d) (c .args .b) (c .pre .0) .few
 
-abbrev μ-loop : tie.MeasureT-loop
-μ-loop d b marks codes i t₀ t = d - t
+places-hold : tie.Need-array-share-prefix-places
+places-hold c = le-trans (few (c .before .before .before .before)) (le-of-eq (sym (c .before .mark-places .kept .1 .1 .1 .1 .0)))
 
-tests : (d b : ℕ) (marks : List ℤ) (codes : List ℕ) (i : ℕ) → All (noneEmpty d b marks codes i) (λ t. hasValue (dimensionMarks d b marks (suc t)) (codeRegion d b codes i t))
-unfolding noneEmpty
-tests d b marks codes i = record { next = λ t. refl }
+rise-at-requires : tie.Need-rise-at-requires
+rise-at-requires c κs =
+    let start = c .before .before .before .before .before in
+    let args = start .args in
+    rw (c .before .before .mark-places .ensures) (places-small (args .codes .now) (args .i) (shape (args .d) (args .b) (start .pre .0)))
 
-loop-holds : tie.Need-loop-holds Inv-loop μ-loop
-unfolding noneEmpty
-loop-holds c = (zero-le, refl)
-
-returns : tie.Need-returns Inv-loop μ-loop
+returns : tie.Need-returns
 returns c =
-    let args = c .before .before .before .before .before .args in
-    sym
-    (all-fails (tests (args .d) (args .b) (args .marks .now) (args .codes .now) (args .i)) (args .d) (c .before .before .before .loop .t)
-    (c .before .before .loop-test .taken) (sym (c .before .has-value .ensures) ∙ not-true (c .before .has-value .result) (c .if1 .taken)))
-
-loop-again : tie.Need-loop-again Inv-loop μ-loop
-loop-again c =
-    let args = c .before .before .before .before .before .args in
-    let at = c .before .before .before .loop in (
-      omega arith,
-      rw (add-one (at .t))
-          (all-next (tests (args .d) (args .b) (args .marks .now) (args .codes .now) (args .i)) (at .t) (at .inv .1)
-          ∙ sym (c .before .has-value .ensures) ∙ not-false (c .before .has-value .result) (c .if1 .left)),
-    )
-
-returns-2 : tie.Need-returns-2 Inv-loop μ-loop
-returns-2 c =
-    let args = c .before .before .before .args in
-    let all : c .before .loop .t ≡ args .d = omega arith in
-    sym (ap (noneEmpty (args .d) (args .b) (args .marks .now) (args .codes .now) (args .i)) (sym all) ∙ c .before .loop .inv .1)
+    let made = c .before .before .before in
+    let args = made .before .before .before .args in
+    rw (made .mark-places .ensures, length-places (args .d) (args .b) (args .codes .now) (args .i) 0 (args .d)) at (c .rise-at .ensures)
+    ∙ rise-none (args .d) (args .b) (args .marks .now) (args .codes .now) (args .i) (args .d) (le-refl (args .d))
 
 pub none-empty-spec : {M : Type 1} → statement M
 none-empty-spec =
     tie.close
     (tie.spec
-    Inv-loop
-    μ-loop
-    loop-holds
-    (λ c κs. (c .before .before .before .pre .0, c .loop-test .taken, c .before .before .before .pre .1))
-    returns
-    (λ c. omega arith)
-    (λ c. omega arith)
-    loop-again
-    returns-2)
+    (λ c. refl)
+    (λ c κs. (c .before .before .pre .0, c .before .before .pre .1, few (c .before .before)))
+    places-hold
+    (λ c. sym (length-take-le _ _ (places-hold (c .before))))
+    rise-at-requires
+    returns)

@@ -1,13 +1,13 @@
 -- `fill_all` meets its contract. Assumes nothing.
-use mathlib.Core.Path.{_≡_, _∙_}
-use Prim.Native.Nat.{_≤_}
+use mathlib.Core.Path.{_≡_, _∙_, subst⁻¹}
+use Prim.Native.Nat.{ℕ, _≤_}
 use native.Mathlib.Nat.{mul-le-mul}
 use native.Mathlib.Omega.{arith}
 use lib.ListN.{length}
 use borrow.Author.Needs.{needs}
 use Rattle.layout.specs.Stretch.{Shape, shape}
-use Rattle.library.specs.Library.{markTotal}
-use Rattle.library.specs.Sizes.{marks-few, marks-length-is}
+use Rattle.library.specs.Library.{markTotal, vectorPlace, libraryLength}
+use Rattle.library.specs.Sizes.{vector-place, library-length, marks-few, marks-length-is}
 use Rattle.loading.specs.Heads.{HeadOf, head-of}
 use Rattle.loading.specs.Loadable.{Loadable, loadable}
 use Rattle.loading.specs.Filled.{counts-are, marks-filled, settings-filled, components-filled}
@@ -35,6 +35,15 @@ module _ (c : tie.After-marks-length) where
   few-marks : c .marks-length .result ≤ 2080
   few-marks = rw total-is (marks-few _ _ shaped)
 
+  -- the vectors are there
+  vectors-within : vectorPlace (c .marks-length .result) (c .before .counts-of .result .n) ≤ length (start .args .bytes .now)
+  vectors-within =
+      let d = c .before .counts-of .result .d in
+      let b = c .before .counts-of .result .b in
+      let n = c .before .counts-of .result .n in
+      let within : libraryLength d b n ≤ length (start .args .bytes .now) = rw (head .of-shape .d-is, head .of-shape .b-is, head .n-is) at (can .whole) in
+      subst⁻¹ (λ (m : ℕ). vectorPlace m n ≤ length (start .args .bytes .now)) total-is (rw (vector-place (markTotal d b) n) (omega (arith, rw (library-length d b n) at within)))
+
 fill-marks-requires : tie.Need-fill-marks-requires
 fill-marks-requires c κs = (omega (arith, few-marks (c .before)), omega (arith, few-marks (c .before), can (c .before) .marks-count))
 
@@ -47,7 +56,7 @@ fill-components-requires : tie.Need-fill-components-requires
 fill-components-requires c κs =
     let at = c .before .before .before .before .before .before .before .before in
     let product = mul-le-mul (head at .few) (shaped at .few) in
-    (omega (arith, few-marks at), shaped at .some, shaped at .few, head at .few, omega (arith, product, can at .components-count))
+    (omega (arith, few-marks at), shaped at .few, head at .few, omega (arith, product, can at .components-count), vectors-within at)
 
 library-length-requires : tie.Need-library-length-requires
 library-length-requires c κs =

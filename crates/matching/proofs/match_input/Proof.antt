@@ -4,8 +4,9 @@ use mathlib.Core.List.{List}
 use Prim.Native.Nat.{ℕ, _≤_}
 use lib.ListN.{length}
 use borrow.Author.Needs.{needs}
-use Rattle.matching.specs.Match.{refusedText, matchText}
-use Rattle.matching.specs.Puts.{puts-same}
+use Rattle.text.specs.Text.{refusedText}
+use Rattle.matching.specs.Match.{matchText}
+use Rattle.text.specs.Puts.{puts-same}
 use Rattle.matching.specs.Steps.{loaded-refused, loaded-holds}
 use Rattle.matching.proofs.match_input.Statement.{statement}
 use Rattle.matching.proofs.match_input.Tie as tie

@@ -10,7 +10,7 @@ use borrow.Rule.Slice.PartAt.{part-to-end}
 use Rattle.library.specs.Library.{libraryWith, markTotal}
 use Rattle.library.specs.Sizes.{marks-length-is}
 use Rattle.matching.specs.Match.{matchText}
-use Rattle.matching.specs.Puts.{puts-length, puts-same}
+use Rattle.text.specs.Puts.{puts-length, puts-same}
 use Rattle.matching.specs.Steps.{restText, begins-within, held-shape, held-few, held-within, held-marks, held-settings, held-components, held-ready, held-text}
 use Rattle.matching.proofs.match_loaded.Statement.{statement}
 use Rattle.matching.proofs.match_loaded.Tie as tie

@@ -13,7 +13,7 @@ use Rattle.refusal.specs.First.{first, first-here, first-next, first-none, outc
 use Rattle.matching.specs.declared.Printed.{Printed}
 use Rattle.matching.specs.Match.{matchText, textRoom, roomCauses}
 use Rattle.matching.specs.Room.{text-room}
-use Rattle.matching.specs.Puts.{puts-length, puts-front}
+use Rattle.text.specs.Puts.{puts-length, puts-front}
 use Rattle.matching.proofs.run.Statement.{statement}
 use Rattle.matching.proofs.run.Tie as tie
 

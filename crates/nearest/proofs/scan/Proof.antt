@@ -51,18 +51,18 @@ use Rattle.order.specs.Pair.{Pair}
 use Rattle.scan.specs.Scanning.{scanAnswer, scanCauses}
 use Rattle.nearest.specs.declared.Entry.{Entry}
 use Rattle.nearest.specs.Entries.{entriesOf, filled}
-use Rattle.nearest.specs.Finding.{Stands}
+use Rattle.arrays.specs.Arrays.{Stands}
 use Rattle.nearest.specs.Filled.{outcome-filled, outcome-room}
 use Rattle.nearest.proofs.Local.{zeros, blank, blank-typed, lies, lent-mut, back-mut, lent-shr, room-again}
 use Rattle.nearest.proofs.ToFill.{R, Numbers, Distances, Fill, lfts-fill, given-fill, to-fill, TokensFill, asked-fill}
-use Rattle.nearest.proofs.arrays.scan as core
-use Rattle.nearest.proofs.arrays.scan.Symbol as core-def
-use Rattle.nearest.proofs.arrays.scan.Symbol.{name as #core}
-use Rattle.nearest.proofs.arrays.scan.Met as core-thm
-use Rattle.nearest.proofs.arrays.accepted as count
-use Rattle.nearest.proofs.arrays.accepted.Symbol as count-def
-use Rattle.nearest.proofs.arrays.accepted.Symbol.{name as #count}
-use Rattle.nearest.proofs.arrays.accepted.Met as count-thm
+use Rattle.arrays.proofs.scan as core
+use Rattle.arrays.proofs.scan.Symbol as core-def
+use Rattle.arrays.proofs.scan.Symbol.{name as #core}
+use Rattle.arrays.proofs.scan.Met as core-thm
+use Rattle.arrays.proofs.accepted as count
+use Rattle.arrays.proofs.accepted.Symbol as count-def
+use Rattle.arrays.proofs.accepted.Symbol.{name as #count}
+use Rattle.arrays.proofs.accepted.Met as count-thm
 use Rattle.nearest.proofs.fill.fill as fill
 use Rattle.nearest.proofs.fill.fill.Symbol as fill-def
 use Rattle.nearest.proofs.fill.fill.Symbol.{name as #fill}
@@ -71,9 +71,6 @@ use Rattle.nearest.proofs.scan.Key.{name as #nearest·scan}
 use Rattle.nearest.proofs.scan as face
 use Rattle.nearest.proofs.scan.Statement as stated
 use Rattle.nearest.proofs.scan.Code as code
-
-abbrev Answer : Type 0
-Answer = Verdict
 
 abbrev Row : RattleType
 Row = Ans.the-row
@@ -111,23 +108,23 @@ module _ {M : Type 1} (𝓤 : URA M) (H : Heap 𝓤) (A : Atoms 𝓤) (W : Given
   abbrev Told : Verdict → List ℕ → List ℕ → Type 0
   Told r ns ds = (r ≡ verdict) × (verdict ≡ Accepted → Stands (length (now entries)) k pairs ns ds)
 
-  abbrev Counted : Answer → ℕ
+  abbrev Counted : Verdict → ℕ
   Counted r = outcome r k (λ _. 0)
 
   -- the entries to fill are there, in the arrays too
-  room-for : (r : Answer) (ns ds : List ℕ) (c : ℕ) → Told r ns ds → c ≡ Counted r → (c ≤ length (now entries)) × (c ≤ maxVectors)
+  room-for : (r : Verdict) (ns ds : List ℕ) (c : ℕ) → Told r ns ds → c ≡ Counted r → (c ≤ length (now entries)) × (c ≤ maxVectors)
   room-for r ns ds c e e₂ = rw (e₂ ∙ ap (λ (v : Verdict). outcome v k (λ _. 0)) (e .0)) (outcome-room verdict k pairs ns ds (length (now entries)) (e .1))
 
-  abbrev Claim : Answer → List Entry → Type 0
+  abbrev Claim : Verdict → List Entry → Type 0
   Claim r zs = (r ≡ verdict) × (zs ≡ outcome verdict (entriesOf pairs) (λ _. now entries))
 
-  told : (r : Answer) (ns ds : List ℕ) (c : ℕ) (zs : List Entry) → Told r ns ds → c ≡ Counted r → zs ≡ filled ns ds (now entries) c → Claim r zs
+  told : (r : Verdict) (ns ds : List ℕ) (c : ℕ) (zs : List Entry) → Told r ns ds → c ≡ Counted r → zs ≡ filled ns ds (now entries) c → Claim r zs
   told r ns ds c zs e e₂ e₃ =
       let filling : zs ≡ outcome verdict (entriesOf pairs) (λ _. now entries) =
       e₃ ∙ ap (filled ns ds (now entries)) (e₂ ∙ ap (λ (v : Verdict). outcome v k (λ _. 0)) (e .0)) ∙ outcome-filled verdict k pairs ns ds (now entries) (e .1) in
       (e .0, filling)
 
-  exits : (r : Answer) (u : Val) (zs : List Entry) → length zs ≡ length (now entries) → Claim r zs → ent 𝓤 (⋆ 𝓤 H A (‵ (finally R (name entries) zs) ∷ ‵ (Row .own r (u ∷ [])) ∷ ‵ (flft κ-query q-query) ∷ ‵ (flft κ-vectors q-vectors) ∷ ‵ (flft κ-entries q-entries) ∷ [])) (Post u)
+  exits : (r : Verdict) (u : Val) (zs : List Entry) → length zs ≡ length (now entries) → Claim r zs → ent 𝓤 (⋆ 𝓤 H A (‵ (finally R (name entries) zs) ∷ ‵ (Row .own r (u ∷ [])) ∷ ‵ (flft κ-query q-query) ∷ ‵ (flft κ-vectors q-vectors) ∷ ‵ (flft κ-entries q-entries) ∷ [])) (Post u)
   exits r u zs size claim =
       qed W (‵ (finally R (name entries) zs) ∷ ‵ (Row .own r (u ∷ [])) ∷ ‵ (flft κ-query q-query) ∷ ‵ (flft κ-vectors q-vectors) ∷ ‵ (flft κ-entries q-entries) ∷ []) ∵
       suffices ! _ (ends-at 𝓤 H A face.ended stayed (face.clauses 𝓤 H A mem run) W bound u r (tt, (tt, (tt, (tt, (tt, (zs, tt)))))) (tt, (tt, (tt, (tt, (tt, (size, tt))))))) $ says ! claim $
@@ -160,17 +157,17 @@ module _ {M : Type 1} (𝓤 : URA M) (H : Heap 𝓤) (A : Atoms 𝓤) (W : Given
     asked : ent 𝓤 (onEntry 𝓤 H A core.signature lfts (q-query, (q-vectors, (fullShare, (fullShare, tt)))) given passed) (Core 𝓤 H A mem run .pre to)
     asked = qed W (raw (onEntry 𝓤 H A core.signature lfts (q-query, (q-vectors, (fullShare, (fullShare, tt)))) given passed) ∷ []) ∵ frame ! $ done !
 
-  module _ (r : Answer) (u : Val) where
+  module _ (r : Verdict) (u : Val) where
     abbrev to-count : Count 𝓤 H A mem run .Ghost
     to-count = ((tt, tt, tt, (r, (k, tt)), (u ∷ [], (vint w64 k ∷ [], tt))), tt)
 
     asked-count : ent 𝓤 (onEntry 𝓤 H A count.signature tt tt (r, (k, tt)) (u ∷ [], (vint w64 k ∷ [], tt))) (Count 𝓤 H A mem run .pre to-count)
     asked-count = qed W (raw (onEntry 𝓤 H A count.signature tt tt (r, (k, tt)) (u ∷ [], (vint w64 k ∷ [], tt))) ∷ []) ∵ frame ! $ done !
 
-  said-count : (r : Answer) (c : ℕ) → ent 𝓤 (ensured 𝓤 H A count.ended (count.clauses 𝓤 H A mem run) tt (r, (k, tt)) tt c) (fact 𝓤 (c ≡ Counted r))
+  said-count : (r : Verdict) (c : ℕ) → ent 𝓤 (ensured 𝓤 H A count.ended (count.clauses 𝓤 H A mem run) tt (r, (k, tt)) tt c) (fact 𝓤 (c ≡ Counted r))
   said-count r c = exE 𝓤 _ (λ ws. snd∗ 𝓤 (sem 𝓤 H A (lasts count.ended tt (r, (k, tt)) ws)) (fact 𝓤 (c ≡ Counted r)))
 
-  typed : (r : Answer) (u : Val) → Is Row r (u ∷ []) → T (hasTy Ans′.mir u) × WT u
+  typed : (r : Verdict) (u : Val) → Is Row r (u ∷ []) → T (hasTy Ans′.mir u) × WT u
   typed r u is = EL.lawful Ans.the-type Ans′.the-laws 𝓤 H A W tt .typed r _ is .0
 
   module _ (𝓣 : Tables 𝓤 H) (known-core : Triple 𝓤 (𝓣 .C #core) (Core 𝓤 H A mem run)) (known-count : Triple 𝓤 (𝓣 .C #count) (Count 𝓤 H A mem run)) (known-fill : Triple 𝓤 (𝓣 .C #fill) (Fill 𝓤 H A mem run)) (fits-d : d < 2 ^ 64) (fits-n : n < 2 ^ 64) (fits-k : k < 2 ^ 64) (room-query : Room i32 (length (now query))) (room-vectors : Room i32 (length (now vectors))) (room-entries : Room R (length (now entries))) where
@@ -200,7 +197,7 @@ module _ {M : Type 1} (𝓤 : URA M) (H : Heap 𝓤) (A : Atoms 𝓤) (W : Given
         move ! (4 ∷ 3 ∷ 8 ∷ 7 ∷ 1 ∷ []) $ group ! 5 $ join ! $ use1 W (raw (Core 𝓤 H A mem run .pre (to l₇ l₈ γ₁ γ₂ α₁ α₂))) (asked l₇ l₈ γ₁ γ₂ α₁ α₂) $
         -- [pre; [entries]; lent distances; lent numbers; own entries; true; the locals]
         calls-at ! fm (Core 𝓤 H A mem run) known-core (to l₇ l₈ γ₁ γ₂ α₁ α₂) (and-then ! (load ! (from ! (stop !)) (look ! 36 refl)) (and-then ! (load ! (from ! (stop !)) (look ! 34 refl)) (and-then ! (load ! (from ! (stop !)) (look ! 32 refl)) (and-then ! (load ! (from ! (stop !)) (look ! 30 refl)) (and-then ! (load ! (from ! (stop !)) (look ! 28 refl)) (and-then ! (load ! (from ! (stop !)) (look ! 18 refl)) (and-then ! (load ! (from ! (stop !)) (look ! 16 refl)) (and-then ! (load ! (from ! (stop !)) (look ! 14 refl)) (no-more !))))))))) (λ u.
-        use1 W (later (some (λ (r : Answer). (Tokens α₁ α₂ ⊛ ‵ (Row .own r (u ∷ []))) ⊛ some (λ (ws : Lasts core.ended (lfts l₇ l₈ γ₁ γ₂ α₁ α₂) (given l₇ l₈ γ₁ γ₂ α₁ α₂)). ‵ (lasts core.ended (lfts l₇ l₈ γ₁ γ₂ α₁ α₂) (given l₇ l₈ γ₁ γ₂ α₁ α₂) ws) ⊛ raw (fact 𝓤 (Told r (ws .1 .1 .1 .1 .1 .1 .0) (ws .1 .1 .1 .1 .1 .1 .1 .0))))))) (id⊢ 𝓤 _) $
+        use1 W (later (some (λ (r : Verdict). (Tokens α₁ α₂ ⊛ ‵ (Row .own r (u ∷ []))) ⊛ some (λ (ws : Lasts core.ended (lfts l₇ l₈ γ₁ γ₂ α₁ α₂) (given l₇ l₈ γ₁ γ₂ α₁ α₂)). ‵ (lasts core.ended (lfts l₇ l₈ γ₁ γ₂ α₁ α₂) (given l₇ l₈ γ₁ γ₂ α₁ α₂) ws) ⊛ raw (fact 𝓤 (Told r (ws .1 .1 .1 .1 .1 .1 .0) (ws .1 .1 .1 .1 .1 .1 .1 .0))))))) (id⊢ 𝓤 _) $
         await ! tt $ pick ! (λ r. split ! $ move ! (1 ∷ []) $ pick ! (λ ws. split ! $ move ! (1 ∷ []) $
         heard ! (Told r (ws .1 .1 .1 .1 .1 .1 .0) (ws .1 .1 .1 .1 .1 .1 .1 .0)) (λ e.
         fsplit ! $ drop ! $ fsplit ! $ drop ! $ fsplit ! $ drop ! $ fsplit ! $ drop ! $ fsplit ! $ drop ! $ fsplit ! $ drop ! $ fsplit ! $ move ! (1 ∷ []) $ fsplit ! $
@@ -261,6 +258,6 @@ scan-spec 𝓤 H 𝓜 𝓖 𝓡 =
     entered 𝓤 H (tripleOf 𝓤 H (𝓖 .A) face.signature (face.spec 𝓤 H (𝓖 .A) (𝓜 .mem) (𝓡 .run)))
     (tables 𝓤 H 𝓜 𝓡 code.env .C) (tables 𝓤 H 𝓜 𝓡 code.env .Λ) #nearest·scan code.function (code.unfolded 𝓤 H 𝓜 𝓡)
     (meets 𝓤 H (𝓖 .A) (givenOf 𝓤 H 𝓜 𝓖) (𝓜 .mem) (𝓡 .run) (tablesOf 𝓤 H 𝓜 (tables 𝓤 H 𝓜 𝓡 code.env))
-    (cited 𝓤 H (Core 𝓤 H (𝓖 .A) (𝓜 .mem) (𝓡 .run)) 𝓜 𝓡 code.env #core core-def.routine code.calls-nearest·arrays·scan (core-thm.met 𝓤 H 𝓜 𝓖 𝓡))
-    (cited 𝓤 H (Count 𝓤 H (𝓖 .A) (𝓜 .mem) (𝓡 .run)) 𝓜 𝓡 code.env #count count-def.routine code.calls-nearest·arrays·accepted (count-thm.met 𝓤 H 𝓜 𝓖 𝓡))
+    (cited 𝓤 H (Core 𝓤 H (𝓖 .A) (𝓜 .mem) (𝓡 .run)) 𝓜 𝓡 code.env #core core-def.routine code.calls-arrays·scan (core-thm.met 𝓤 H 𝓜 𝓖 𝓡))
+    (cited 𝓤 H (Count 𝓤 H (𝓖 .A) (𝓜 .mem) (𝓡 .run)) 𝓜 𝓡 code.env #count count-def.routine code.calls-arrays·accepted (count-thm.met 𝓤 H 𝓜 𝓖 𝓡))
     (cited 𝓤 H (Fill 𝓤 H (𝓖 .A) (𝓜 .mem) (𝓡 .run)) 𝓜 𝓡 code.env #fill fill-def.routine code.calls-nearest·fill·fill (fill-thm.met 𝓤 H 𝓜 𝓖 𝓡)))

@@ -52,18 +52,19 @@ use Rattle.search.specs.Search.{Library, searched, searchCauses}
 use Rattle.search.specs.Ready.{library}
 use Rattle.nearest.specs.declared.Entry.{Entry}
 use Rattle.nearest.specs.Entries.{entriesOf, entryRoom, filled}
-use Rattle.nearest.specs.Finding.{Finds, SearchesInto, foundCount}
+use Rattle.arrays.specs.Arrays.{SearchesInto, foundCount}
+use Rattle.nearest.specs.Finding.{Finds}
 use Rattle.nearest.specs.Filled.{outcome-filled, outcome-room, found-outcome}
 use Rattle.nearest.proofs.Local.{zeros, blank, blank-typed, lies, lent-mut, back-mut, lent-shr, room-again}
 use Rattle.nearest.proofs.ToFill.{R, Numbers, Distances, Fill, lfts-fill, given-fill, to-fill, TokensFill, asked-fill}
-use Rattle.nearest.proofs.arrays.search as core
-use Rattle.nearest.proofs.arrays.search.Symbol as core-def
-use Rattle.nearest.proofs.arrays.search.Symbol.{name as #core}
-use Rattle.nearest.proofs.arrays.search.Met as core-thm
-use Rattle.nearest.proofs.arrays.found as count
-use Rattle.nearest.proofs.arrays.found.Symbol as count-def
-use Rattle.nearest.proofs.arrays.found.Symbol.{name as #count}
-use Rattle.nearest.proofs.arrays.found.Met as count-thm
+use Rattle.arrays.proofs.search as core
+use Rattle.arrays.proofs.search.Symbol as core-def
+use Rattle.arrays.proofs.search.Symbol.{name as #core}
+use Rattle.arrays.proofs.search.Met as core-thm
+use Rattle.arrays.proofs.found as count
+use Rattle.arrays.proofs.found.Symbol as count-def
+use Rattle.arrays.proofs.found.Symbol.{name as #count}
+use Rattle.arrays.proofs.found.Met as count-thm
 use Rattle.nearest.proofs.fill.fill as fill
 use Rattle.nearest.proofs.fill.fill.Symbol as fill-def
 use Rattle.nearest.proofs.fill.fill.Symbol.{name as #fill}
@@ -72,9 +73,6 @@ use Rattle.nearest.proofs.search.Key.{name as #nearest·search}
 use Rattle.nearest.proofs.search as face
 use Rattle.nearest.proofs.search.Statement as stated
 use Rattle.nearest.proofs.search.Code as code
-
-abbrev Answer : Type 0
-Answer = Searched
 
 abbrev Row : RattleType
 Row = Ans.the-row
@@ -115,23 +113,23 @@ module _ {M : Type 1} (𝓤 : URA M) (H : Heap 𝓤) (A : Atoms 𝓤) (W : Given
   abbrev Told : Searched → List ℕ → List ℕ → List ℕ → Type 0
   Told r ns ds rs = SearchesInto verdict l (now query) k r (length (now entries)) (now reads) ns ds rs
 
-  abbrev Counted : Answer → ℕ
+  abbrev Counted : Searched → ℕ
   Counted r = foundCount r k
 
   -- the entries to fill are there, in the arrays too
-  room-for : (r : Answer) (ns ds : List ℕ) (rs : List ℕ) (c : ℕ) → Told r ns ds rs → c ≡ Counted r → (c ≤ length (now entries)) × (c ≤ maxVectors)
+  room-for : (r : Searched) (ns ds : List ℕ) (rs : List ℕ) (c : ℕ) → Told r ns ds rs → c ≡ Counted r → (c ≤ length (now entries)) × (c ≤ maxVectors)
   room-for r ns ds rs c e e₂ = rw (e₂ ∙ ap (λ (a : Searched). foundCount a k) (e .answer) ∙ found-outcome verdict _ k) (outcome-room verdict k pairs ns ds (length (now entries)) (e .stands))
 
-  abbrev Claim : Answer → List Entry → List ℕ → Type 0
+  abbrev Claim : Searched → List Entry → List ℕ → Type 0
   Claim r zs rs = Finds verdict l (now query) k r (now entries) (now reads) zs rs
 
-  told : (r : Answer) (ns ds : List ℕ) (rs : List ℕ) (c : ℕ) (zs : List Entry) → Told r ns ds rs → c ≡ Counted r → zs ≡ filled ns ds (now entries) c → Claim r zs rs
+  told : (r : Searched) (ns ds : List ℕ) (rs : List ℕ) (c : ℕ) (zs : List Entry) → Told r ns ds rs → c ≡ Counted r → zs ≡ filled ns ds (now entries) c → Claim r zs rs
   told r ns ds rs c zs e e₂ e₃ =
       let filling : zs ≡ outcome verdict (entriesOf pairs) (λ _. now entries) =
       e₃ ∙ ap (filled ns ds (now entries)) (e₂ ∙ ap (λ (a : Searched). foundCount a k) (e .answer) ∙ found-outcome verdict _ k) ∙ outcome-filled verdict k pairs ns ds (now entries) (e .stands) in
       record { answer = e .answer; entries-are = filling; reads-are = e .reads-are }
 
-  exits : (r : Answer) (u : Val) (zs : List Entry) (rs : List ℕ) (size-reads : length rs ≡ length (now reads)) → length zs ≡ length (now entries) → Claim r zs rs → ent 𝓤 (⋆ 𝓤 H A (‵ (finally R (name entries) zs) ∷ ‵ (finally u32 (name reads) rs) ∷ ‵ (Row .own r (u ∷ [])) ∷ ‵ (flft κ-query q-query) ∷ ‵ (flft κ-marks q-marks) ∷ ‵ (flft κ-codes q-codes) ∷ ‵ (flft κ-vectors q-vectors) ∷ ‵ (flft κ-entries q-entries) ∷ ‵ (flft κ-reads q-reads) ∷ [])) (Post u)
+  exits : (r : Searched) (u : Val) (zs : List Entry) (rs : List ℕ) (size-reads : length rs ≡ length (now reads)) → length zs ≡ length (now entries) → Claim r zs rs → ent 𝓤 (⋆ 𝓤 H A (‵ (finally R (name entries) zs) ∷ ‵ (finally u32 (name reads) rs) ∷ ‵ (Row .own r (u ∷ [])) ∷ ‵ (flft κ-query q-query) ∷ ‵ (flft κ-marks q-marks) ∷ ‵ (flft κ-codes q-codes) ∷ ‵ (flft κ-vectors q-vectors) ∷ ‵ (flft κ-entries q-entries) ∷ ‵ (flft κ-reads q-reads) ∷ [])) (Post u)
   exits r u zs rs size-reads size claim =
       qed W (‵ (finally R (name entries) zs) ∷ ‵ (finally u32 (name reads) rs) ∷ ‵ (Row .own r (u ∷ [])) ∷ ‵ (flft κ-query q-query) ∷ ‵ (flft κ-marks q-marks) ∷ ‵ (flft κ-codes q-codes) ∷ ‵ (flft κ-vectors q-vectors) ∷ ‵ (flft κ-entries q-entries) ∷ ‵ (flft κ-reads q-reads) ∷ []) ∵
       suffices ! _ (ends-at 𝓤 H A face.ended stayed (face.clauses 𝓤 H A mem run) W bound u r (tt, (tt, (tt, (tt, (tt, (tt, (tt, (tt, (zs, (rs, tt)))))))))) (tt, (tt, (tt, (tt, (tt, (tt, (tt, (tt, (size, (size-reads, tt))))))))))) $ says ! claim $
@@ -164,17 +162,17 @@ module _ {M : Type 1} (𝓤 : URA M) (H : Heap 𝓤) (A : Atoms 𝓤) (W : Given
     asked : ent 𝓤 (onEntry 𝓤 H A core.signature lfts (q-query, (q-marks, (q-codes, (q-vectors, (fullShare, (fullShare, (q-reads, tt))))))) given passed) (Core 𝓤 H A mem run .pre to)
     asked = qed W (raw (onEntry 𝓤 H A core.signature lfts (q-query, (q-marks, (q-codes, (q-vectors, (fullShare, (fullShare, (q-reads, tt))))))) given passed) ∷ []) ∵ frame ! $ done !
 
-  module _ (r : Answer) (u : Val) where
+  module _ (r : Searched) (u : Val) where
     abbrev to-count : Count 𝓤 H A mem run .Ghost
     to-count = ((tt, tt, tt, (r, (k, tt)), (u ∷ [], (vint w64 k ∷ [], tt))), tt)
 
     asked-count : ent 𝓤 (onEntry 𝓤 H A count.signature tt tt (r, (k, tt)) (u ∷ [], (vint w64 k ∷ [], tt))) (Count 𝓤 H A mem run .pre to-count)
     asked-count = qed W (raw (onEntry 𝓤 H A count.signature tt tt (r, (k, tt)) (u ∷ [], (vint w64 k ∷ [], tt))) ∷ []) ∵ frame ! $ done !
 
-  said-count : (r : Answer) (c : ℕ) → ent 𝓤 (ensured 𝓤 H A count.ended (count.clauses 𝓤 H A mem run) tt (r, (k, tt)) tt c) (fact 𝓤 (c ≡ Counted r))
+  said-count : (r : Searched) (c : ℕ) → ent 𝓤 (ensured 𝓤 H A count.ended (count.clauses 𝓤 H A mem run) tt (r, (k, tt)) tt c) (fact 𝓤 (c ≡ Counted r))
   said-count r c = exE 𝓤 _ (λ ws. snd∗ 𝓤 (sem 𝓤 H A (lasts count.ended tt (r, (k, tt)) ws)) (fact 𝓤 (c ≡ Counted r)))
 
-  typed : (r : Answer) (u : Val) → Is Row r (u ∷ []) → T (hasTy Ans′.mir u) × WT u
+  typed : (r : Searched) (u : Val) → Is Row r (u ∷ []) → T (hasTy Ans′.mir u) × WT u
   typed r u is = EL.lawful Ans.the-type Ans′.the-laws 𝓤 H A W tt .typed r _ is .0
 
   module _ (𝓣 : Tables 𝓤 H) (known-core : Triple 𝓤 (𝓣 .C #core) (Core 𝓤 H A mem run)) (known-count : Triple 𝓤 (𝓣 .C #count) (Count 𝓤 H A mem run)) (known-fill : Triple 𝓤 (𝓣 .C #fill) (Fill 𝓤 H A mem run)) (fits-d : d < 2 ^ 64) (fits-b : b < 2 ^ 64) (fits-n : n < 2 ^ 64) (fits-k : k < 2 ^ 64) (room-query : Room i32 (length (now query))) (room-marks : Room i32 (length (now marks))) (room-codes : Room u8 (length (now codes))) (room-vectors : Room i32 (length (now vectors))) (room-entries : Room R (length (now entries))) (room-reads : Room u32 (length (now reads))) where
@@ -210,7 +208,7 @@ module _ {M : Type 1} (𝓤 : URA M) (H : Heap 𝓤) (A : Atoms 𝓤) (W : Given
         use1 W (raw (Core 𝓤 H A mem run .pre (to l₁₁ l₁₂ γ₁ γ₂ α₁ α₂))) (asked l₁₁ l₁₂ γ₁ γ₂ α₁ α₂) $
         -- [pre; [entries]; lent distances; lent numbers; own entries; true; the locals]
         calls-at ! fm (Core 𝓤 H A mem run) known-core (to l₁₁ l₁₂ γ₁ γ₂ α₁ α₂) (and-then ! (load ! (from ! (stop !)) (look ! 48 refl)) (and-then ! (load ! (from ! (stop !)) (look ! 46 refl)) (and-then ! (load ! (from ! (stop !)) (look ! 44 refl)) (and-then ! (load ! (from ! (stop !)) (look ! 42 refl)) (and-then ! (load ! (from ! (stop !)) (look ! 40 refl)) (and-then ! (load ! (from ! (stop !)) (look ! 38 refl)) (and-then ! (load ! (from ! (stop !)) (look ! 36 refl)) (and-then ! (load ! (from ! (stop !)) (look ! 34 refl)) (and-then ! (load ! (from ! (stop !)) (look ! 22 refl)) (and-then ! (load ! (from ! (stop !)) (look ! 20 refl)) (and-then ! (load ! (from ! (stop !)) (look ! 18 refl)) (and-then ! (load ! (from ! (stop !)) (look ! 14 refl)) (no-more !))))))))))))) (λ u.
-        use1 W (later (some (λ (r : Answer). (Tokens α₁ α₂ ⊛ ‵ (Row .own r (u ∷ []))) ⊛ some (λ (ws : Lasts core.ended (lfts l₁₁ l₁₂ γ₁ γ₂ α₁ α₂) (given l₁₁ l₁₂ γ₁ γ₂ α₁ α₂)). ‵ (lasts core.ended (lfts l₁₁ l₁₂ γ₁ γ₂ α₁ α₂) (given l₁₁ l₁₂ γ₁ γ₂ α₁ α₂) ws) ⊛ raw (fact 𝓤 (Told r (ws .1 .1 .1 .1 .1 .1 .1 .1 .1 .0) (ws .1 .1 .1 .1 .1 .1 .1 .1 .1 .1 .0) (ws .1 .1 .1 .1 .1 .1 .1 .1 .1 .1 .1 .0))))))) (id⊢ 𝓤 _) $
+        use1 W (later (some (λ (r : Searched). (Tokens α₁ α₂ ⊛ ‵ (Row .own r (u ∷ []))) ⊛ some (λ (ws : Lasts core.ended (lfts l₁₁ l₁₂ γ₁ γ₂ α₁ α₂) (given l₁₁ l₁₂ γ₁ γ₂ α₁ α₂)). ‵ (lasts core.ended (lfts l₁₁ l₁₂ γ₁ γ₂ α₁ α₂) (given l₁₁ l₁₂ γ₁ γ₂ α₁ α₂) ws) ⊛ raw (fact 𝓤 (Told r (ws .1 .1 .1 .1 .1 .1 .1 .1 .1 .0) (ws .1 .1 .1 .1 .1 .1 .1 .1 .1 .1 .0) (ws .1 .1 .1 .1 .1 .1 .1 .1 .1 .1 .1 .0))))))) (id⊢ 𝓤 _) $
         await ! tt $ pick ! (λ r. split ! $ move ! (1 ∷ []) $ pick ! (λ ws. split ! $ move ! (1 ∷ []) $
         heard ! (Told r (ws .1 .1 .1 .1 .1 .1 .1 .1 .1 .0) (ws .1 .1 .1 .1 .1 .1 .1 .1 .1 .1 .0) (ws .1 .1 .1 .1 .1 .1 .1 .1 .1 .1 .1 .0)) (λ e.
         fsplit ! $ drop ! $ fsplit ! $ drop ! $ fsplit ! $ drop ! $ fsplit ! $ drop ! $ fsplit ! $ drop ! $ fsplit ! $ drop ! $ fsplit ! $ drop ! $ fsplit ! $ drop ! $ fsplit ! $
@@ -273,6 +271,6 @@ search-spec 𝓤 H 𝓜 𝓖 𝓡 =
     entered 𝓤 H (tripleOf 𝓤 H (𝓖 .A) face.signature (face.spec 𝓤 H (𝓖 .A) (𝓜 .mem) (𝓡 .run)))
     (tables 𝓤 H 𝓜 𝓡 code.env .C) (tables 𝓤 H 𝓜 𝓡 code.env .Λ) #nearest·search code.function (code.unfolded 𝓤 H 𝓜 𝓡)
     (meets 𝓤 H (𝓖 .A) (givenOf 𝓤 H 𝓜 𝓖) (𝓜 .mem) (𝓡 .run) (tablesOf 𝓤 H 𝓜 (tables 𝓤 H 𝓜 𝓡 code.env))
-    (cited 𝓤 H (Core 𝓤 H (𝓖 .A) (𝓜 .mem) (𝓡 .run)) 𝓜 𝓡 code.env #core core-def.routine code.calls-nearest·arrays·search (core-thm.met 𝓤 H 𝓜 𝓖 𝓡))
-    (cited 𝓤 H (Count 𝓤 H (𝓖 .A) (𝓜 .mem) (𝓡 .run)) 𝓜 𝓡 code.env #count count-def.routine code.calls-nearest·arrays·found (count-thm.met 𝓤 H 𝓜 𝓖 𝓡))
+    (cited 𝓤 H (Core 𝓤 H (𝓖 .A) (𝓜 .mem) (𝓡 .run)) 𝓜 𝓡 code.env #core core-def.routine code.calls-arrays·search (core-thm.met 𝓤 H 𝓜 𝓖 𝓡))
+    (cited 𝓤 H (Count 𝓤 H (𝓖 .A) (𝓜 .mem) (𝓡 .run)) 𝓜 𝓡 code.env #count count-def.routine code.calls-arrays·found (count-thm.met 𝓤 H 𝓜 𝓖 𝓡))
     (cited 𝓤 H (Fill 𝓤 H (𝓖 .A) (𝓜 .mem) (𝓡 .run)) 𝓜 𝓡 code.env #fill fill-def.routine code.calls-nearest·fill·fill (fill-thm.met 𝓤 H 𝓜 𝓖 𝓡)))

@@ -1,66 +1,67 @@
--- `check_vectors` meets its contract: the vectors so far pass. Assumes nothing.
-use mathlib.Core.Path.{_≡_, sym, _∙_}
-use Prim.Native.Nat.{_-_, _≤_}
+-- `check_vectors` meets its contract: between the ends of the marks is inside the marks. Assumes nothing.
+use mathlib.Core.Path.{_≡_, ap, _∙_}
+use Prim.Native.Nat.{_≤_}
 use native.Mathlib.Omega.{arith}
 use borrow.Author.Needs.{needs}
-use Rattle.refusal.specs.declared.Verdict.the-variants.{Accepted}
-use Rattle.refusal.specs.First.{first, first-none}
-use Rattle.library.specs.Each.{each}
-use Rattle.library.specs.EachLaws.{each-more, each-stops}
-use Rattle.library.specs.Library.{readLibrary}
-use Rattle.loading.specs.Load.{vectorCauses}
+use Rattle.refusal.specs.First.{first}
+use Rattle.limits.specs.Limits.{maxDimensions}
+use Rattle.layout.specs.Stretch.{shape}
+use Rattle.library.specs.Library.{markTotal, markAt}
+use Rattle.library.specs.Sizes.{marks-few, marks-length-is}
+use Rattle.library.specs.Ends.{EndMarks}
 use Rattle.loading.specs.Heads.{HeadOf, head-of}
+use Rattle.loading.specs.Checks.{vectors-between}
 use Rattle.loading.proofs.check.check_vectors.Statement.{statement}
 use Rattle.loading.proofs.check.check_vectors.Tie as tie
 
-abbrev Inv-loop : tie.InvT-loop
-Inv-loop bytes counts i₀ i = (i ≤ counts .n) × (first (each i (vectorCauses (readLibrary bytes) bytes)) ≡ Accepted)
+module _ (c : tie.After-counts-of) where
+  head : HeadOf (c .before .before .args .bytes .now) (c .counts-of .result .d) (c .counts-of .result .b) (c .counts-of .result .n)
+  head =
+      let is = c .counts-of .ensures in
+      head-of (c .before .before .args .bytes .now) (c .before .before .pre) (is .0) (is .1) (is .2)
 
-abbrev μ-loop : tie.MeasureT-loop
-μ-loop bytes counts i₀ i = counts .n - i
+  few : c .counts-of .result .d ≤ maxDimensions
+  few = shape _ _ (head .of-shape .shape-passes) .few
 
--- the head
-head : (c : tie.After-counts-of Inv-loop μ-loop) → let counts = c .counts-of .result in HeadOf (c .before .before .args .bytes .now) (counts .d) (counts .b) (counts .n)
-head c =
-    let start = c .before .before in
-    let is = c .counts-of .ensures in
-    head-of (start .args .bytes .now) (start .pre) (is .0) (is .1) (is .2)
+-- the number of marks
+total-is : (c : tie.After-marks-length) → let counts = c .before .counts-of .result in c .marks-length .result ≡ markTotal (counts .d) (counts .b)
+total-is c = c .marks-length .ensures ∙ marks-length-is _ _ (head (c .before) .of-shape .shape-passes)
 
-loop-again : tie.Need-loop-again Inv-loop μ-loop
-loop-again c =
-    let now = c .before .before .before .before .before in
-    let bytes = now .before .before .before .args .bytes .now in
-    let passes = sym (c .before .before .check-vector .ensures) ∙ c .enum-told .given .1 in
-    (omega (arith, c .before .before .before .if1 .taken), each-more (now .loop .i) (vectorCauses (readLibrary bytes) bytes) (now .loop .inv .1) passes)
+few-marks : (c : tie.After-marks-length) → c .marks-length .result ≤ 2080
+few-marks c = rw (total-is c) (marks-few _ _ (shape _ _ (head (c .before) .of-shape .shape-passes)))
 
-returns : tie.Need-returns Inv-loop μ-loop
+-- the buffers hold the ends
+ends : (c : tie.After-read-ends) → let counts = c .before .before .before .before .counts-of .result in
+    EndMarks (counts .d) (counts .b) (markAt (c .before .before .before .before .before .before .args .bytes .now)) (c .read-ends .last .1 .1 .1 .0) (c .read-ends .last .1 .1 .1 .1 .0)
+ends c = record { rest = _; rest' = _; lows-are = c .read-ends .ensures .0; highs-are = c .read-ends .ensures .1 }
+
+check-each-requires : tie.Need-check-each-requires
+check-each-requires c κs =
+    let filled = c .before .before .before .before in
+    let marks = filled .before .before .before in
+    let kept = filled .read-ends .kept .1 .1 .1 in (
+      record { few = few (marks .before); low = omega (arith, few (marks .before), kept .0); high = omega (arith, few (marks .before), kept .1 .0) },
+      omega (arith, few-marks marks),
+      omega (arith, head (marks .before) .few),
+    )
+
+returns : tie.Need-returns
 returns c =
-    let here = c .before .before .before in
-    let now = here .before .before .before in
-    let bytes = now .before .before .before .args .bytes .now in
-    let refused = sym (here .check-vector .ensures) ∙ c .before .cause .given .1 in
-    rw (head (now .before) .n-is) (sym (each-stops _ (vectorCauses (readLibrary bytes) bytes) (now .loop .i) (here .before .if1 .taken) (now .loop .inv .1) refused))
-
-returns-2 : tie.Need-returns-2 Inv-loop μ-loop
-returns-2 c =
-    let now = c .before .before in
-    let all : now .loop .i ≡ now .before .counts-of .result .n = omega (arith, now .loop .inv .0, c .if1 .left) in
-    rw (head (now .before) .n-is) (sym (rw all at (now .loop .inv .1)))
+    let filled = c .before .before .before .before .before in
+    let marks = filled .before .before .before in
+    let bytes = marks .before .before .before .args .bytes .now in
+    c .check-each .ensures ∙ ap first (vectors-between bytes (head (marks .before)) (total-is marks) (ends filled))
 
 pub check-vectors-spec : {M : Type 1} → statement M
-unfolding each
 check-vectors-spec =
     tie.close
     (tie.spec
-    Inv-loop
-    μ-loop
     (λ c κs. search needs)
-    (λ c. (omega arith, first-none))
-    (λ c κs. (head (c .before .before .before) .of-shape, omega (arith, head (c .before .before .before) .few, c .if1 .taken)))
+    (λ c κs. search needs)
     (λ c. search needs)
-    (λ c. omega (arith, head (c .before .before .before .before .before .before) .few, c .before .before .before .if1 .taken))
-    (λ c. omega (arith, c .before .before .before .if1 .taken))
-    loop-again
     (λ c. search needs)
-    returns
-    returns-2)
+    (λ c κs. let at = c .before .before .before in (head at .of-shape .shape-passes, few at, few at))
+    (λ c. search needs)
+    (λ c. search needs)
+    check-each-requires
+    returns)

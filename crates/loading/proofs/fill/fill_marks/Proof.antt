@@ -3,7 +3,7 @@ use Prim.Native.Nat.{_-_}
 use native.Mathlib.Omega.{arith}
 use Rattle.whole.proofs.ReadBack.{given}
 use Rattle.library.specs.Library.{markAt}
-use Rattle.loading.proofs.Filling.{Filling, filling-start, filling-next, filling-end}
+use Rattle.library.proofs.Filling.{Filling, filling-start, filling-next, filling-end}
 use Rattle.loading.proofs.fill.fill_marks.Statement.{statement}
 use Rattle.loading.proofs.fill.fill_marks.Tie as tie
 

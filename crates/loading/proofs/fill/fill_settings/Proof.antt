@@ -5,8 +5,8 @@ use native.Mathlib.Omega.{arith}
 use borrow.Author.Needs.{needs}
 use Rattle.library.specs.Library.{settingsAt}
 use Rattle.library.specs.Sizes.{vector-place}
+use Rattle.library.proofs.Filling.{Filling, filling-start, filling-next, filling-end}
 use Rattle.loading.specs.ReadLaws.{settings-value}
-use Rattle.loading.proofs.Filling.{Filling, filling-start, filling-next, filling-end}
 use Rattle.loading.proofs.fill.fill_settings.Statement.{statement}
 use Rattle.loading.proofs.fill.fill_settings.Tie as tie
 

@@ -63,9 +63,6 @@ use Rattle.matcher.proofs.entries.matcher_scan.Code as code
 abbrev R : RattleType
 R = S.the-row
 
-abbrev Answer : Type 0
-Answer = Verdict
-
 abbrev Row : RattleType
 Row = Ans.the-row
 
@@ -81,13 +78,19 @@ module _ {M : Type 1} (𝓤 : URA M) (H : Heap 𝓤) (A : Atoms 𝓤) (mem : Mem
   Number = tripleOf 𝓤 H A number.signature (number.spec 𝓤 H A mem run)
 
 module _ {M : Type 1} (𝓤 : URA M) (H : Heap 𝓤) (A : Atoms 𝓤) (W : Given 𝓤 H A) (mem : Memory → SProp 𝓤) (run : Routine → Fun 𝓤) (κ-query κ-vectors κ-entries : Lft) (q-query q-vectors q-entries : Share) (d : ℕ) (n : ℕ) (k : ℕ) (query : RefT (List ℤ)) (vectors : RefT (List ℤ)) (entries : RefT (List Entry)) where
-  -- the parameters' machine values
-  abbrev at : Vals face.signature (κ-query, (κ-vectors, (κ-entries, tt)))
+  -- the lifetimes, the parameters and their machine values: the core is at the same
+  abbrev lfts : Lfts (face.signature .lifetimes)
+  lfts = (κ-query, (κ-vectors, (κ-entries, tt)))
+
+  abbrev given : Args face.signature lfts
+  given = (d, (n, (k, (query, (vectors, (entries, tt))))))
+
+  abbrev at : Vals face.signature lfts
   at = (vint w64 d ∷ [], (vint w64 n ∷ [], (vint w64 k ∷ [], (slice-vals query, (slice-vals vectors, (slice-vals entries, tt))))))
 
   -- what the triple binds outside
   abbrev bound : walkOf 𝓤 H A face.ended stayed (face.clauses 𝓤 H A mem run) .Ghost
-  bound = (((κ-query, (κ-vectors, (κ-entries, tt))), (q-query, (q-vectors, (q-entries, tt))), tt, (d, (n, (k, (query, (vectors, (entries, tt)))))), at), tt)
+  bound = ((lfts, (q-query, (q-vectors, (q-entries, tt))), tt, given, at), tt)
 
   abbrev Post : Val → SProp 𝓤
   Post = walkOf 𝓤 H A face.ended stayed (face.clauses 𝓤 H A mem run) .post bound
@@ -109,7 +112,7 @@ module _ {M : Type 1} (𝓤 : URA M) (H : Heap 𝓤) (A : Atoms 𝓤) (W : Given
   abbrev Tokens : Item 𝓤
   Tokens = ‵ (flft κ-query q-query) ⊛ (‵ (flft κ-vectors q-vectors) ⊛ (‵ (flft κ-entries q-entries) ⊛ ‵ ftrue))
 
-  told : (r : Answer) (m : ℕ) (zs : List Entry) → Told r zs → Numbered r m → Claim m zs
+  told : (r : Verdict) (m : ℕ) (zs : List Entry) → Told r zs → Numbered r m → Claim m zs
   told r m zs e e₂ = (e₂ ∙ ap verdictNumber (e .0), e .1)
 
   exits : (m : ℕ) (u : Val) (zs : List Entry) → length zs ≡ length (now entries) → Claim m zs → ent 𝓤 (⋆ 𝓤 H A (‵ (finally R (name entries) zs) ∷ ‵ (u32 .own m (u ∷ [])) ∷ Tokens ∷ [])) (Post u)
@@ -118,35 +121,26 @@ module _ {M : Type 1} (𝓤 : URA M) (H : Heap 𝓤) (A : Atoms 𝓤) (W : Given
       suffices ! _ (ends-at 𝓤 H A face.ended stayed (face.clauses 𝓤 H A mem run) W bound u m (tt, (tt, (tt, (tt, (tt, (zs, tt)))))) (tt, (tt, (tt, (tt, (tt, (size, tt))))))) $ says ! claim $
       move ! (2 ∷ []) $ frame ! $ nothing ! $ nothing ! $ nothing ! $ nothing ! $ nothing ! $ nothing ! $ move ! (5 ∷ 4 ∷ 3 ∷ 2 ∷ 1 ∷ 6 ∷ 0 ∷ []) $ group ! 7 $ frame ! $ done !
 
-  -- ---- what each callee is passed
-  abbrev lfts : Lfts (core.signature .lifetimes)
-  lfts = (κ-query, (κ-vectors, (κ-entries, tt)))
-
-  abbrev given : Args core.signature lfts
-  given = (d, (n, (k, (query, (vectors, (entries, tt))))))
-
-  abbrev passed : Vals core.signature lfts
-  passed = (vint w64 d ∷ [], (vint w64 n ∷ [], (vint w64 k ∷ [], (slice-vals query, (slice-vals vectors, (slice-vals entries, tt))))))
-
+  -- ---- what each callee is at
   abbrev to : Core 𝓤 H A mem run .Ghost
-  to = ((lfts, (q-query, (q-vectors, (q-entries, tt))), tt, given, passed), tt)
+  to = ((lfts, (q-query, (q-vectors, (q-entries, tt))), tt, given, at), tt)
 
-  asked : ent 𝓤 (onEntry 𝓤 H A core.signature lfts (q-query, (q-vectors, (q-entries, tt))) given passed) (Core 𝓤 H A mem run .pre to)
-  asked = qed W (raw (onEntry 𝓤 H A core.signature lfts (q-query, (q-vectors, (q-entries, tt))) given passed) ∷ []) ∵ frame ! $ done !
+  asked : ent 𝓤 (onEntry 𝓤 H A core.signature lfts (q-query, (q-vectors, (q-entries, tt))) given at) (Core 𝓤 H A mem run .pre to)
+  asked = qed W (raw (onEntry 𝓤 H A core.signature lfts (q-query, (q-vectors, (q-entries, tt))) given at) ∷ []) ∵ frame ! $ done !
 
   abbrev lfts-number : Lfts (number.signature .lifetimes)
   lfts-number = tt
 
-  abbrev given-number : Answer → Args number.signature lfts-number
+  abbrev given-number : Verdict → Args number.signature lfts-number
   given-number r = (r, tt)
 
   abbrev passed-number : Val → Vals number.signature lfts-number
   passed-number u = (u ∷ [], tt)
 
-  abbrev to-number : Answer → Val → Number 𝓤 H A mem run .Ghost
+  abbrev to-number : Verdict → Val → Number 𝓤 H A mem run .Ghost
   to-number r u = ((lfts-number, tt, tt, given-number r, passed-number u), tt)
 
-  asked-number : (r : Answer) (u : Val) → ent 𝓤 (onEntry 𝓤 H A number.signature lfts-number tt (given-number r) (passed-number u)) (Number 𝓤 H A mem run .pre (to-number r u))
+  asked-number : (r : Verdict) (u : Val) → ent 𝓤 (onEntry 𝓤 H A number.signature lfts-number tt (given-number r) (passed-number u)) (Number 𝓤 H A mem run .pre (to-number r u))
   asked-number r u = qed W (raw (onEntry 𝓤 H A number.signature lfts-number tt (given-number r) (passed-number u)) ∷ []) ∵ frame ! $ done !
 
   module _ (𝓣 : Tables 𝓤 H) (known-core : Triple 𝓤 (𝓣 .C #core) (Core 𝓤 H A mem run)) (known-number : Triple 𝓤 (𝓣 .C #number) (Number 𝓤 H A mem run)) (fits-d : d < 2 ^ 64) (fits-n : n < 2 ^ 64) (fits-k : k < 2 ^ 64) (room-query : Room i32 (length (now query))) (room-vectors : Room i32 (length (now vectors))) (room-entries : Room R (length (now entries))) where
@@ -161,13 +155,13 @@ module _ {M : Type 1} (𝓤 : URA M) (H : Heap 𝓤) (A : Atoms 𝓤) (W : Given
         alloc0 ! $ params1 ! $ pass1 ! (init ! 16 refl (tt, record { fits = fits-d })) $ pass1 ! (init ! 14 refl (tt, record { fits = fits-n })) $
         pass1 ! (init ! 12 refl (tt, record { fits = fits-k })) $ pass1 ! (init ! 10 refl (tt, (tt, (record { fits = room-query .0 }, tt)))) $
         pass1 ! (init ! 8 refl (tt, (tt, (record { fits = room-vectors .0 }, tt)))) $ pass1 ! (init ! 6 refl (tt, (tt, (record { fits = room-entries .0 }, tt)))) $ pass0 ! $
-        -- what the core is passed
+        -- what the core is at
         assigns ! (addr ! (from ! (fld ! refl (hop ! (look-in ! 6 (sub ! 0 refl (whole !))) (stop !))))) (from ! (stop !)) (init ! 2 refl (tt, tt)) $
         assigns ! (agg ! (and-then ! (load ! (from ! (stop !)) (look ! 2 refl)) (and-then ! (load ! (from ! (fld ! refl (stop !))) (look-in ! 6 (sub ! 1 refl (whole !)))) (no-more !)))) (from ! (stop !)) (init ! 0 refl (tt, (tt, (record { fits = room-entries .0 }, tt)))) $
         move ! (20 ∷ 21 ∷ []) $ join ! $ use1 W (raw (Core 𝓤 H A mem run .pre to)) (asked) $
         -- [pre; the locals]
         calls-at ! fm (Core 𝓤 H A mem run) known-core to (and-then ! (load ! (from ! (stop !)) (look ! 17 refl)) (and-then ! (load ! (from ! (stop !)) (look ! 15 refl)) (and-then ! (load ! (from ! (stop !)) (look ! 13 refl)) (and-then ! (load ! (from ! (stop !)) (look ! 11 refl)) (and-then ! (load ! (from ! (stop !)) (look ! 9 refl)) (and-then ! (load ! (from ! (stop !)) (look ! 1 refl)) (no-more !))))))) (λ u.
-        use1 W (later (some (λ (r : Answer). (Tokens ⊛ ‵ (Row .own r (u ∷ []))) ⊛ some (λ (ws : Lasts core.ended lfts given). ‵ (lasts core.ended lfts given ws) ⊛ raw (fact 𝓤 (Told r (ws .1 .1 .1 .1 .1 .0))))))) (id⊢ 𝓤 _) $
+        use1 W (later (some (λ (r : Verdict). (Tokens ⊛ ‵ (Row .own r (u ∷ []))) ⊛ some (λ (ws : Lasts core.ended lfts given). ‵ (lasts core.ended lfts given ws) ⊛ raw (fact 𝓤 (Told r (ws .1 .1 .1 .1 .1 .0))))))) (id⊢ 𝓤 _) $
         await ! tt $ pick ! (λ r. split ! $ move ! (1 ∷ []) $ pick ! (λ ws. split ! $ move ! (1 ∷ []) $ heard ! (Told r (ws .1 .1 .1 .1 .1 .0)) (λ e.
         fsplit ! $ drop ! $ fsplit ! $ drop ! $ fsplit ! $ drop ! $ fsplit ! $ drop ! $ fsplit ! $ drop ! $ fsplit ! $ move ! (1 ∷ []) $ drop ! $ fsplit ! $ move ! (1 ∷ []) $
         feqL ! (λ size. move ! (1 ∷ []) $ split ! $ move ! (1 ∷ []) $ peeks ! Row (Is Row) (shows 𝓤 H A Row) r (u ∷ []) (λ is.

@@ -1,4 +1,4 @@
--- `matcher_search` meets its contract: a walk of its MIR, by hand. The buffers go on to `nearest::search`, and `told` puts the count in its place.
+-- `matcher_search` meets its contract: a walk of its MIR, by hand. The buffers go on to `nearest::search`, and `tell::searched` puts the count in its place.
 -- Of each callee the proof knows the contract alone. In the notes on the context, [x] is the token of x's lifetime. Assumes nothing.
 use mathlib.Core.Path.{_≡_, refl, _∙_}
 use Prim.Native.Nat.{ℕ, _<_, _^_}
@@ -55,10 +55,10 @@ use Rattle.nearest.proofs.search as core
 use Rattle.nearest.proofs.search.Symbol as core-def
 use Rattle.nearest.proofs.search.Symbol.{name as #core}
 use Rattle.nearest.proofs.search.Met as core-thm
-use Rattle.matcher.proofs.entries.told as number
-use Rattle.matcher.proofs.entries.told.Symbol as number-def
-use Rattle.matcher.proofs.entries.told.Symbol.{name as #number}
-use Rattle.matcher.proofs.entries.told.Met as number-thm
+use Rattle.tell.proofs.searched as number
+use Rattle.tell.proofs.searched.Symbol as number-def
+use Rattle.tell.proofs.searched.Symbol.{name as #number}
+use Rattle.tell.proofs.searched.Met as number-thm
 use Rattle.matcher.proofs.Told.{told-number, told-value}
 use Rattle.matcher.proofs.entries.matcher_search.Key.{name as #matcher-search}
 use Rattle.matcher.proofs.entries.matcher_search as face
@@ -67,9 +67,6 @@ use Rattle.matcher.proofs.entries.matcher_search.Code as code
 
 abbrev R : RattleType
 R = S.the-row
-
-abbrev Answer : Type 0
-Answer = Searched
 
 abbrev Row : RattleType
 Row = Ans.the-row
@@ -120,7 +117,7 @@ module _ {M : Type 1} (𝓤 : URA M) (H : Heap 𝓤) (A : Atoms 𝓤) (W : Given
   abbrev Tokens : Item 𝓤
   Tokens = ‵ (flft κ-query q-query) ⊛ (‵ (flft κ-marks q-marks) ⊛ (‵ (flft κ-codes q-codes) ⊛ (‵ (flft κ-vectors q-vectors) ⊛ (‵ (flft κ-entries q-entries) ⊛ (‵ (flft κ-reads q-reads) ⊛ ‵ ftrue)))))
 
-  told : (r : Answer) (m : ℕ) (zs : List Entry) (rs : List ℕ) (w : ℕ) → Told r zs rs → Numbered r m w → Claim m zs rs w
+  told : (r : Searched) (m : ℕ) (zs : List Entry) (rs : List ℕ) (w : ℕ) → Told r zs rs → Numbered r m w → Claim m zs rs w
   told r m zs rs w e e₂ = (e₂ .0 ∙ told-number searchedNumber _ _ refl (λ cause. refl) verdict (e .answer), e₂ .1 ∙ told-value searchedCount _ _ verdict (e .answer), e .entries-are, e .reads-are)
 
   exits : (m : ℕ) (u : Val) (zs : List Entry) (rs : List ℕ) (w : ℕ) (size-reads : length rs ≡ length (now reads)) → length zs ≡ length (now entries) → Claim m zs rs w → ent 𝓤 (⋆ 𝓤 H A (‵ (finally R (name entries) zs) ∷ ‵ (finally u32 (name reads) rs) ∷ ‵ (fres (name count) (usize .coded .code w)) ∷ ‵ (u32 .own m (u ∷ [])) ∷ ‵ (flft κ-query q-query) ∷ ‵ (flft κ-marks q-marks) ∷ ‵ (flft κ-codes q-codes) ∷ ‵ (flft κ-vectors q-vectors) ∷ ‵ (flft κ-entries q-entries) ∷ ‵ (flft κ-reads q-reads) ∷ ‵ (flft κ-count q-count) ∷ [])) (Post u)
@@ -149,16 +146,16 @@ module _ {M : Type 1} (𝓤 : URA M) (H : Heap 𝓤) (A : Atoms 𝓤) (W : Given
   abbrev lfts-number : Lfts (number.signature .lifetimes)
   lfts-number = (κ-count, tt)
 
-  abbrev given-number : Answer → Args number.signature lfts-number
+  abbrev given-number : Searched → Args number.signature lfts-number
   given-number r = (r, (count, tt))
 
   abbrev passed-number : Val → Vals number.signature lfts-number
   passed-number u = (u ∷ [], (ptr-vals count, tt))
 
-  abbrev to-number : Answer → Val → Number 𝓤 H A mem run .Ghost
+  abbrev to-number : Searched → Val → Number 𝓤 H A mem run .Ghost
   to-number r u = ((lfts-number, (q-count, tt), tt, given-number r, passed-number u), tt)
 
-  asked-number : (r : Answer) (u : Val) → ent 𝓤 (onEntry 𝓤 H A number.signature lfts-number (q-count, tt) (given-number r) (passed-number u)) (Number 𝓤 H A mem run .pre (to-number r u))
+  asked-number : (r : Searched) (u : Val) → ent 𝓤 (onEntry 𝓤 H A number.signature lfts-number (q-count, tt) (given-number r) (passed-number u)) (Number 𝓤 H A mem run .pre (to-number r u))
   asked-number r u = qed W (raw (onEntry 𝓤 H A number.signature lfts-number (q-count, tt) (given-number r) (passed-number u)) ∷ []) ∵ frame ! $ done !
 
   module _ (𝓣 : Tables 𝓤 H) (known-core : Triple 𝓤 (𝓣 .C #core) (Core 𝓤 H A mem run)) (known-number : Triple 𝓤 (𝓣 .C #number) (Number 𝓤 H A mem run)) (fits-d : d < 2 ^ 64) (fits-b : b < 2 ^ 64) (fits-n : n < 2 ^ 64) (fits-k : k < 2 ^ 64) (room-query : Room i32 (length (now query))) (room-marks : Room i32 (length (now marks))) (room-codes : Room u8 (length (now codes))) (room-vectors : Room i32 (length (now vectors))) (room-entries : Room R (length (now entries))) (room-reads : Room u32 (length (now reads))) where
@@ -187,7 +184,7 @@ module _ {M : Type 1} (𝓤 : URA M) (H : Heap 𝓤) (A : Atoms 𝓤) (W : Given
         move ! (8 ∷ 7 ∷ 6 ∷ 5 ∷ 4 ∷ 3 ∷ 1 ∷ []) $ group ! 7 $ join ! $ use1 W (raw (Core 𝓤 H A mem run .pre to)) (asked) $
         -- [pre; [count]; own count; true; the locals]
         calls-at ! fm (Core 𝓤 H A mem run) known-core to (and-then ! (load ! (from ! (stop !)) (look ! 34 refl)) (and-then ! (load ! (from ! (stop !)) (look ! 32 refl)) (and-then ! (load ! (from ! (stop !)) (look ! 30 refl)) (and-then ! (load ! (from ! (stop !)) (look ! 28 refl)) (and-then ! (load ! (from ! (stop !)) (look ! 26 refl)) (and-then ! (load ! (from ! (stop !)) (look ! 24 refl)) (and-then ! (load ! (from ! (stop !)) (look ! 22 refl)) (and-then ! (load ! (from ! (stop !)) (look ! 20 refl)) (and-then ! (load ! (from ! (stop !)) (look ! 8 refl)) (and-then ! (load ! (from ! (stop !)) (look ! 4 refl)) (no-more !))))))))))) (λ u.
-        use1 W (later (some (λ (r : Answer). (Tokens ⊛ ‵ (Row .own r (u ∷ []))) ⊛ some (λ (ws : Lasts core.ended lfts given). ‵ (lasts core.ended lfts given ws) ⊛ raw (fact 𝓤 (Told r (ws .1 .1 .1 .1 .1 .1 .1 .1 .0) (ws .1 .1 .1 .1 .1 .1 .1 .1 .1 .0))))))) (id⊢ 𝓤 _) $
+        use1 W (later (some (λ (r : Searched). (Tokens ⊛ ‵ (Row .own r (u ∷ []))) ⊛ some (λ (ws : Lasts core.ended lfts given). ‵ (lasts core.ended lfts given ws) ⊛ raw (fact 𝓤 (Told r (ws .1 .1 .1 .1 .1 .1 .1 .1 .0) (ws .1 .1 .1 .1 .1 .1 .1 .1 .1 .0))))))) (id⊢ 𝓤 _) $
         await ! tt $ pick ! (λ r. split ! $ move ! (1 ∷ []) $ pick ! (λ ws. split ! $ move ! (1 ∷ []) $
         heard ! (Told r (ws .1 .1 .1 .1 .1 .1 .1 .1 .0) (ws .1 .1 .1 .1 .1 .1 .1 .1 .1 .0)) (λ e.
         fsplit ! $ drop ! $ fsplit ! $ drop ! $ fsplit ! $ drop ! $ fsplit ! $ drop ! $ fsplit ! $ drop ! $ fsplit ! $ drop ! $ fsplit ! $ drop ! $ fsplit ! $ drop ! $ fsplit ! $
@@ -228,4 +225,4 @@ matcher-search-spec 𝓤 H 𝓜 𝓖 𝓡 =
     (tables 𝓤 H 𝓜 𝓡 code.env .C) (tables 𝓤 H 𝓜 𝓡 code.env .Λ) #matcher-search code.function (code.unfolded 𝓤 H 𝓜 𝓡)
     (meets 𝓤 H (𝓖 .A) (givenOf 𝓤 H 𝓜 𝓖) (𝓜 .mem) (𝓡 .run) (tablesOf 𝓤 H 𝓜 (tables 𝓤 H 𝓜 𝓡 code.env))
     (cited 𝓤 H (Core 𝓤 H (𝓖 .A) (𝓜 .mem) (𝓡 .run)) 𝓜 𝓡 code.env #core core-def.routine code.calls-nearest·search (core-thm.met 𝓤 H 𝓜 𝓖 𝓡))
-    (cited 𝓤 H (Number 𝓤 H (𝓖 .A) (𝓜 .mem) (𝓡 .run)) 𝓜 𝓡 code.env #number number-def.routine code.calls-matcher·entries·told (number-thm.met 𝓤 H 𝓜 𝓖 𝓡)))
+    (cited 𝓤 H (Number 𝓤 H (𝓖 .A) (𝓜 .mem) (𝓡 .run)) 𝓜 𝓡 code.env #number number-def.routine code.calls-tell·searched (number-thm.met 𝓤 H 𝓜 𝓖 𝓡)))

@@ -1,4 +1,4 @@
--- `matcher_load` meets its contract: the number is that of the verdict, and counts and buffers are as the call gives and leaves them. Assumes nothing.
+-- `matcher_load` meets its contract: what is told is read off the answer, and the buffers are as the call leaves them. Assumes nothing.
 use mathlib.Core.Path.{refl, _∙_}
 use borrow.Author.Needs.{needs}
 use lib.ListN.{length}
@@ -18,16 +18,17 @@ verdict c =
 
 returns : tie.Need-returns
 returns c =
-    let asked = c .before .before .before .before .before in
+    let asked = c .before .before .before .before .before .before .before .before .before in
     let v = verdict (asked .before .before .before .before .before .before) in
-    let outcome = asked .load .ensures in
-    let is = outcome .0 in
-    let d-is = told-value (λ (l : Loaded). l .d) _ _ v is in
-    let b-is = told-value (λ (l : Loaded). l .b) _ _ v is in
-    let n-is = told-value (λ (l : Loaded). l .n) _ _ v is in
-    let used-is = told-value (λ (l : Loaded). l .used) _ _ v is in (
-      c .number .ensures ∙ told-number (λ (l : Loaded). verdictNumber (l .verdict)) _ _ refl (λ cause. refl) v is,
-      (outcome .1 .0, (outcome .1 .1 .0, (outcome .1 .1 .1, (d-is, (b-is, (n-is, used-is)))))),
+    let of = asked .load .ensures in
+    let is = of .0 in
+    let told = c .loaded .ensures in
+    let d-is = told .1 ∙ told-value (λ (l : Loaded). l .d) _ _ v is in
+    let b-is = told .2 ∙ told-value (λ (l : Loaded). l .b) _ _ v is in
+    let n-is = told .3 ∙ told-value (λ (l : Loaded). l .n) _ _ v is in
+    let used-is = told .4 ∙ told-value (λ (l : Loaded). l .used) _ _ v is in (
+      told .0 ∙ told-number (λ (l : Loaded). verdictNumber (l .verdict)) _ _ refl (λ cause. refl) v is,
+      (of .1 .0, (of .1 .1 .0, (of .1 .1 .1, (d-is, (b-is, (n-is, used-is)))))),
     )
 
 pub matcher-load-spec : {M : Type 1} → statement M

@@ -21,8 +21,8 @@ looked-up c =
 returns : tie.Need-returns
 returns c =
     let asked = c .before .before in (
-      c .tell-region .ensures .0 ∙ told-number lookupNumber _ _ refl (λ cause. refl) (verdict asked) (looked-up asked),
-      c .tell-region .ensures .1 ∙ told-value lookupRegion _ _ (verdict asked) (looked-up asked),
+      c .region2 .ensures .0 ∙ told-number lookupNumber _ _ refl (λ cause. refl) (verdict asked) (looked-up asked),
+      c .region2 .ensures .1 ∙ told-value lookupRegion _ _ (verdict asked) (looked-up asked),
     )
 
 pub matcher-region-spec : {M : Type 1} → statement M

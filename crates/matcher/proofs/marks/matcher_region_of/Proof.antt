@@ -33,8 +33,8 @@ returns : tie.Need-returns
 returns c =
     let asked = c .before .before in
     let a = asked .before .args in (
-      c .tell-region .ensures .0 ∙ told-number lookupNumber _ _ refl (λ cause. refl) (verdict (a .d) (a .b) (a .marks .now) (a .j) (a .v)) (looked-up asked),
-      c .tell-region .ensures .1 ∙ told-value lookupRegion _ _ (verdict (a .d) (a .b) (a .marks .now) (a .j) (a .v)) (looked-up asked),
+      c .region .ensures .0 ∙ told-number lookupNumber _ _ refl (λ cause. refl) (verdict (a .d) (a .b) (a .marks .now) (a .j) (a .v)) (looked-up asked),
+      c .region .ensures .1 ∙ told-value lookupRegion _ _ (verdict (a .d) (a .b) (a .marks .now) (a .j) (a .v)) (looked-up asked),
     )
 
 pub matcher-region-of-spec : {M : Type 1} → statement M

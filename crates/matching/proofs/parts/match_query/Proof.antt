@@ -13,10 +13,11 @@ use Rattle.limits.specs.Tests.{between}
 use Rattle.whole.specs.Components.{areComponents}
 use Rattle.library.specs.Library.{Library, libraryWith}
 use Rattle.query.specs.Query.{recordsCauses, componentsOf}
-use Rattle.matching.specs.Match.{answerText, refusedText}
+use Rattle.text.specs.Text.{refusedText}
+use Rattle.answer.specs.Answer.{answerText}
 use Rattle.matching.specs.Answerable.{query-components, query-length}
-use Rattle.matching.specs.Lent.{back-within, shared-is}
-use Rattle.matching.specs.Puts.{puts-length, puts-same}
+use Rattle.answer.specs.Lent.{back-within, shared-is}
+use Rattle.text.specs.Puts.{puts-length, puts-same}
 use Rattle.matching.specs.Steps.{queryText, ready-dimensions, query-rows}
 use Rattle.matching.proofs.parts.match_query.Statement.{statement}
 use Rattle.matching.proofs.parts.match_query.Tie as tie

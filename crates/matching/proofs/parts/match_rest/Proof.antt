@@ -10,8 +10,9 @@ use borrow.Author.Needs.{needs}
 use Rattle.refusal.specs.declared.Verdict.the-variants.{Accepted}
 use Rattle.refusal.specs.First.{first}
 use Rattle.library.specs.Library.{Library, libraryWith}
-use Rattle.matching.specs.Match.{kLength, kCauses, refusedText}
-use Rattle.matching.specs.Puts.{puts-length, puts-same}
+use Rattle.text.specs.Text.{refusedText}
+use Rattle.matching.specs.Match.{kLength, kCauses}
+use Rattle.text.specs.Puts.{puts-length, puts-same}
 use Rattle.matching.specs.Steps.{restText, queryText, k-refused, k-passes, k-among, k-there}
 use Rattle.matching.proofs.parts.match_rest.Statement.{statement}
 use Rattle.matching.proofs.parts.match_rest.Tie as tie

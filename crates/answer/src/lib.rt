@@ -1,0 +1,96 @@
+// The answer of a match: the nearest vectors of a loaded library, as text.
+mod found;
+
+use crate::found::find;
+use limits::MAX_DIMENSION_BITS;
+use limits::MAX_DIMENSIONS;
+use limits::MAX_VECTORS;
+use search::search::Searched;
+use text::put_answer;
+ghost use mathlib.Core.Path.{_≡_};
+ghost use Prim.Native.Nat.{_≤_};
+ghost use lib.ListN.{length};
+ghost use Rattle.refusal.specs.declared.Verdict.the-variants.{Accepted};
+ghost use Rattle.refusal.specs.First.{first};
+ghost use Rattle.codes.specs.Codes.{codeLength};
+ghost use Rattle.approximation.specs.VectorCauses.{packVectorsCauses};
+ghost use Rattle.search.specs.Answer.{searchedCount};
+ghost use Rattle.search.specs.Search.{searched, searchCauses};
+ghost use Rattle.search.specs.Ready.{library, roomOf};
+ghost use Rattle.library.specs.Library.{libraryWith};
+ghost use Rattle.text.specs.Puts.{Puts};
+ghost use Rattle.answer.specs.Answer.{searchable, answerLines, answerText};
+
+// The most bytes of codes.
+const CODES_ROOM: usize = MAX_VECTORS * MAX_DIMENSION_BITS * MAX_DIMENSIONS / 8;
+
+// The answer to a query.
+pub fn answer(
+    d: usize,
+    b: usize,
+    n: usize,
+    k: usize,
+    query: &[i32],
+    marks: &[i32],
+    settings: &[u32],
+    components: &[i32],
+    text: &mut [u8],
+) -> usize
+    requires { ⌜ first (packVectorsCauses d b n (now components) (now marks) (codeLength b n)) ≡ Accepted ⌝ }
+    requires { ⌜ first (searchCauses (searchable (libraryWith d b n (now marks) (now settings) (now components))) (now query) k (roomOf k k n)) ≡ Accepted ⌝ }
+    requires { ⌜ length (answerText (libraryWith d b n (now marks) (now settings) (now components)) (now query) k) ≤ length (now text) ⌝ }
+    ensures { λ r. ⌜ Puts (answerText (libraryWith d b n (now (marks .entry)) (now (settings .entry)) (now (components .entry))) (now (query .entry)) k) 0
+        (now (text .entry)) (now (text .exit)) r ⌝ }
+{
+    let size = (n * b + 7) / 8;
+    let mut codes = [0u8; CODES_ROOM];
+    approximation::pack_vectors(d, b, n, components, marks, &mut codes[..size]);
+    answer_coded(
+        d,
+        b,
+        n,
+        k,
+        query,
+        marks,
+        &codes[..size],
+        settings,
+        components,
+        text,
+    )
+}
+
+// The same with the codes.
+fn answer_coded(
+    d: usize,
+    b: usize,
+    n: usize,
+    k: usize,
+    query: &[i32],
+    marks: &[i32],
+    codes: &[u8],
+    settings: &[u32],
+    components: &[i32],
+    text: &mut [u8],
+) -> usize
+    requires { ⌜ first (searchCauses (library d b n (now marks) (now codes) (now components)) (now query) k (roomOf k k n)) ≡ Accepted ⌝ }
+    requires { ⌜ length (answerLines (now settings) k (searched (library d b n (now marks) (now codes) (now components)) (now query) k)) ≤ length (now text) ⌝ }
+    ensures { λ r. ⌜ Puts (answerLines (now (settings .entry)) k
+        (searched (library d b n (now (marks .entry)) (now (codes .entry)) (now (components .entry))) (now (query .entry)) k)) 0
+        (now (text .entry)) (now (text .exit)) r ⌝ }
+{
+    let mut reads = [0u32; MAX_VECTORS];
+    let found = find(d, b, n, k, query, marks, codes, components, &mut reads[..n]);
+    let answer = found.answer;
+    let entries = found.entries;
+    put_answer(k, read_count(answer), settings, entries, text)
+}
+
+// How many vectors a search read, 0 where it refused.
+fn read_count(answer: Searched) -> usize
+    ensures { λ r. ⌜ r ≡ searchedCount answer ⌝ }
+{
+    match answer {
+        Searched::Read(count) => count,
+        Searched::Refused(_) => 0,
+    }
+}

@@ -1,0 +1,5 @@
+pub mod Made
+pub mod Making
+pub mod InOrder
+pub mod MadeDimension
+pub mod MadeLaws

@@ -1,0 +1,139 @@
+// Marks made from vectors.
+use limits::MAX_VECTORS;
+use refusal::Refusal;
+use refusal::Verdict;
+ghost use mathlib.Core.Path.{_≡_};
+ghost use mathlib.Core.Bool.{true};
+ghost use mathlib.Core.List.{map};
+ghost use Prim.Native.Nat.{_+_, _^_, _≤_, _<_};
+ghost use lib.IntN.{pos, sucℤ};
+ghost use lib.ListN.{length, take, getD};
+ghost use Rattle.refusal.specs.First.{first, outcome};
+ghost use Rattle.refusal.specs.declared.Verdict.the-variants.{Accepted};
+ghost use Rattle.limits.specs.Limits.{isComponent};
+ghost use Rattle.whole.specs.Keys.{keyOf};
+ghost use Rattle.marking.specs.Made.{column, inOrder, madeDimension, madeMarks};
+ghost use Rattle.marking.specs.Making.{makeCauses, ColumnOf, MarksOf, Ranks};
+
+// The marks of d dimensions, with b bits in all, made from n vectors of d components that stand in a row.
+pub fn make_marks(d: usize, b: usize, n: usize, vectors: &[i32], marks: &mut [i32]) -> Verdict
+    ensures { λ r. ⌜ r ≡ first (makeCauses d b n (now (vectors .entry)) (length (now (marks .entry)))) ⌝ }
+    ensures { λ _. ⌜ now (marks .exit)
+        ≡ outcome (first (makeCauses d b n (now (vectors .entry)) (length (now (marks .entry)))))
+        (madeMarks d b n (now (vectors .entry))) (λ _. now (marks .entry)) ⌝ }
+{
+    let verdict = check_making(d, b, n, vectors, marks.len());
+    match verdict {
+        Verdict::Accepted => {
+            make_dimensions(d, b, n, vectors, marks);
+            Verdict::Accepted
+        }
+        Verdict::Refused(cause) => Verdict::Refused(cause),
+    }
+}
+
+// Whether marks can be made, for a marks buffer of this length.
+fn check_making(d: usize, b: usize, n: usize, vectors: &[i32], room: usize) -> Verdict
+    ensures { λ r. ⌜ r ≡ first (makeCauses d b n (now (vectors .entry)) room) ⌝ }
+{
+    if !limits::is_dimension_count(d) {
+        return Verdict::Refused(Refusal::Dimension);
+    }
+    if !limits::is_bits(d, b) {
+        return Verdict::Refused(Refusal::Bits);
+    }
+    if !limits::is_vector_count(n) {
+        return Verdict::Refused(Refusal::Count);
+    }
+    if vectors.len() != n * d {
+        return Verdict::Refused(Refusal::Length);
+    }
+    if room != layout::marks_length(d, b) {
+        return Verdict::Refused(Refusal::Length);
+    }
+    if !whole::components::are_components(vectors) {
+        return Verdict::Refused(Refusal::Component);
+    }
+    Verdict::Accepted
+}
+
+// The marks, where nothing refuses: each dimension's are written into its own stretch of the buffer.
+fn make_dimensions(d: usize, b: usize, n: usize, vectors: &[i32], marks: &mut [i32])
+    requires { ⌜ first (makeCauses d b n (now vectors) (length (now marks))) ≡ Accepted ⌝ }
+    ensures { λ _. ⌜ now (marks .exit) ≡ madeMarks d b n (now (vectors .entry)) ⌝ }
+{
+    let mut t = 0;
+    while t < d {
+        let stretch = layout::stretch_of(d, b, t + 1);
+        let offset = stretch.offset;
+        make_dimension(d, n, t, stretch.bits, vectors, &mut marks[offset..]);
+        t += 1;
+    }
+}
+
+// One dimension's marks, with t dimensions before it and w bits, at the front of the part.
+fn make_dimension(d: usize, n: usize, t: usize, w: usize, vectors: &[i32], part: &mut [i32])
+    requires { ⌜ MarksOf d n t w (now vectors) (length (now part)) ⌝ }
+    ensures { λ _. ⌜ take (2 ^ w + 1) (now (part .exit)) ≡ madeDimension n w (inOrder (column d n (now (vectors .entry)) t)) ⌝ }
+{
+    let mut numbers = [0u32; MAX_VECTORS];
+    rank_column(d, t, vectors, &mut numbers[..n]);
+    write_marks(d, t, w, vectors, &numbers[..n], part);
+}
+
+// The vectors' numbers in the order of their components in one dimension.
+fn rank_column(d: usize, t: usize, vectors: &[i32], numbers: &mut [u32])
+    requires { ⌜ (ColumnOf d (length (now numbers)) t) × (1 ≤ length (now numbers)) ⌝ }
+    ensures { λ _. ⌜ Ranks d t (now (vectors .entry)) (now (numbers .exit)) ⌝ }
+{
+    let n = numbers.len();
+    let mut keys = [0u64; MAX_VECTORS];
+    column_keys(d, t, vectors, &mut keys[..n]);
+    order::rank(&keys[..n], numbers);
+}
+
+// The keys of one dimension's components.
+fn column_keys(d: usize, t: usize, vectors: &[i32], keys: &mut [u64])
+    requires { ⌜ ColumnOf d (length (now keys)) t ⌝ }
+    ensures { λ _. ⌜ now (keys .exit) ≡ map keyOf (column d (length (now (keys .entry))) (now (vectors .entry)) t) ⌝ }
+{
+    let mut i = 0;
+    while i < keys.len() {
+        keys[i] = whole::key_at(vectors, i * d + t);
+        i += 1;
+    }
+}
+
+// The marks from the vectors' numbers in the order of their components.
+fn write_marks(d: usize, t: usize, w: usize, vectors: &[i32], numbers: &[u32], part: &mut [i32])
+    requires { ⌜ MarksOf d (length (now numbers)) t w (now vectors) (length (now part)) ⌝ }
+    requires { ⌜ Ranks d t (now vectors) (now numbers) ⌝ }
+    ensures { λ _. ⌜ take (2 ^ w + 1) (now (part .exit))
+        ≡ madeDimension (length (now (numbers .entry))) w (inOrder (column d (length (now (numbers .entry))) (now (vectors .entry)) t)) ⌝ }
+{
+    let n = numbers.len();
+    let last = n - 1;
+    let regions = 1usize << w;
+    let mut i = 0;
+    while i < regions {
+        part[i] = component_at(d, t, vectors, numbers, (i * n) >> w);
+        i += 1;
+    }
+    part[regions] = next(component_at(d, t, vectors, numbers, last));
+}
+
+// The component at a place of the order.
+fn component_at(d: usize, t: usize, vectors: &[i32], numbers: &[u32], place: usize) -> i32
+    requires { ⌜ (ColumnOf d (length (now numbers)) t) × (Ranks d t (now vectors) (now numbers)) × (place < length (now numbers)) ⌝ }
+    ensures { λ r. ⌜ r ≡ getD (inOrder (column d (length (now (numbers .entry))) (now (vectors .entry)) t)) place (pos 0) ⌝ }
+{
+    whole::at(vectors, numbers[place] as usize * d + t)
+}
+
+// The number behind a component.
+fn next(z: i32) -> i32
+    requires { ⌜ isComponent z ≡ true ⌝ }
+    ensures { λ r. ⌜ r ≡ sucℤ z ⌝ }
+{
+    z + 1
+}

@@ -1,0 +1,18 @@
+-- What a call from C that takes a reading in, or measures a distance, gives and leaves. Assumes nothing.
+use mathlib.Core.Path.{_≡_}
+use Prim.Native.Nat.{ℕ}
+use lib.IntN.{ℤ}
+use Rattle.reading.specs.declared.Intake.{Intake}
+use Rattle.reading.specs.Intake.{intakeNumber, componentOr}
+use Rattle.distance.specs.declared.Distance.{Distance}
+use Rattle.distance.specs.declared.Distance.the-variants.{Squared, Refused}
+
+-- the number is the answer's, and where old stood there is now the component, or old where the reading is refused
+pub record Answered (answer : Intake) (number : ℕ) (old new : ℤ) : Type 0 where
+  pub status : number ≡ intakeNumber answer
+  pub component : new ≡ componentOr old answer
+
+-- what an answer leaves where a distance is wanted and old stood
+abbrev pub distanceOr : ℕ → Distance → ℕ
+distanceOr old (Squared sum) = sum
+distanceOr old (Refused cause) = old

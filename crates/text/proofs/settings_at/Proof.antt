@@ -1,0 +1,12 @@
+-- `settings_at` meets its contract: past the end there is 0. Assumes nothing.
+use mathlib.Core.Path.{sym}
+use lib.ListN.{List·getD-eq-default}
+use borrow.Author.Needs.{needs}
+use Rattle.text.proofs.settings_at.Statement.{statement}
+use Rattle.text.proofs.settings_at.Tie as tie
+
+returns-2 : tie.Need-returns-2
+returns-2 c = sym (List·getD-eq-default (c .before .args .settings .now) 0 (c .if1 .left))
+
+pub settings-at-spec : {M : Type 1} → statement M
+settings-at-spec = tie.close (tie.spec (λ c. search needs) (λ c. search needs) (λ c. search needs) returns-2)
