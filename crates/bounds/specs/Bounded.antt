@@ -2,7 +2,8 @@
 use mathlib.Core.Path.{_≡_, refl, _∙_}
 use mathlib.Core.Bool.{true, not, _&&_, and-eq-true-iff}
 use mathlib.Core.List.{List, [], _∷_, _++_}
-use Prim.Native.Nat.{ℕ, _<_, _≤_}
+use Prim.Native.Nat.{ℕ, suc, _*_, _<_, _≤_}
+use native.Mathlib.Nat.{mul-le-mul, le-refl}
 use native.Mathlib.Omega.{arith}
 use lib.Dec.{eqb, ltb}
 use lib.IntN.{ℤ}
@@ -59,6 +60,7 @@ pub record Bounded (d b n : ℕ) (query marks : List ℤ) (codes : List ℕ) (i 
   pub few : i < maxVectors
   pub of-query : length query ≡ d
   pub of-marks : length marks ≡ firstMarks d b d
+  pub within : suc i * b ≤ length codes * 8
   pub components : areComponents query ≡ true
   pub good : goodMarks d b marks ≡ true
 
@@ -70,13 +72,18 @@ bounded d b n query marks codes i accepted =
     let components = passed _ _ _ (lengths .rest) in
     let good = passed _ _ _ (components .rest) in
     let counted = and-eq-true-iff _ _ .0 (not-false (isVectorCount n && ltb i n) (count .fails)) in
-    let exact = and-eq-true-iff _ _ .0 (not-false (eqb (length query) d && (eqb (length marks) (firstMarks d b d) && eqb (length codes) (codeLength b n))) (lengths .fails)) in
+    let exact = and-eq-true-iff (eqb (length query) d) _ .0 (not-false (eqb (length query) d && (eqb (length marks) (firstMarks d b d) && eqb (length codes) (codeLength b n))) (lengths .fails)) in
+    let among : i < n = ltb-true i n (counted .1) in
+    let bits : suc i * b ≤ n * b = mul-le-mul among (le-refl b) in
+    let others = and-eq-true-iff (eqb (length marks) (firstMarks d b d)) (eqb (length codes) (codeLength b n)) .0 (exact .1) in
+    let of-codes = eqb-true (length codes) (codeLength b n) (others .1) in
     let below : n ≤ maxVectors = between 1 n maxVectors (counted .0) .below in
     record {
       shaped = accepted-front (shapeCauses d b) (shapedBoundsCauses d b n query marks codes i) accepted;
-      few = omega (arith, ltb-true i n (counted .1));
+      few = omega arith;
       of-query = eqb-true _ _ (exact .0);
-      of-marks = eqb-true _ _ (and-eq-true-iff _ _ .0 (exact .1) .0);
+      of-marks = eqb-true _ _ (others .0);
+      within = omega arith;
       components = not-false (areComponents query) (components .fails);
       good = not-false (goodMarks d b marks) (good .fails);
     }

@@ -7,6 +7,7 @@ use native.Mathlib.Omega.{arith}
 use borrow.Author.Tests.{le-leb, lt-leb}
 use lib.ListN.{getD}
 use Rattle.layout.specs.Layout.{bitsOf, firstBits, firstMarks}
+use Rattle.layout.specs.Laws.{all-bits}
 use Rattle.codes.specs.Bits.{bitsAt}
 use Rattle.codes.specs.BitLaws.{bits-at}
 use Rattle.codes.specs.Codes.{codeRegion}
@@ -68,6 +69,11 @@ module _ (d b : ℕ) (small : b / d ≤ 6) where
   wide-marks : firstMarks d b (b % d) ≡ b % d * (2 ^ (b / d + 1) + 1)
   unfolding firstMarks
   wide-marks = rw (zero-add (b % d)) at (run-marks (wide d b small) (b % d) (le-refl (b % d))) ∙ zero-add (b % d * (2 ^ (b / d + 1) + 1))
+
+  pub two-bits : 0 < d → b % d ≤ d → b % d * (b / d + 1) + (d - b % d) * (b / d) ≡ b
+  two-bits some within =
+      let all : b % d + (d - b % d) ≡ d = omega arith in
+      rw (← wide-bits) (sym (rw all at (run-bits (narrow d b small (d - b % d)) (d - b % d) (le-refl (d - b % d)))) ∙ all-bits d b some)
 
   pub two-marks : b % d ≤ d → b % d * (2 ^ (b / d + 1) + 1) + (d - b % d) * (2 ^ (b / d) + 1) ≡ firstMarks d b d
   two-marks within =

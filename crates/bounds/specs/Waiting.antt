@@ -1,15 +1,15 @@
 -- Bits of codes that were read and not yet taken. Assumes nothing.
-use mathlib.Core.Path.{_≡_, sym, ap, _∙_}
-use mathlib.Core.List.{List}
+use mathlib.Core.Path.{_≡_, refl, sym, _∙_}
+use mathlib.Core.List.{List, [], _∷_, _++_}
 use Prim.Native.Nat.{ℕ, zero, suc, _+_, _-_, _*_, _/_, _%_, _^_, _≤_, _<_}
-use native.Mathlib.Nat.{zero-mul, zero-add, add-mul, suc-add, add-assoc, mul-assoc, mod-eq-of-lt, mod-mod}
+use native.Mathlib.Nat.{zero-mul, suc-mul, zero-add, suc-add, add-comm, add-assoc, add-mul, mul-assoc, mod-eq-of-lt}
 use native.Mathlib.Numerals.{one-add}
 use native.Mathlib.Omega.{arith}
 use lib.ListN.{getD, drop}
-use lib.Seq.{drop-drop}
+use lib.Seq.{drop-at, drop-nil, drop-drop}
 use lib.Pow.{pow-add, high, low, field, mod-mod-pow, mod-pow-add}
-use Rattle.codes.specs.Bits.{fromBits, byteBits, bitsAt}
-use Rattle.codes.specs.BitLaws.{binary-drop, binary-bytes, from-lt, bits-at, bits-at-lt}
+use Rattle.codes.specs.Bits.{lowBits, fromBits, byteBits, bitsAt}
+use Rattle.codes.specs.BitLaws.{Bytes, binary-drop, binary-bytes, length-low, from-low, from-lt, bits-at}
 
 -- the last `count` of `bits` are those of the codes from a place up to byte `next`
 pub record Waits (codes : List ℕ) (from bits count next : ℕ) : Type 0 where
@@ -44,17 +44,26 @@ module _ (codes : List ℕ) (from : ℕ) where
         are = rw (is, bits-at codes from (8 - from % 8) few) (mod-eq-of-lt (bits-lt (8 - from % 8)));
       }
 
+-- a byte's bits are its number
+byte-bits : (codes : List ℕ) → Bytes codes → (i : ℕ) → fromBits 8 (drop (i * 8) (byteBits codes)) ≡ getD codes i 0
+unfolding byteBits
+byte-bits [] bytes i = rw (drop-nil (i * 8)) (unfold fromBits in refl)
+byte-bits (x ∷ codes) bytes zero = from-low 8 x (byteBits codes) ∙ mod-eq-of-lt (bytes 0)
+byte-bits (x ∷ codes) bytes (suc i) =
+    rw (suc-mul i 8, add-comm (i * 8) 8, ← drop-drop (i * 8) 8 (lowBits 8 x ++ byteBits codes), drop-at (lowBits 8 x) (byteBits codes) 8 (length-low 8 x))
+    (byte-bits codes (λ j. bytes (suc j)) i)
+
 -- a byte more
 more : {codes : List ℕ} {from bits count next : ℕ} → Waits codes from bits count next
-    → (bits % 256 * 256 + bitsAt codes (next * 8) 8) % 2 ^ (count + 8) ≡ fromBits (count + 8) (drop from (byteBits codes))
-more {codes} {from} {bits} {count} {next} is =
-    let byte = bitsAt codes (next * 8) 8 in
-    let small : byte < 2 ^ 8 = bits-at-lt codes (next * 8) 8 (omega arith) in
+    → Bytes codes → (bits % 256 * 256 + getD codes next 0) % 2 ^ (count + 8) ≡ fromBits (count + 8) (drop from (byteBits codes))
+more {codes} {from} {bits} {count} {next} is bytes =
+    let byte = getD codes next 0 in
+    let small : byte < 2 ^ 8 = bytes next in
     let wide : 8 - count + count ≡ 8 = omega (arith, is .few) in
     let kept : bits % 256 % 2 ^ count ≡ bits % 2 ^ count = rw wide at (mod-mod-pow bits (8 - count) count) in
     mod-pow-add (bits % 256 * 2 ^ 8 + byte) count 8
     ∙ rw (high (bits % 256) 8 small, low (bits % 256) 8 small, kept, is .are, from-split count 8 (drop from (byteBits codes)), drop-drop, is .place)
-    (rw (bits-at codes (next * 8) 8 (omega arith)))
+    (rw (byte-bits codes bytes next))
 
 -- bits are taken off the front
 taken : (codes : List ℕ) (w from bits left : ℕ) → w ≤ 8 → bits % 2 ^ (w + left) ≡ fromBits (w + left) (drop from (byteBits codes))
@@ -76,8 +85,8 @@ module _ {codes : List ℕ} {from bits count next : ℕ} (is : Waits codes from 
       let both = taken codes w from bits (count - w) (omega arith) (rw all (is .are)) in
       record { region = both .0; rest = record { place = omega (arith, is .place); few = omega (arith, is .few); are = both .1 } }
 
-  pub takes-more : {bits' : ℕ} → count < w → bits' ≡ bits % 256 * 256 + bitsAt codes (next * 8) 8 → Taken codes w from bits' (count + 8 - w) (next + 1)
-  takes-more {bits'} short are =
+  pub takes-more : {bits' : ℕ} → Bytes codes → count < w → bits' ≡ bits % 256 * 256 + getD codes next 0 → Taken codes w from bits' (count + 8 - w) (next + 1)
+  takes-more {bits'} bytes short are =
       let all : w + (count + 8 - w) ≡ count + 8 = omega arith in
-      let both = taken codes w from bits' (count + 8 - w) (omega arith) (rw (all, are) (more is)) in
+      let both = taken codes w from bits' (count + 8 - w) (omega arith) (rw (all, are) (more is bytes)) in
       record { region = both .0; rest = record { place = omega (arith, is .place); few = omega (arith, is .few); are = both .1 } }

@@ -2,11 +2,11 @@
 use crate::waiting::begin;
 use crate::waiting::take;
 ghost use mathlib.Core.Path.{_≡_};
-ghost use Prim.Native.Nat.{_+_, _*_, _%_, _^_, _≤_, _<_};
+ghost use Prim.Native.Nat.{suc, _+_, _*_, _%_, _^_, _≤_, _<_};
 ghost use lib.ListN.{length};
 ghost use Rattle.refusal.specs.declared.Verdict.the-variants.{Accepted};
 ghost use Rattle.refusal.specs.First.{first};
-ghost use Rattle.limits.specs.Limits.{maxDimensions, maxVectors};
+ghost use Rattle.limits.specs.Limits.{maxVectors};
 ghost use Rattle.layout.specs.Layout.{firstMarks};
 ghost use Rattle.layout.specs.Stretch.{shapeCauses};
 ghost use Rattle.distance.specs.Table.{boundSum};
@@ -15,7 +15,8 @@ ghost use Rattle.bounds.specs.Run.{runSum};
 
 // The bounds of the first codes, as many as there is room for.
 pub fn sum_bounds(d: usize, b: usize, table: &[u64], codes: &[u8], bounds: &mut [u64])
-    requires { ⌜ (first (shapeCauses d b) ≡ Accepted) × (length (now table) ≡ firstMarks d b d) × (length (now bounds) ≤ maxVectors) ⌝ }
+    requires { ⌜ (first (shapeCauses d b) ≡ Accepted) × (length (now table) ≡ firstMarks d b d) × (length (now bounds) ≤ maxVectors)
+        × (length (now bounds) * b ≤ length (now codes) * 8) ⌝ }
     ensures { λ _. ⌜ now (bounds .exit) ≡ valuesFrom (boundSum d b (now (table .entry)) (now (codes .entry))) 0 (length (now (bounds .entry))) ⌝ }
 {
     let mut i = 0;
@@ -28,7 +29,8 @@ pub fn sum_bounds(d: usize, b: usize, table: &[u64], codes: &[u8], bounds: &mut 
 // The bound of code i: the sum of the entries of the regions that it names, those of the dimensions with one bit more, and those of the
 // others.
 pub fn code_bound(d: usize, b: usize, table: &[u64], codes: &[u8], i: usize) -> u64
-    requires { ⌜ (first (shapeCauses d b) ≡ Accepted) × (length (now table) ≡ firstMarks d b d) × (i < maxVectors) ⌝ }
+    requires { ⌜ (first (shapeCauses d b) ≡ Accepted) × (length (now table) ≡ firstMarks d b d) × (i < maxVectors)
+        × (suc i * b ≤ length (now codes) * 8) ⌝ }
     ensures { λ r. ⌜ r ≡ boundSum d b (now (table .entry)) (now (codes .entry)) i ⌝ }
 {
     let fewest = b / d;
@@ -51,9 +53,12 @@ fn sum_run(
     first_start: usize,
     count: usize,
 ) -> u64
-    requires { ⌜ (w ≤ 7) × («first_bit» ≤ 2 ^ 32) × (count ≤ maxDimensions) × («first_start» + count * (2 ^ w + 1) ≤ length (now table)) ⌝ }
+    requires { ⌜ (w ≤ 7) × («first_bit» + count * w ≤ length (now codes) * 8) × («first_start» + count * (2 ^ w + 1) ≤ length (now table)) ⌝ }
     ensures { λ r. ⌜ r ≡ runSum (now (table .entry)) (now (codes .entry)) w «first_bit» «first_start» count % 2 ^ 64 ⌝ }
 {
+    if count == 0 {
+        return 0;
+    }
     let mask = (1usize << w) - 1;
     let mut waiting = begin(codes, first_bit);
     let mut start = first_start;

@@ -1,6 +1,7 @@
 // Bits of codes, taken in turn.
 use codes::bits::bits_at;
-ghost use Prim.Native.Nat.{_-_, _*_, _^_, _≤_};
+ghost use Prim.Native.Nat.{_+_, _-_, _*_, _≤_};
+ghost use lib.ListN.{length};
 ghost use Rattle.bounds.specs.Waiting.{Waits, Taken};
 
 // Bits that were read and not yet taken: the last `count` of `bits`. The next to be read is byte `next`.
@@ -25,14 +26,14 @@ pub fn begin(codes: &[u8], from: usize) -> Waiting
 // The same without the first w, which then stand in front of the last `count` of `bits`.
 pub fn take(codes: &[u8], waiting: Waiting, w: usize) -> Waiting
     requires { ⌜ (Waits (now codes) (waiting .next * 8 - waiting .count) (waiting .bits) (waiting .count) (waiting .next))
-        × (waiting .next ≤ 2 ^ 32) × (w ≤ 7) ⌝ }
+        × (w ≤ 7) × (waiting .next * 8 - waiting .count + w ≤ length (now codes) * 8) ⌝ }
     ensures { λ r. ⌜ Taken (now (codes .entry)) w (waiting .next * 8 - waiting .count) (r .bits) (r .count) (r .next) ⌝ }
 {
     let count = waiting.count;
     let next = waiting.next;
     if count < w {
         return Waiting {
-            bits: waiting.bits % 256 * 256 + bits_at(codes, next * 8, 8),
+            bits: waiting.bits % 256 * 256 + codes[next] as usize,
             count: count + 8 - w,
             next: next + 1,
         };

@@ -14,10 +14,10 @@ use Rattle.refusal.specs.First.{first, passed}
 use Rattle.limits.specs.Limits.{maxDimensions, maxVectors, isDimensionCount, isVectorCount}
 use Rattle.limits.specs.Tests.{between}
 use Rattle.whole.specs.Components.{areComponents, component-at, all-components}
-use Rattle.order.specs.Pair.{keyed, ranked, numbersOf, countFrom}
-use Rattle.order.specs.Merge.{keyed-ranked}
+use Rattle.order.specs.Pair.{keyed, numbersOf, countFrom}
 use Rattle.order.specs.Rank.{keyAt, ranking}
 use Rattle.selection.specs.Reading.{scan}
+use Rattle.selection.specs.Selected.{keyed-numbers, keyed-keys, scan-keyed}
 use Rattle.order.specs.Pairs.{keysOf}
 use Rattle.cells.specs.Cells.{vectorAt}
 use Rattle.distance.specs.Small.{distance-small}
@@ -82,26 +82,6 @@ scanned-small {d} {n} {query} {vectors} given i =
     distance-small query (given .of-query) (vectorAt d vectors i) (part-components d (i * d) vectors (given .of-vectors)) d (given .few)
 
 -- ---- the answer, by numbers and by keys
-
-keyed-take : (key : ℕ → ℕ) (k : ℕ) (is : List ℕ) → take k (keyed key is) ≡ keyed key (take k is)
-unfolding keyed
-keyed-take key zero is = refl
-keyed-take key (suc k) [] = refl
-keyed-take key (suc k) (i ∷ is) = rw (keyed-take key k is)
-
-keyed-numbers : (key : ℕ → ℕ) (is : List ℕ) → numbersOf (keyed key is) ≡ is
-unfolding keyed numbersOf
-keyed-numbers key [] = refl
-keyed-numbers key (i ∷ is) = ap {B = List ℕ} (λ r. i ∷ r) (keyed-numbers key is)
-
-keyed-keys : (key : ℕ → ℕ) (is : List ℕ) → keysOf (keyed key is) ≡ map key is
-unfolding keyed keysOf
-keyed-keys key [] = refl
-keyed-keys key (i ∷ is) = ap {B = List ℕ} (λ r. key i ∷ r) (keyed-keys key is)
-
-scan-keyed : (k : ℕ) (key : ℕ → ℕ) (is : List ℕ) → scan k key is ≡ keyed key (take k (numbersOf (ranked key is)))
-unfolding scan
-scan-keyed k key is = ap (take k) (sym (keyed-ranked key is)) ∙ keyed-take key k (numbersOf (ranked key is))
 
 -- over the values of a function, ranked
 module _ (f : ℕ → ℕ) (n k : ℕ) where

@@ -4,15 +4,12 @@ use refusal::Refusal;
 use refusal::Verdict;
 ghost use mathlib.Core.Path.{_≡_};
 ghost use mathlib.Core.Bool.{_&&_};
-ghost use mathlib.Core.List.{map};
 ghost use Prim.Native.Nat.{_*_, _^_, _≤_, _<_};
 ghost use lib.Dec.{eqb};
-ghost use lib.ListN.{length, take};
+ghost use lib.ListN.{length};
 ghost use Rattle.refusal.specs.First.{first, outcome};
-ghost use Rattle.limits.specs.Limits.{maxVectors};
 ghost use Rattle.whole.specs.Components.{areComponents};
 ghost use Rattle.order.specs.Pair.{numbersOf};
-ghost use Rattle.order.specs.Rank.{keyAt, ranking};
 ghost use Rattle.order.specs.Pairs.{keysOf};
 ghost use Rattle.distance.specs.Values.{valuesFrom};
 ghost use Rattle.scan.specs.Scanning.{distancesOf, scanAnswer, scanCauses};
@@ -115,13 +112,13 @@ fn scan_all(
     numbers: &mut [u32],
     distances: &mut [u64],
 )
-    requires { ⌜ (Vectors d n (now query) (now vectors)) × (1 ≤ n) × (length (now numbers) ≤ n) × (length (now distances) ≡ length (now numbers)) ⌝ }
+    requires { ⌜ (Vectors d n (now query) (now vectors)) × (1 ≤ length (now numbers)) × (length (now numbers) ≤ n) × (length (now distances) ≡ length (now numbers)) ⌝ }
     ensures { λ _. ⌜ now (numbers .exit) ≡ numbersOf (scanAnswer d n (length (now (numbers .entry))) (now (query .entry)) (now (vectors .entry))) ⌝ }
     ensures { λ _. ⌜ now (distances .exit) ≡ keysOf (scanAnswer d n (length (now (numbers .entry))) (now (query .entry)) (now (vectors .entry))) ⌝ }
 {
     let mut keys = [0u64; MAX_VECTORS];
     measure_all(d, query, vectors, &mut keys[..n]);
-    write_least(&keys[..n], numbers, distances);
+    selection::least::select(&keys[..n], numbers, distances);
 }
 
 // The distance of each vector from the query.
@@ -134,33 +131,6 @@ fn measure_all(d: usize, query: &[i32], vectors: &[i32], keys: &mut [u64])
         let start = i * d;
         let end = start + d;
         keys[i] = distance::squared_distance(d, query, &vectors[start..end]);
-        i += 1;
-    }
-}
-
-// The numbers of the least keys, least first, and these keys.
-fn write_least(keys: &[u64], numbers: &mut [u32], least: &mut [u64])
-    requires { ⌜ (1 ≤ length (now keys)) × (length (now keys) ≤ maxVectors) × (length (now numbers) ≤ length (now keys)) × (length (now least) ≡ length (now numbers)) ⌝ }
-    ensures { λ _. ⌜ now (numbers .exit) ≡ take (length (now (numbers .entry))) (ranking (now (keys .entry))) ⌝ }
-    ensures { λ _. ⌜ now (least .exit) ≡ map (keyAt (now (keys .entry))) (take (length (now (numbers .entry))) (ranking (now (keys .entry)))) ⌝ }
-{
-    let n = keys.len();
-    let mut order = [0u32; MAX_VECTORS];
-    ranking::rank(keys, &mut order[..n]);
-    copy_first(keys, &order[..n], numbers, least);
-}
-
-// As many numbers from the front of the ranking as there is room for, and their keys.
-fn copy_first(keys: &[u64], order: &[u32], numbers: &mut [u32], least: &mut [u64])
-    requires { ⌜ (now order ≡ ranking (now keys)) × (length (now keys) ≤ maxVectors) × (length (now numbers) ≤ length (now keys)) × (length (now least) ≡ length (now numbers)) ⌝ }
-    ensures { λ _. ⌜ now (numbers .exit) ≡ take (length (now (numbers .entry))) (now (order .entry)) ⌝ }
-    ensures { λ _. ⌜ now (least .exit) ≡ map (keyAt (now (keys .entry))) (take (length (now (numbers .entry))) (now (order .entry))) ⌝ }
-{
-    let mut i = 0;
-    while i < numbers.len() {
-        let number = order[i];
-        numbers[i] = number;
-        least[i] = keys[number as usize];
         i += 1;
     }
 }

@@ -32,7 +32,7 @@ scan-all-requires : tie.Need-scan-all-requires
 scan-all-requires c κs =
     let a = c .before .before .before .before .before .before .before .args in
     let is = scannable (a .d) (a .n) (a .k) (a .query .now) (a .vectors .now) (length (a .numbers .now)) (length (a .distances .now)) (accepted (c .before .before)) in
-    (is .vectors-are, omega (arith, is .some, is .enough), omega (arith, is .numbers-room, is .enough), is .distances-room ∙ sym (is .numbers-room))
+    (is .vectors-are, omega (arith, is .some, is .numbers-room), omega (arith, is .numbers-room, is .enough), is .distances-room ∙ sym (is .numbers-room))
 
 -- either buffer, whose room is that for k
 answered : (d n k : ℕ) (query vectors : List ℤ) (numbers distances : ℕ) (of : List Pair → List ℕ) (old new : List ℕ)

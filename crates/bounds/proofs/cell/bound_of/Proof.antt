@@ -30,7 +30,7 @@ code-bound-requires : tie.Need-code-bound-requires
 code-bound-requires c κs =
     let fill = c .before .before in
     let given = told (fill .before .before .before) in
-    (given .shaped, length-take-le _ _ (table-within (c .before)) ∙ given .of-marks, given .few)
+    (given .shaped, length-take-le _ _ (table-within (c .before)) ∙ given .of-marks, given .few, given .within)
 
 returns : tie.Need-returns
 returns c =

@@ -1,16 +1,17 @@
 -- `code_bound` meets its contract: the two runs are all dimensions. Assumes nothing.
 use mathlib.Core.Path.{_≡_, sym, ap, _∙_}
 use Prim.Native.Nat.{ℕ, _+_, _-_, _*_, _/_, _%_, _^_, _≤_, _<_}
-use native.Mathlib.Nat.{mod-lt, mul-le-mul}
+use native.Mathlib.Nat.{suc-mul, mod-lt, mul-le-mul}
 use native.Mathlib.Omega.{arith}
 use borrow.Author.Needs.{needs}
+use lib.ListN.{length}
 use Rattle.limits.specs.Limits.{maxDimensions, maxDimensionBits, maxVectors}
 use Rattle.layout.specs.Layout.{firstMarks}
 use Rattle.layout.specs.Laws.{fewest-le}
 use Rattle.layout.specs.Stretch.{shape}
 use Rattle.codes.specs.Pack.{bits-le}
 use Rattle.distance.specs.Table.{boundSum}
-use Rattle.bounds.specs.Run.{two-marks, two-runs}
+use Rattle.bounds.specs.Run.{two-bits, two-marks, two-runs}
 use Rattle.bounds.proofs.Regions.{Regions, regions}
 use Rattle.distance.proofs.Sum.{sum-more-mod}
 use Rattle.bounds.proofs.sum.code_bound.Statement.{statement}
@@ -26,6 +27,7 @@ record Sized (d b i : ℕ) : Type 0 where
   shift : Regions (b / d + 1)
   wide-bits : b % d * (b / d + 1) ≤ 32 * 7
   wide-marks : b % d * (2 ^ (b / d + 1) + 1) ≤ 32 * 129
+  all-bits : b % d * (b / d + 1) + (d - b % d) * (b / d) ≡ b
   marks : b % d * (2 ^ (b / d + 1) + 1) + (d - b % d) * (2 ^ (b / d) + 1) ≡ firstMarks d b d
 
 sized : (start : tie.Start) → Sized (start .args .d) (start .args .b) (start .args .i)
@@ -47,7 +49,26 @@ sized start =
       shift = regions (b / d + 1) wide;
       wide-bits = mul-le-mul dimensions wide;
       wide-marks = mul-le-mul dimensions most;
+      all-bits = two-bits d b fewest (shaped .some) (omega arith);
       marks = two-marks d b fewest (omega arith);
+    }
+
+-- both runs' bits and entries are there
+record Runs (d b i codes table : ℕ) : Type 0 where
+  first-bits : i * b + b % d * (b / d + 1) ≤ codes * 8
+  all-bits : i * b + b % d * (b / d + 1) + (d - b % d) * (b / d) ≤ codes * 8
+  first-entries : 0 + b % d * (2 ^ (b / d + 1) + 1) ≤ table
+  all-entries : b % d * (2 ^ (b / d + 1) + 1) + (d - b % d) * (2 ^ (b / d) + 1) ≤ table
+
+runs : (start : tie.Start) → Runs (start .args .d) (start .args .b) (start .args .i) (length (start .args .codes .now)) (length (start .args .table .now))
+runs start =
+    let told = sized start in
+    let code : start .args .i * start .args .b + start .args .b ≤ length (start .args .codes .now) * 8 = rw suc-mul at (start .pre .3) in
+    record {
+      first-bits = omega (arith, told .all-bits);
+      all-bits = omega (arith, told .all-bits);
+      first-entries = omega (arith, told .marks, start .pre .1);
+      all-entries = omega (arith, told .marks, start .pre .1);
     }
 
 returns : tie.Need-returns
@@ -70,10 +91,10 @@ code-bound-spec =
     (λ c. omega (arith, sized (c .before .before) .fewest))
     (λ c. omega (arith, sized (c .before .before) .shift .exact, sized (c .before .before) .shift .most))
     (λ c. rw (sized (c .before .before) .shift .exact) (omega (arith, sized (c .before .before) .wide-marks)))
-    (λ c κs. omega (arith, sized (c .before .before), c .before .before .pre .1))
+    (λ c κs. omega (arith, sized (c .before .before) .fewest, runs (c .before .before)))
     (λ c. omega (arith, sized (c .before .before .before) .wide-bits))
     (λ c. omega (arith, sized (c .before .before .before) .wide-bits, sized (c .before .before .before) .bits))
     (λ c. omega (arith, sized (c .before .before .before) .more))
-    (λ c κs. rw (sized (c .before .before .before) .shift .exact) (omega (arith, sized (c .before .before .before), c .before .before .before .pre .1)))
+    (λ c κs. rw (sized (c .before .before .before) .shift .exact) (omega (arith, sized (c .before .before .before) .fewest, runs (c .before .before .before))))
     (λ c κs. search needs)
     returns)

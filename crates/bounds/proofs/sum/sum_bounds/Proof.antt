@@ -1,6 +1,7 @@
 -- `sum_bounds` meets its contract: the first i bounds are written. Assumes nothing.
 use mathlib.Core.Path.{_≡_, refl, sym, ap, _∙_}
-use Prim.Native.Nat.{_+_, _-_, _≤_, _<_}
+use Prim.Native.Nat.{suc, _+_, _-_, _*_, _≤_, _<_}
+use native.Mathlib.Nat.{mul-le-mul, le-refl}
 use native.Mathlib.Omega.{arith}
 use lib.ListN.{length, length-set}
 use borrow.Author.Needs.{needs}
@@ -16,6 +17,12 @@ Inv-loop d b table codes bounds₀ i₀ bounds i =
 
 abbrev μ-loop : tie.MeasureT-loop
 μ-loop d b table codes bounds₀ i₀ bounds i = length bounds₀ - i
+
+code-bound-requires : tie.Need-code-bound-requires Inv-loop μ-loop
+code-bound-requires c κs =
+    let start = c .before .before .before .before .before in
+    let more : suc (c .before .loop .i) * start .args .b ≤ length (start .args .bounds .now) * start .args .b = mul-le-mul (omega arith) (le-refl (start .args .b)) in
+    (start .pre .0, start .pre .1, omega (arith, start .pre .2), omega (arith, start .pre .3))
 
 loop-again : tie.Need-loop-again Inv-loop μ-loop
 loop-again c =
@@ -43,7 +50,7 @@ sum-bounds-spec =
     Inv-loop
     μ-loop
     (λ c. (omega arith, refl, filling-start _ _ (sym (values-length _ 0 _))))
-    (λ c κs. (c .before .before .before .before .before .pre .0, c .before .before .before .before .before .pre .1, omega (arith, c .before .before .before .before .before .pre .2)))
+    code-bound-requires
     (λ c. search needs)
     (λ c. search needs)
     (λ c. search needs)

@@ -34,7 +34,7 @@ abbrev μ-loop : tie.MeasureT-loop
 loop-holds : tie.Need-loop-holds Inv-loop μ-loop
 unfolding runSum
 loop-holds c =
-    let args = c .before .before .before .args in
+    let args = c .before .before .before .before .args in
     record {
       within = omega arith;
       waits = rw (zero-mul (args .w), add-zero (args .first-bit)) (c .begin .ensures);
@@ -46,14 +46,14 @@ loop-holds c =
 module _ {table codes : List ℕ} {w first-bit first-start count bits waiting next start sum t : ℕ}
     (at : Running table codes w first-bit first-start count bits waiting next start sum t) (few : w ≤ 7) (less : t < count) where
   -- where the waiting bits begin
-  record Place : Type 0 where
-    is : next * 8 - waiting ≡ first-bit + t * w
-    near : next * 8 ≤ first-bit + count * 7 + 8
+  place : next * 8 - waiting ≡ first-bit + t * w
+  place = omega (arith, at .waits .place)
 
-  place : Place
-  place =
-      let most : t * w ≤ count * 7 = mul-le-mul (at .within) few in
-      record { is = omega (arith, at .waits .place); near = omega (arith, at .waits .place, at .waits .few) }
+  -- and that the next w are bits of the codes
+  inside : first-bit + count * w ≤ length codes * 8 → next * 8 - waiting + w ≤ length codes * 8
+  inside all =
+      let more : suc t * w ≤ count * w = mul-le-mul less (le-refl w) in
+      rw place (omega (arith, suc-mul t w))
 
   -- the entries of the dimension stand in the table
   room : first-start + count * (2 ^ w + 1) ≤ length table → start + 2 ^ w < length table
@@ -66,7 +66,7 @@ module _ {table codes : List ℕ} {w first-bit first-start count bits waiting ne
 
   module _ {bits' waiting' next' : ℕ} (took : Taken codes w (next * 8 - waiting) bits' waiting' next') where
     region : bitAnd (bits' / 2 ^ waiting') (1 * 2 ^ w % 2 ^ 64 - 1) ≡ bitsAt codes (first-bit + t * w) w
-    region = rw (regions w few .exact, and-mask (bits' / 2 ^ waiting') w, took .region, place .is)
+    region = rw (regions w few .exact, and-mask (bits' / 2 ^ waiting') w, took .region, place)
 
     region-lt : bitAnd (bits' / 2 ^ waiting') (1 * 2 ^ w % 2 ^ 64 - 1) < 2 ^ w
     region-lt = rw (regions w few .exact, and-mask (bits' / 2 ^ waiting') w) (mod-lt (bits' / 2 ^ waiting') (pow-pos w))
@@ -77,7 +77,7 @@ module _ {table codes : List ℕ} {w first-bit first-start count bits waiting ne
     goes-on is =
         let shift = regions w few in
         let stride : 1 * 2 ^ w % 2 ^ 64 - 1 + 2 ≡ 2 ^ w + 1 = rw (shift .exact) (omega (arith, pow-pos w)) in
-        let bit : first-bit + suc t * w ≡ next * 8 - waiting + w = rw (suc-mul t w, place .is) (omega arith) in
+        let bit : first-bit + suc t * w ≡ next * 8 - waiting + w = rw (suc-mul t w, place) (omega arith) in
         rw (add-one t, stride)
         (record {
           within = less;
@@ -94,32 +94,32 @@ done {count = count} {t = t} at past =
 
 take-requires : tie.Need-take-requires Inv-loop μ-loop
 take-requires c κs =
-    let pre = c .before .before .before .before .before .pre in
+    let pre = c .before .before .before .before .before .before .pre in
     let at = c .before .loop .inv in
-    let here = place at (pre .0) (omega arith) in
-    (rw (here .is) (at .waits), omega (arith, here .near, pre .1, pre .2), pre .0)
+    let less : c .before .loop .t < _ = c .loop-test .taken in
+    (rw (place at (pre .0) less) (at .waits), pre .0, inside at (pre .0) less (pre .1))
 
 -- the entry that is read is one of the table's
-index : (c : tie.After-struct-known Inv-loop μ-loop) → let at = c .before .before .before in let start = at .before .before .before .before in
+index : (c : tie.After-struct-known Inv-loop μ-loop) → let at = c .before .before .before in let start = at .before .before .before .before .before in
     at .loop .start + bitAnd (c .before .take .result .bits / 2 ^ c .before .take .result .count) (1 * 2 ^ start .args .w % 2 ^ 64 - 1) + 1 < length (start .args .table .now)
 index c =
     let at = c .before .before .before in
-    let start = at .before .before .before .before in
-    let room = room (at .loop .inv) (start .pre .0) (omega arith) (start .pre .3) in
+    let start = at .before .before .before .before .before in
+    let room = room (at .loop .inv) (start .pre .0) (omega arith) (start .pre .2) in
     let region = region-lt (at .loop .inv) (start .pre .0) (omega arith) (c .before .take .ensures) in
     omega arith
 
-next-start : (c : tie.After-wrapping-add-u64 Inv-loop μ-loop) → let at = c .before .before .before .before .before in let start = at .before .before .before .before in
+next-start : (c : tie.After-wrapping-add-u64 Inv-loop μ-loop) → let at = c .before .before .before .before .before in let start = at .before .before .before .before .before in
     at .loop .start + (1 * 2 ^ start .args .w % 2 ^ 64 - 1 + 2) ≤ length (start .args .table .now)
 next-start c =
     let at = c .before .before .before .before .before in
-    let start = at .before .before .before .before in
-    stride (at .loop .inv) (start .pre .0) (omega arith) (start .pre .3)
+    let start = at .before .before .before .before .before in
+    stride (at .loop .inv) (start .pre .0) (omega arith) (start .pre .2)
 
 loop-again : tie.Need-loop-again Inv-loop μ-loop
 loop-again c =
     let at = c .before .before .before .before .before in
-    let start = at .before .before .before .before in
+    let start = at .before .before .before .before .before in
     goes-on (at .loop .inv) (start .pre .0) (omega arith) (c .before .before .before .take .ensures) (c .wrapping-add-u64 .ensures)
 
 pub sum-run-spec : {M : Type 1} → statement M
@@ -128,8 +128,9 @@ sum-run-spec =
     (tie.spec
     Inv-loop
     μ-loop
-    (λ c. omega (arith, c .before .before .pre .0))
-    (λ c. rw (regions (c .before .before .args .w) (c .before .before .pre .0) .exact) (pow-pos (c .before .before .args .w)))
+    (λ c. unfold runSum in rw (c .if1 .taken))
+    (λ c. omega (arith, c .before .before .before .pre .0))
+    (λ c. rw (regions (c .before .before .before .args .w) (c .before .before .before .pre .0) .exact) (pow-pos (c .before .before .before .args .w)))
     (λ c κs. search needs)
     loop-holds
     take-requires

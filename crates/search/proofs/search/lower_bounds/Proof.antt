@@ -54,7 +54,7 @@ sum-bounds-requires : tie.Need-sum-bounds-requires
 sum-bounds-requires c κs =
     let start = c .before .before .before .before .before .before .before in
     let is = start .pre .0 in
-    (is .shaped, length-take-le _ _ (table-within (c .before .before)) ∙ is .lengths .of-marks, omega (arith, start .pre .1, is .count))
+    (is .shaped, length-take-le _ _ (table-within (c .before .before)) ∙ is .lengths .of-marks, omega (arith, start .pre .1, is .count), rw (start .pre .1) (omega (arith, is .lengths .of-codes)))
 
 returns : tie.Need-returns
 returns c =
