@@ -2,3 +2,4 @@
 pub mod Answers
 pub mod Columns
 mod Writing
+mod TwoBytes

@@ -3,3 +3,4 @@ pub mod BitLaws
 pub mod Codes
 pub mod PackLaws
 pub mod Pack
+pub mod Ahead
