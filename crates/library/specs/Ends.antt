@@ -2,11 +2,12 @@
 use mathlib.Core.Path.{_≡_, _∙_}
 use mathlib.Core.Bool.{Bool, _&&_}
 use mathlib.Core.List.{List, _++_}
-use Prim.Native.Nat.{ℕ, suc, _+_, _^_, _<_}
+use Prim.Native.Nat.{ℕ, suc, _+_, _^_, _≤_, _<_}
 use native.Mathlib.Omega.{arith}
 use lib.IntN.{ℤ, pos}
 use lib.Signed.{leZ, ltZ}
 use lib.ListN.{length, getD, List·getD-append}
+use Rattle.limits.specs.Limits.{maxDimensions}
 use Rattle.layout.specs.Layout.{bitsOf, firstMarks}
 use Rattle.layout.specs.Laws.{marks-within}
 use Rattle.library.specs.Each.{every, tabulate}
@@ -22,6 +23,12 @@ lies low z high = leZ low z && ltZ z high
 -- the first d numbers lie, each, between those of two lists
 unfoldable pub between : ℕ → List ℤ → List ℤ → (ℕ → ℤ) → Bool
 between d lows highs component = every d (λ t. lies (getD lows t (pos 0)) (component t) (getD highs t (pos 0)))
+
+-- the ends of d dimensions' marks are there
+pub record Table (d : ℕ) (lows highs : List ℤ) : Type 0 where
+  pub few : d ≤ maxDimensions
+  pub low : d ≤ length lows
+  pub high : d ≤ length highs
 
 -- the first and the last mark of the dimension with t dimensions before it, from the marks by their numbers
 abbrev pub firstMark : ℕ → ℕ → (ℕ → ℤ) → ℕ → ℤ

@@ -1,7 +1,7 @@
 -- The sizes of a library whose counts are within the limits, and the places of its records as numbers. Assumes nothing.
 use mathlib.Core.Path.{_≡_, refl, _∙_}
 use Prim.Native.Nat.{ℕ, suc, _+_, _-_, _*_, _^_, _≤_, _<_}
-use native.Mathlib.Nat.{mul-le-mul-left, le-trans}
+use native.Mathlib.Nat.{suc-mul, mul-le-mul-left, mul-le-mul-right, le-trans}
 use native.Mathlib.Numerals.{add-one}
 use native.Mathlib.Omega.{arith}
 use borrow.Author.Tests.{le-leb}
@@ -70,3 +70,9 @@ ends-at {d} {b} {t} {s} among is =
       within = omega (arith, is .end, is .within);
       small = is .small;
     }
+
+-- a vector's components are among those of n vectors
+pub row-within : {i n : ℕ} (d : ℕ) → i < n → i * d + d ≤ n * d
+row-within {i} {n} d h =
+    let rows : suc i * d ≤ n * d = mul-le-mul-right d h in
+    rw (suc-mul i d) at rows

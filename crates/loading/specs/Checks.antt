@@ -2,14 +2,13 @@
 use mathlib.Core.Path.{_≡_, _∙_}
 use mathlib.Core.Bool.{not}
 use mathlib.Core.List.{List, [], _∷_}
-use Prim.Native.Nat.{ℕ, _≤_}
+use Prim.Native.Nat.{ℕ}
 use lib.Dec.{eqb}
 use lib.IntN.{ℤ, pos}
-use lib.ListN.{length, getD, drop}
+use lib.ListN.{getD, drop}
 use Rattle.refusal.specs.declared.Refusal.the-variants.{Component, Outside}
 use Rattle.refusal.specs.declared.Verdict.{Verdict}
 use Rattle.refusal.specs.First.{Row, _⇒_, first}
-use Rattle.limits.specs.Limits.{maxDimensions}
 use Rattle.records.specs.Records.{vectorKind, kindOf}
 use Rattle.records.specs.RecordLaws.{kind-at}
 use Rattle.records.specs.Frame.{frameCauses}
@@ -19,12 +18,6 @@ use Rattle.library.specs.Library.{markTotal, vectorPlace, markAt, storedAt, rea
 use Rattle.library.specs.Ends.{between, EndMarks, inside-between}
 use Rattle.loading.specs.Load.{recordCauses, zeroBeyond, vectorsCauses}
 use Rattle.loading.specs.Heads.{HeadOf, marks-are}
-
--- the ends of d dimensions' marks are there
-pub record Room (d : ℕ) (lows highs : List ℤ) : Type 0 where
-  pub few : d ≤ maxDimensions
-  pub low : d ≤ length lows
-  pub high : d ≤ length highs
 
 -- the causes of the vector whose record bytes begin with, by the ends of the marks; and those of its components alone
 abbrev pub ownCauses : ℕ → List ℤ → List ℤ → List ℕ → List Row

@@ -30,10 +30,10 @@ ghost use Rattle.layout.specs.Stretch.{shapeCauses};
 ghost use Rattle.records.specs.Records.{vectorKind, recordLength};
 ghost use Rattle.library.specs.Each.{each, tabulate};
 ghost use Rattle.library.specs.Library.{vectorPlace, markAt, storedAt, readLibrary};
-ghost use Rattle.library.specs.Ends.{between, firstMark, lastMark};
+ghost use Rattle.library.specs.Ends.{Table, between, firstMark, lastMark};
 ghost use Rattle.library.specs.Tests.{inside};
 ghost use Rattle.loading.specs.Load.{headCauses, markWrong, markCauses, zeroBeyond, marksCauses, vectorsCauses, endCauses, recordsCauses};
-ghost use Rattle.loading.specs.Checks.{Room, ownCauses, betweenCauses};
+ghost use Rattle.loading.specs.Checks.{ownCauses, betweenCauses};
 
 // The records of a library.
 pub(crate) fn check_records(bytes: &[u8]) -> Verdict
@@ -169,7 +169,7 @@ fn read_ends(bytes: &[u8], d: usize, b: usize, lows: &mut [i32], highs: &mut [i3
 
 // Each of n vectors behind m marks.
 fn check_each(bytes: &[u8], d: usize, m: usize, n: usize, lows: &[i32], highs: &[i32]) -> Verdict
-    requires { ⌜ (Room d (now lows) (now highs)) × (m < 2 ^ 32) × (n < 2 ^ 32) ⌝ }
+    requires { ⌜ (Table d (now lows) (now highs)) × (m < 2 ^ 32) × (n < 2 ^ 32) ⌝ }
     ensures { λ r. ⌜ r ≡ first (each n (λ i. betweenCauses d (now (lows .entry)) (now (highs .entry)) (drop (vectorPlace m i) (now (bytes .entry))))) ⌝ }
 {
     let mut i = 0;
@@ -188,7 +188,7 @@ fn check_each(bytes: &[u8], d: usize, m: usize, n: usize, lows: &[i32], highs: &
 
 // The vector whose record begins at an index.
 fn check_vector(bytes: &[u8], d: usize, at: usize, lows: &[i32], highs: &[i32]) -> Verdict
-    requires { ⌜ Room d (now lows) (now highs) ⌝ }
+    requires { ⌜ Table d (now lows) (now highs) ⌝ }
     ensures { λ r. ⌜ r ≡ first (betweenCauses d (now (lows .entry)) (now (highs .entry)) (drop at (now (bytes .entry)))) ⌝ }
 {
     match check_frame(bytes, at, byte_at(bytes, at) == VECTOR) {
@@ -199,7 +199,7 @@ fn check_vector(bytes: &[u8], d: usize, at: usize, lows: &[i32], highs: &[i32]) 
 
 // Its components, where the record is whole.
 fn check_components(bytes: &[u8], d: usize, at: usize, lows: &[i32], highs: &[i32]) -> Verdict
-    requires { ⌜ (Room d (now lows) (now highs)) × (at + recordLength vectorKind ≤ length (now bytes)) ⌝ }
+    requires { ⌜ (Table d (now lows) (now highs)) × (at + recordLength vectorKind ≤ length (now bytes)) ⌝ }
     ensures { λ r. ⌜ r ≡ first (ownCauses d (now (lows .entry)) (now (highs .entry)) (drop at (now (bytes .entry)))) ⌝ }
 {
     let zero = is_zero_beyond(bytes, d, at);
@@ -230,7 +230,7 @@ fn is_zero_beyond(bytes: &[u8], d: usize, at: usize) -> bool
 
 // Whether the first d components lie, each, between the ends of the marks of their dimension.
 fn is_between(bytes: &[u8], d: usize, at: usize, lows: &[i32], highs: &[i32]) -> bool
-    requires { ⌜ (Room d (now lows) (now highs)) × (at + recordLength vectorKind ≤ length (now bytes)) ⌝ }
+    requires { ⌜ (Table d (now lows) (now highs)) × (at + recordLength vectorKind ≤ length (now bytes)) ⌝ }
     ensures { λ r. ⌜ r ≡ between d (now (lows .entry)) (now (highs .entry)) (storedAt (drop at (now (bytes .entry)))) ⌝ }
 {
     let mut t = 0;

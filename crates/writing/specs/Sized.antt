@@ -2,7 +2,7 @@
 use mathlib.Core.Path.{_≡_}
 use mathlib.Core.Bool.{true}
 use mathlib.Core.List.{List}
-use Prim.Native.Nat.{ℕ, _*_, _≤_}
+use Prim.Native.Nat.{ℕ, _+_, _*_, _≤_}
 use lib.IntN.{ℤ}
 use lib.ListN.{length}
 use Rattle.refusal.specs.declared.Verdict.the-variants.{Accepted}
@@ -28,5 +28,12 @@ pub record Writing (d n m : ℕ) (settings : List ℕ) (components : List ℤ) (
   pub few : n ≤ maxVectors
   pub few-marks : m ≤ 2080
   pub settings-count : length settings ≡ n
+  pub components-count : length components ≡ n * d
   pub of-components : areComponents components ≡ true
   pub fits : vectorPlace m n ≤ room
+
+-- d components from an index on
+pub record Row (d from : ℕ) (components : List ℤ) : Type 0 where
+  pub few : d ≤ maxDimensions
+  pub within : from + d ≤ length components
+  pub of-components : areComponents components ≡ true

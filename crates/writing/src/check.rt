@@ -1,20 +1,24 @@
 // Whether a library can be written.
 use library::ends_of;
 use library::library_length;
+use library::lies;
+use limits::MAX_DIMENSIONS;
 use refusal::Refusal;
 use refusal::Verdict;
 ghost use mathlib.Core.Path.{_≡_};
 ghost use mathlib.Core.Bool.{true};
-ghost use mathlib.Core.List.{[]};
-ghost use Prim.Native.Nat.{_+_, _*_, _^_, _<_};
+ghost use mathlib.Core.List.{[], _++_};
+ghost use Prim.Native.Nat.{_+_, _*_, _≤_};
 ghost use lib.IntN.{pos};
-ghost use lib.ListN.{getD};
+ghost use lib.ListN.{length, getD, drop};
 ghost use Rattle.refusal.specs.declared.Verdict.the-variants.{Accepted};
 ghost use Rattle.refusal.specs.First.{first};
+ghost use Rattle.limits.specs.Limits.{maxVectors};
 ghost use Rattle.layout.specs.Stretch.{shapeCauses};
-ghost use Rattle.library.specs.Each.{every};
+ghost use Rattle.library.specs.Each.{tabulate, every};
 ghost use Rattle.library.specs.Library.{libraryWith};
 ghost use Rattle.library.specs.Tests.{inside};
+ghost use Rattle.library.specs.Ends.{Table, between, firstMark, lastMark};
 ghost use Rattle.writing.specs.Sized.{Dimensioned, Sized};
 ghost use Rattle.writing.specs.Write.{valueCauses, shapedCauses, writeCauses};
 
@@ -83,14 +87,40 @@ fn check_values(d: usize, b: usize, n: usize, marks: &[i32], components: &[i32])
     Verdict::Accepted
 }
 
-// Whether every vector lies inside the marks.
+// Whether every vector lies inside the marks. Each component is held against the ends of its dimension's marks, which are looked up once.
 fn all_inside(d: usize, b: usize, n: usize, marks: &[i32], components: &[i32]) -> bool
     requires { ⌜ Sized d b n (now marks) (now components) ⌝ }
     ensures { λ r. ⌜ r ≡ every n (λ i. inside d b (now (marks .entry)) (λ t. getD (now (components .entry)) (i * d + t) (pos 0))) ⌝ }
 {
+    let mut lows = [0i32; MAX_DIMENSIONS];
+    let mut highs = [0i32; MAX_DIMENSIONS];
+    fill_ends(d, b, marks, &mut lows, &mut highs);
+    all_between(d, n, &lows, &highs, components)
+}
+
+// The first and the last mark of each dimension, into the fronts of two buffers.
+fn fill_ends(d: usize, b: usize, marks: &[i32], lows: &mut [i32], highs: &mut [i32])
+    requires { ⌜ (Dimensioned d b (now marks)) × (d ≤ length (now lows)) × (d ≤ length (now highs)) ⌝ }
+    ensures { λ _. ⌜ now (lows .exit) ≡ tabulate d (firstMark d b (λ i. getD (now (marks .entry)) i (pos 0))) ++ drop d (now (lows .entry)) ⌝ }
+    ensures { λ _. ⌜ now (highs .exit) ≡ tabulate d (lastMark d b (λ i. getD (now (marks .entry)) i (pos 0))) ++ drop d (now (highs .entry)) ⌝ }
+{
+    let mut t = 0;
+    while t < d {
+        let ends = ends_of(d, b, t);
+        lows[t] = whole::at(marks, ends.first);
+        highs[t] = whole::at(marks, ends.last);
+        t += 1;
+    }
+}
+
+// Whether each of n vectors lies between the ends.
+fn all_between(d: usize, n: usize, lows: &[i32], highs: &[i32], components: &[i32]) -> bool
+    requires { ⌜ (Table d (now lows) (now highs)) × (n ≤ maxVectors) × (n * d ≤ length (now components)) ⌝ }
+    ensures { λ r. ⌜ r ≡ every n (λ i. between d (now (lows .entry)) (now (highs .entry)) (λ t. getD (now (components .entry)) (i * d + t) (pos 0))) ⌝ }
+{
     let mut i = 0;
     while i < n {
-        if !is_inside(d, b, marks, components, i * d) {
+        if !is_between(d, lows, highs, components, i * d) {
             return false;
         }
         i += 1;
@@ -98,21 +128,20 @@ fn all_inside(d: usize, b: usize, n: usize, marks: &[i32], components: &[i32]) -
     true
 }
 
-// Whether the d components from an index on lie, each, inside the marks of their dimension.
-fn is_inside(d: usize, b: usize, marks: &[i32], components: &[i32], from: usize) -> bool
-    requires { ⌜ (Dimensioned d b (now marks)) × (from < 2 ^ 32) ⌝ }
-    ensures { λ r. ⌜ r ≡ inside d b (now (marks .entry)) (λ t. getD (now (components .entry)) (from + t) (pos 0)) ⌝ }
+// Whether the d components from an index on do, each. It goes on behind one that does not: so the tests are made several at a time.
+fn is_between(d: usize, lows: &[i32], highs: &[i32], components: &[i32], from: usize) -> bool
+    requires { ⌜ (Table d (now lows) (now highs)) × (from + d ≤ length (now components)) ⌝ }
+    ensures { λ r. ⌜ r ≡ between d (now (lows .entry)) (now (highs .entry)) (λ t. getD (now (components .entry)) (from + t) (pos 0)) ⌝ }
 {
+    let mut all = true;
     let mut t = 0;
     while t < d {
-        let ends = ends_of(d, b, t);
-        if !whole::compare::at_most(marks, ends.first, components, from + t) {
-            return false;
+        if lies(lows[t], components[from + t], highs[t]) {
+            t += 1;
+        } else {
+            all = false;
+            t += 1;
         }
-        if !whole::compare::is_below(components, from + t, marks, ends.last) {
-            return false;
-        }
-        t += 1;
     }
-    true
+    all
 }

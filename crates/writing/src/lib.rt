@@ -3,7 +3,7 @@ mod check;
 mod put;
 
 use crate::check::check_library;
-use crate::put::put;
+use crate::put::put_byte;
 use crate::put::write_head;
 use crate::put::write_marks;
 use crate::put::write_vectors;
@@ -73,5 +73,5 @@ fn write_all(
     write_head(d, b, n, bytes);
     write_marks(marks, bytes);
     write_vectors(d, n, marks.len(), settings, components, bytes);
-    put(bytes, vector_place(marks.len(), n), 1, END as u64);
+    put_byte(bytes, vector_place(marks.len(), n), END as u64);
 }

@@ -47,6 +47,7 @@ write-vectors-requires c κs =
       few = can start .few;
       few-marks = few-marks start;
       settings-count = can start .sizes .settings-count;
+      components-count = can start .sizes .components-count;
       of-components = can start .components;
       fits = rw (vector-place (length (start .args .marks .now)) (start .args .n)) (omega (arith, whole start, head .write-head .kept, marks .write-marks .kept));
     }
@@ -56,8 +57,8 @@ vector-place-requires c κs =
     let start = c .before .before .before .before .before .before .before .before .before .before .before .before .before .before .before in
     (omega (arith, few-marks start), omega (arith, can start .few))
 
-put-requires : tie.Need-put-requires
-put-requires c κs =
+put-byte-requires : tie.Need-put-byte-requires
+put-byte-requires c κs =
     let vectors = c .before .before .before .before in
     let marks = vectors .before .before .before .before in
     let head = marks .before .before .before .before in
@@ -65,13 +66,13 @@ put-requires c κs =
     omega (arith, c .vector-place .ensures, vector-place (length (start .args .marks .now)) (start .args .n), whole start, head .write-head .kept, marks .write-marks .kept, vectors .write-vectors .kept)
 
 -- the buffer's length is kept by all four
-kept : (c : tie.After-put) → let start = c .before .before .before .before .before .before .before .before .before .before .before .before .before .before .before .before .before in
-    length (c .put .last .0) ≡ length (start .args .bytes .now)
+kept : (c : tie.After-put-byte) → let start = c .before .before .before .before .before .before .before .before .before .before .before .before .before .before .before .before .before in
+    length (c .put-byte .last .0) ≡ length (start .args .bytes .now)
 kept c =
     let vectors = c .before .before .before .before .before in
     let marks = vectors .before .before .before .before in
     let head = marks .before .before .before .before in
-    c .put .kept .0 ∙ vectors .write-vectors .kept .1 .1 .1 .1 .1 .0 ∙ marks .write-marks .kept .1 .0 ∙ head .write-head .kept .1 .1 .1 .0
+    c .put-byte .kept .0 ∙ vectors .write-vectors .kept .1 .1 .1 .1 .1 .0 ∙ marks .write-marks .kept .1 .0 ∙ head .write-head .kept .1 .1 .1 .0
 
 returns : tie.Need-returns
 unfolding libraryBytes
@@ -82,11 +83,11 @@ returns c =
     let head = marks .before .before .before .before in
     let start = head .before .before .before .before in
     let m = length (start .args .marks .now) in
-    let full : last .before .vector-place .result + 1 ≡ length (last .put .last .0) =
+    let full : last .before .vector-place .result + 1 ≡ length (last .put-byte .last .0) =
     omega (arith, last .before .vector-place .ensures, vector-place m (start .args .n), whole start, kept last) in
     let from : vectorPlace m 0 ≡ markPlace m = omega (arith, vector-place m 0, mark-place m) in
-    let filled = rw full at (last .put .ensures) in
-    sym (take-all (length (last .put .last .0)) (last .put .last .0) (omega arith))
+    let filled = rw full at (last .put-byte .ensures) in
+    sym (take-all (length (last .put-byte .last .0)) (last .put-byte .last .0) (omega arith))
     ∙ filled
     ∙ rw (last .before .vector-place .ensures, vectors .write-vectors .ensures, from, marks .write-marks .ensures, head .write-head .ensures, marks-counted start, end-part)
 
@@ -99,6 +100,6 @@ write-all-spec =
     write-vectors-requires
     vector-place-requires
     (λ c. search needs)
-    put-requires
+    put-byte-requires
     (λ c. omega (arith, kept (c .before .before)))
     returns)

@@ -4,22 +4,15 @@ use native.Mathlib.Omega.{arith}
 use Rattle.whole.proofs.ReadBack.{given}
 use Rattle.layout.specs.Stretch.{shape}
 use Rattle.library.specs.Library.{markAt}
-use Rattle.library.specs.Ends.{firstMark, lastMark}
-use Rattle.library.proofs.Filling.{Filling, filling-start, filling-next, filling-end}
+use Rattle.library.proofs.Filling.{Ending, ending-start, ending-next, ending-end}
 use Rattle.loading.proofs.check.read_ends.Statement.{statement}
 use Rattle.loading.proofs.check.read_ends.Tie as tie
 
 abbrev Inv-loop : tie.InvT-loop
-Inv-loop bytes d b lows₀ highs₀ t₀ lows highs t = (Filling d (firstMark d b (markAt bytes)) lows₀ lows t) × (Filling d (lastMark d b (markAt bytes)) highs₀ highs t)
+Inv-loop bytes d b lows₀ highs₀ t₀ lows highs t = Ending d b (markAt bytes) lows₀ highs₀ lows highs t
 
 abbrev μ-loop : tie.MeasureT-loop
 μ-loop bytes d b lows₀ highs₀ t₀ lows highs t = d - t
-
-loop-holds : tie.Need-loop-holds Inv-loop μ-loop
-loop-holds c =
-    let args = c .before .args in
-    let mark = markAt (args .bytes .now) in
-    (filling-start (args .d) (firstMark (args .d) (args .b) mark) (args .lows .now), filling-start (args .d) (lastMark (args .d) (args .b) mark) (args .highs .now))
 
 -- the numbers are small
 first-small : (c : tie.After-ends-of Inv-loop μ-loop) → c .ends-of .result .first < 2 ^ 32
@@ -40,22 +33,14 @@ loop-again c =
     let now = ends .before .before in
     let start = now .before .before in
     let args = start .args in
-    let mark = markAt (args .bytes .now) in
-    let more = ends .before .loop-test .taken in
-    let first-is = rw (ends .ends-of .ensures .first-is) at (given (low .mark-at .ok) (low .mark-at .ensures)) in
-    let last-is = rw (ends .ends-of .ensures .last-is) at (given (c .mark-at2 .ok) (c .mark-at2 .ensures)) in (
-      filling-next (args .d) (firstMark (args .d) (args .b) mark) (args .lows .now) (now .loop .t) (start .pre .1) more first-is (now .loop .inv .0),
-      filling-next (args .d) (lastMark (args .d) (args .b) mark) (args .highs .now) (now .loop .t) (start .pre .2) more last-is (now .loop .inv .1),
-    )
+    ending-next (args .d) (args .b) (markAt (args .bytes .now)) (args .lows .now) (args .highs .now) (now .loop .t) (start .pre .1) (start .pre .2) (ends .before .loop-test .taken) (ends .ends-of .ensures)
+    (given (low .mark-at .ok) (low .mark-at .ensures)) (given (c .mark-at2 .ok) (c .mark-at2 .ensures)) (now .loop .inv)
 
 returns : tie.Need-returns Inv-loop μ-loop
 returns c =
     let now = c .before in
     let args = now .before .before .args in
-    let mark = markAt (args .bytes .now) in (
-      filling-end (args .d) (firstMark (args .d) (args .b) mark) (args .lows .now) (now .loop .t) (c .loop-test .left) (now .loop .inv .0),
-      filling-end (args .d) (lastMark (args .d) (args .b) mark) (args .highs .now) (now .loop .t) (c .loop-test .left) (now .loop .inv .1),
-    )
+    ending-end (args .d) (args .b) (markAt (args .bytes .now)) (args .lows .now) (args .highs .now) (now .loop .t) (c .loop-test .left) (now .loop .inv)
 
 pub read-ends-spec : {M : Type 1} → statement M
 read-ends-spec =
@@ -63,17 +48,17 @@ read-ends-spec =
     (tie.spec
     Inv-loop
     μ-loop
-    loop-holds
+    (λ c. let args = c .before .args in ending-start (args .d) (args .b) (markAt (args .bytes .now)) (args .lows .now) (args .highs .now))
     (λ c κs. (c .before .before .before .pre .0, c .loop-test .taken))
     (λ c κs. first-small c)
     (λ c. omega (arith, few (c .before .before)))
-    (λ c. omega (arith, c .before .before .before .before .before .pre .1, c .before .before .loop-test .taken, c .before .before .before .loop .inv .0 .room))
+    (λ c. omega (arith, c .before .before .before .before .before .pre .1, c .before .before .loop-test .taken, c .before .before .before .loop .inv .low .room))
     (λ c κs. last-small (c .before))
     (λ c. omega (arith, few (c .before .before .before)))
-    (λ c. omega (arith, c .before .before .before .before .before .before .pre .2, c .before .before .before .loop-test .taken, c .before .before .before .before .loop .inv .1 .room))
+    (λ c. omega (arith, c .before .before .before .before .before .before .pre .2, c .before .before .before .loop-test .taken, c .before .before .before .before .loop .inv .high .room))
     (λ c. omega (arith, few (c .before .before .before)))
     (λ c. omega (arith, c .before .before .before .loop-test .taken))
     loop-again
-    (λ c. c .before .loop .inv .0 .room)
-    (λ c. c .before .loop .inv .1 .room)
+    (λ c. c .before .loop .inv .low .room)
+    (λ c. c .before .loop .inv .high .room)
     returns)

@@ -1,8 +1,8 @@
 -- `fill_components` meets its contract: the vectors so far stand in front of what is kept. Assumes nothing.
 use mathlib.Core.Path.{_≡_}
 use mathlib.Core.List.{List}
-use Prim.Native.Nat.{ℕ, suc, _+_, _-_, _*_, _/_, _%_, _≤_}
-use native.Mathlib.Nat.{zero-mul, suc-mul, mul-le-mul, mul-le-mul-right}
+use Prim.Native.Nat.{ℕ, _+_, _-_, _*_, _/_, _%_, _≤_}
+use native.Mathlib.Nat.{zero-mul, suc-mul, mul-le-mul}
 use native.Mathlib.Numerals.{add-one}
 use native.Mathlib.Omega.{arith}
 use lib.Arith.{digits-div, digits-mod}
@@ -10,7 +10,7 @@ use lib.IntN.{ℤ}
 use lib.ListN.{length, drop}
 use Rattle.records.specs.Records.{vectorKind, recordLength}
 use Rattle.library.specs.Library.{vectorPlace, storedAt, componentAt}
-use Rattle.library.specs.Sizes.{vector-place, vector-length}
+use Rattle.library.specs.Sizes.{vector-place, vector-length, row-within}
 use Rattle.library.proofs.Filling.{Filling, filling-start, filling-more, filling-end}
 use Rattle.loading.proofs.fill.fill_components.Statement.{statement}
 use Rattle.loading.proofs.fill.fill_components.Tie as tie
@@ -37,10 +37,8 @@ module _ (c : tie.In-loop Inv-loop μ-loop) where
   i = c .before .loop .i
 
   -- its row is among the rows
-  row-within : i * start .args .d + start .args .d ≤ start .args .n * start .args .d
-  row-within =
-      let rows : suc i * start .args .d ≤ start .args .n * start .args .d = mul-le-mul-right (start .args .d) (c .loop-test .taken) in
-      rw (suc-mul i (start .args .d)) at rows
+  row : i * start .args .d + start .args .d ≤ start .args .n * start .args .d
+  row = row-within (start .args .d) (c .loop-test .taken)
 
   few : start .args .n * start .args .d ≤ 16384
   few = mul-le-mul (start .pre .2) (start .pre .1)
@@ -54,7 +52,7 @@ module _ (c : tie.In-loop Inv-loop μ-loop) where
 fill-vector-requires : tie.Need-fill-vector-requires Inv-loop μ-loop
 fill-vector-requires c κs =
     let inside = c .before .before in
-    (rw (c .before .vector-place .ensures) (record-within inside), start inside .pre .1, omega (arith, row-within inside, start inside .pre .3, inside .before .loop .inv .1 .room))
+    (rw (c .before .vector-place .ensures) (record-within inside), start inside .pre .1, omega (arith, row inside, start inside .pre .3, inside .before .loop .inv .1 .room))
 
 loop-again : tie.Need-loop-again Inv-loop μ-loop
 loop-again c =
@@ -69,7 +67,7 @@ loop-again c =
       omega (arith, inside .loop-test .taken),
       rw next
           (filling-more (args .n * args .d) (component bytes (args .m) (args .d)) (args .components .now) (now .i * args .d) (args .d) (storedAt (drop (vectorPlace (args .m) (now .i)) bytes))
-          (row-within inside) (vector .fill-vector .kept .1 .1 .1 .1 .0) is (λ t h. rw (digits-div (now .i) h, digits-mod (now .i) h)) (now .inv .1)),
+          (row inside) (vector .fill-vector .kept .1 .1 .1 .1 .0) is (λ t h. rw (digits-div (now .i) h, digits-mod (now .i) h)) (now .inv .1)),
     )
 
 returns : tie.Need-returns Inv-loop μ-loop
@@ -87,7 +85,7 @@ fill-components-spec =
     μ-loop
     loop-holds
     (λ c κs. (start c .pre .0, omega (arith, start c .pre .2, c .loop-test .taken)))
-    (λ c. omega (arith, row-within (c .before), few (c .before)))
+    (λ c. omega (arith, row (c .before), few (c .before)))
     fill-vector-requires
     (λ c. omega (arith, c .before .before .before .before .loop-test .taken))
     (λ c. omega (arith, c .before .before .before .before .loop-test .taken))

@@ -1,72 +1,51 @@
--- `all_inside` meets its contract: the vectors so far pass. Assumes nothing.
-use mathlib.Core.Path.{_≡_, refl, sym, _∙_}
-use mathlib.Core.Bool.{Bool, true}
-use mathlib.Core.List.{List}
-use Prim.Native.Nat.{ℕ, _+_, _-_, _*_, _≤_}
-use native.Mathlib.Nat.{mul-le-mul}
+-- `all_inside` meets its contract: between the ends of the marks is inside the marks. Assumes nothing.
+use mathlib.Core.Path.{refl, sym, _∙_}
+use Prim.Native.Nat.{_+_, _*_, _≤_}
 use native.Mathlib.Omega.{arith}
-use lib.IntN.{ℤ, pos}
+use lib.IntN.{pos}
 use lib.ListN.{getD}
-use borrow.Author.Tests.{not-true, not-false}
-use Rattle.limits.specs.Limits.{maxVectors}
+use borrow.Author.Needs.{needs}
+use Rattle.limits.specs.Limits.{maxDimensions}
 use Rattle.layout.specs.Stretch.{shape}
-use Rattle.library.specs.Each.{every}
-use Rattle.library.specs.EachLaws.{every-fails, every-more}
-use Rattle.library.specs.Tests.{inside}
+use Rattle.library.specs.EachLaws.{every-same}
+use Rattle.library.specs.Ends.{EndMarks, inside-between}
 use Rattle.writing.proofs.check.all_inside.Statement.{statement}
 use Rattle.writing.proofs.check.all_inside.Tie as tie
 
--- the test of vector i
-abbrev test : ℕ → ℕ → List ℤ → List ℤ → ℕ → Bool
-test d b marks components i = inside d b marks (λ t. getD components (i * d + t) (pos 0))
+few : (c : tie.Start) → c .args .d ≤ maxDimensions
+few c = shape (c .args .d) (c .args .b) (c .pre .of-marks .shape-passes) .few
 
-abbrev Inv-loop : tie.InvT-loop
-Inv-loop d b n marks components i₀ i = (i ≤ n) × (every i (test d b marks components) ≡ true)
+-- the buffers hold the ends
+ends : (c : tie.After-fill-ends) → let args = c .before .before .before .args in
+    EndMarks (args .d) (args .b) (λ i. getD (args .marks .now) i (pos 0)) (c .fill-ends .last .1 .1 .1 .0) (c .fill-ends .last .1 .1 .1 .1 .0)
+ends c = record { rest = _; rest' = _; lows-are = c .fill-ends .ensures .0; highs-are = c .fill-ends .ensures .1 }
 
-abbrev μ-loop : tie.MeasureT-loop
-μ-loop d b n marks components i₀ i = n - i
-
--- the index of a vector's first component is small
-small : (c : tie.In-loop Inv-loop μ-loop) → c .before .loop .i * c .before .before .args .d ≤ 16384
-small c =
-    let start = c .before .before in
-    let few : c .before .loop .i ≤ maxVectors = omega (arith, start .pre .few, c .loop-test .taken) in
-    mul-le-mul few (shape (start .args .d) (start .args .b) (start .pre .of-marks .shape-passes) .few)
-
-returns : tie.Need-returns Inv-loop μ-loop
-returns c =
-    let now = c .before .before .before in
-    let args = now .before .args in
-    sym (every-fails (args .n) (test (args .d) (args .b) (args .marks .now) (args .components .now)) (now .loop .i) (c .before .before .loop-test .taken)
-    (sym (c .before .is-inside .ensures) ∙ not-true (c .before .is-inside .result) (c .if1 .taken)))
-
-loop-again : tie.Need-loop-again Inv-loop μ-loop
-loop-again c =
-    let now = c .before .before .before in
-    let args = now .before .args in (
-      omega arith,
-      every-more (now .loop .i) (test (args .d) (args .b) (args .marks .now) (args .components .now)) (now .loop .inv .1)
-          (sym (c .before .is-inside .ensures) ∙ not-false (c .before .is-inside .result) (c .if1 .left)),
+all-between-requires : tie.Need-all-between-requires
+all-between-requires c κs =
+    let filled = c .before .before .before .before in
+    let start = filled .before .before .before in
+    let kept = filled .fill-ends .kept .1 .1 .1 in (
+      record { few = few start; low = omega (arith, few start, kept .0); high = omega (arith, few start, kept .1 .0) },
+      start .pre .few,
+      omega (arith, start .pre .components-count),
     )
 
-returns-2 : tie.Need-returns-2 Inv-loop μ-loop
-returns-2 c =
-    let now = c .before .loop in
-    let all : now .i ≡ c .before .before .args .n = omega (arith, now .inv .0, c .loop-test .left) in
-    sym (rw all at (now .inv .1))
+returns : tie.Need-returns
+returns c =
+    let filled = c .before .before .before .before .before in
+    let start = filled .before .before .before in
+    let args = start .args in
+    let law = inside-between (args .d) (args .b) (args .marks .now) (λ i. getD (args .marks .now) i (pos 0)) (start .pre .of-marks .marks-count) (λ i h. refl) (ends filled) in
+    c .all-between .ensures ∙ sym (every-same (args .n) _ _ (λ i h. law (λ t. getD (args .components .now) (i * args .d + t) (pos 0))))
 
 pub all-inside-spec : {M : Type 1} → statement M
-unfolding every
 all-inside-spec =
     tie.close
     (tie.spec
-    Inv-loop
-    μ-loop
-    (λ c. (omega arith, refl))
-    (λ c. omega (arith, small c))
-    (λ c κs. (c .before .before .pre .of-marks, omega (arith, small c)))
-    returns
-    (λ c. omega arith)
-    (λ c. omega arith)
-    loop-again
-    returns-2)
+    (λ c. search needs)
+    (λ c. search needs)
+    (λ c κs. (c .before .before .pre .of-marks, few (c .before .before), few (c .before .before)))
+    (λ c. search needs)
+    (λ c. search needs)
+    all-between-requires
+    returns)

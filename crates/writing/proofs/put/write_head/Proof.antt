@@ -12,19 +12,19 @@ use Rattle.writing.proofs.put.write_head.Tie as tie
 room : (c : tie.Start) → 5 ≤ length (c .args .bytes .now)
 room c = rw (mark-place 0) at (c .pre)
 
-put-requires-2 : tie.Need-put-requires-2
-put-requires-2 c κs = omega (arith, room (c .before .before .before .before .before .before), c .before .before .before .put .kept)
+put-byte-requires-2 : tie.Need-put-byte-requires-2
+put-byte-requires-2 c κs = omega (arith, room (c .before .before .before .before .before .before), c .before .before .before .put-byte .kept)
 
-put-requires-3 : tie.Need-put-requires-3
-put-requires-3 c κs =
+put-byte-requires-3 : tie.Need-put-byte-requires-3
+put-byte-requires-3 c κs =
     let one = c .before .before .before .before .before .before .before in
-    omega (arith, room (one .before .before .before), one .put .kept, c .before .before .before .put2 .kept)
+    omega (arith, room (one .before .before .before), one .put-byte .kept, c .before .before .before .put-byte2 .kept)
 
-put-requires-4 : tie.Need-put-requires-4
-put-requires-4 c κs =
+put-pair-requires : tie.Need-put-pair-requires
+put-pair-requires c κs =
     let two = c .before .before .before .before .before .before .before in
     let one = two .before .before .before .before in
-    omega (arith, room (one .before .before .before), one .put .kept, two .put2 .kept, c .before .before .before .put3 .kept)
+    omega (arith, room (one .before .before .before), one .put-byte .kept, two .put-byte2 .kept, c .before .before .before .put-byte3 .kept)
 
 same-length : tie.Need-same-length
 same-length c =
@@ -32,7 +32,7 @@ same-length c =
     let three = four .before .before .before .before in
     let two = three .before .before .before .before in
     let one = two .before .before .before .before in
-    omega (arith, four .put4 .kept, three .put3 .kept, two .put2 .kept, one .put .kept)
+    omega (arith, four .put-pair .kept, three .put-byte3 .kept, two .put-byte2 .kept, one .put-byte .kept)
 
 returns : tie.Need-returns
 returns c =
@@ -41,7 +41,7 @@ returns c =
     let two = three .before .before .before .before in
     let one = two .before .before .before .before in
     let args = one .before .before .before .args in
-    rw (mark-place 0, four .put4 .ensures, three .put3 .ensures, two .put2 .ensures, one .put .ensures) (head-parts (args .d) (args .b) (args .n))
+    rw (mark-place 0, four .put-pair .ensures, three .put-byte3 .ensures, two .put-byte2 .ensures, one .put-byte .ensures) (head-parts (args .d) (args .b) (args .n))
 
 pub write-head-spec : {M : Type 1} → statement M
 write-head-spec =
@@ -49,8 +49,8 @@ write-head-spec =
     (tie.spec
     (λ c. search needs)
     (λ c κs. omega (arith, room (c .before .before)))
-    put-requires-2
-    put-requires-3
-    put-requires-4
+    put-byte-requires-2
+    put-byte-requires-3
+    put-pair-requires
     same-length
     returns)

@@ -6,6 +6,8 @@ use native.Mathlib.Omega.{arith}
 use lib.IntN.{ℤ, pos}
 use lib.ListN.{length, getD, take}
 use borrow.Author.Needs.{needs}
+use mir.Syntax.{w32}
+use mir.ValLaws.{toZ-ofZ}
 use Rattle.library.specs.Each.{each}
 use Rattle.library.specs.EachLaws.{each-grows}
 use Rattle.library.specs.Library.{markBytes, markPlace}
@@ -43,28 +45,29 @@ module _ (c : tie.After-mark-place Inv-loop μ-loop) where
       let whole = rw (mark-place (length (start .args .marks .now))) at (start .pre .1) in
       omega (arith, place-is, c .before .loop-test .taken, c .before .before .loop .inv .room)
 
-put-requires-2 : tie.Need-put-requires-2 Inv-loop μ-loop
-put-requires-2 c κs =
-    let one = c .before .before .before .before in
-    omega (arith, room-left (one .before .before), one .put .kept)
+put-quad-requires : tie.Need-put-quad-requires Inv-loop μ-loop
+put-quad-requires c κs =
+    let one = c .before .before .before .before .before in
+    omega (arith, room-left (one .before .before), one .put-byte .kept)
 
 loop-again : tie.Need-loop-again Inv-loop μ-loop
 loop-again c =
     let two = c .before .before in
-    let one = two .before .before .before .before .before in
+    let one = two .before .before .before .before .before .before in
     let at = one .before .before in
     let now = at .before .before in
     let marks = now .before .before .args .marks .now in
     let i = now .loop .i in
     let next : place at + 1 + 4 ≡ markPlace (i + 1) = omega (arith, place-is at, mark-place (i + 1)) in
-    let parts = both-parts (take (place at) (now .loop .bytes)) _ _ (one .put .ensures) (two .put2 .ensures) in
+    let parts = both-parts (take (place at) (now .loop .bytes)) _ _ (one .put-byte .ensures) (two .put-quad .ensures) in
+    let mark = toZ-ofZ w32 (getD marks i (pos 0)) (record { sfits = two .before .before .bits-of-arg .given }) in
     let start : take (place at) (now .loop .bytes) ≡ take (markPlace i) (now .loop .bytes) = ap (λ (p : ℕ). take p (now .loop .bytes)) (at .mark-place .ensures) in
     record {
       few = omega (arith, at .before .loop-test .taken);
-      room = two .put2 .kept .0 ∙ one .put .kept .0 ∙ now .loop .inv .room;
+      room = two .put-quad .kept .0 ∙ one .put-byte .kept .0 ∙ now .loop .inv .room;
       so-far =
           each-grows (take (markPlace 0) (now .before .before .args .bytes .now)) i (λ i. markBytes (getD marks i (pos 0))) (now .loop .inv .so-far)
-          (rw (next, start, mark-parts (two .before .bits-at .ensures)) at parts);
+          (rw (next, start, mark-parts (rw mark at (two .before .bits-of .ensures))) at parts);
     }
 
 returns : tie.Need-returns Inv-loop μ-loop
@@ -84,8 +87,10 @@ write-marks-spec =
     (λ c. search needs)
     (λ c κs. omega (arith, room-left (c .before)))
     (λ c. omega (arith, place-is (c .before .before .before .before .before), c .before .before .before .before .before .before .before .before .before .pre .0))
+    (λ c. omega (arith, c .before .before .before .before .before .before .loop-test .taken, c .before .before .before .before .before .before .before .before .before .pre .0))
+    (λ c. omega (arith, c .before .before .before .before .before .before .loop-test .taken))
     (λ c κs. search needs)
-    put-requires-2
+    put-quad-requires
     (λ c. omega arith)
     (λ c. omega arith)
     loop-again

@@ -11,7 +11,7 @@ use Rattle.records.specs.Records.{vectorKind, recordLength}
 use Rattle.library.specs.Each.{each}
 use Rattle.library.specs.EachLaws.{each-grows}
 use Rattle.library.specs.Library.{vectorBytes, vectorPlace}
-use Rattle.library.specs.Sizes.{vector-place, vector-length}
+use Rattle.library.specs.Sizes.{vector-place, vector-length, row-within}
 use Rattle.writing.proofs.put.write_vectors.Statement.{statement}
 use Rattle.writing.proofs.put.write_vectors.Tie as tie
 
@@ -54,7 +54,9 @@ module _ (c : tie.After-vector-place Inv-loop μ-loop) where
 write-vector-requires : tie.Need-write-vector-requires Inv-loop μ-loop
 write-vector-requires c κs =
     let at = c .before .before in
-    (room-left at, omega (arith, from-small (at .before)), at .before .before .before .before .before .pre .of-components)
+    let start = at .before .before .before .before .before in
+    let row = row-within (start .args .d) (at .before .loop-test .taken) in
+    (room-left at, record { few = start .pre .few-dimensions; within = omega (arith, row, start .pre .components-count); of-components = start .pre .of-components })
 
 loop-again : tie.Need-loop-again Inv-loop μ-loop
 loop-again c =

@@ -1,0 +1,64 @@
+-- `fill_ends` meets its contract: the ends so far stand in front of what is kept. Assumes nothing.
+use Prim.Native.Nat.{ℕ, _-_, _≤_}
+use mathlib.Core.List.{List}
+use native.Mathlib.Omega.{arith}
+use lib.IntN.{ℤ, pos}
+use lib.ListN.{getD}
+use borrow.Author.Needs.{needs}
+use Rattle.whole.proofs.ReadBack.{given}
+use Rattle.layout.specs.Stretch.{shape}
+use Rattle.library.proofs.Filling.{Ending, ending-start, ending-next, ending-end}
+use Rattle.writing.proofs.check.fill_ends.Statement.{statement}
+use Rattle.writing.proofs.check.fill_ends.Tie as tie
+
+-- the marks by their numbers
+abbrev mark : List ℤ → ℕ → ℤ
+mark marks i = getD marks i (pos 0)
+
+abbrev Inv-loop : tie.InvT-loop
+Inv-loop d b marks lows₀ highs₀ t₀ lows highs t = Ending d b (mark marks) lows₀ highs₀ lows highs t
+
+abbrev μ-loop : tie.MeasureT-loop
+μ-loop d b marks lows₀ highs₀ t₀ lows highs t = d - t
+
+few : (c : tie.In-loop Inv-loop μ-loop) → c .before .loop .t ≤ 32
+few c =
+    let start = c .before .before in
+    omega (arith, shape (start .args .d) (start .args .b) (start .pre .0 .shape-passes) .few, c .loop-test .taken)
+
+loop-again : tie.Need-loop-again Inv-loop μ-loop
+loop-again c =
+    let low = c .before in
+    let ends = low .before in
+    let now = ends .before .before in
+    let start = now .before in
+    let args = start .args in
+    ending-next (args .d) (args .b) (mark (args .marks .now)) (args .lows .now) (args .highs .now) (now .loop .t) (start .pre .1) (start .pre .2) (ends .before .loop-test .taken) (ends .ends-of .ensures)
+    (given (low .at .ok) (low .at .ensures)) (given (c .at2 .ok) (c .at2 .ensures)) (now .loop .inv)
+
+returns : tie.Need-returns Inv-loop μ-loop
+returns c =
+    let now = c .before in
+    let args = now .before .args in
+    ending-end (args .d) (args .b) (mark (args .marks .now)) (args .lows .now) (args .highs .now) (now .loop .t) (c .loop-test .left) (now .loop .inv)
+
+pub fill-ends-spec : {M : Type 1} → statement M
+fill-ends-spec =
+    tie.close
+    (tie.spec
+    Inv-loop
+    μ-loop
+    (λ c. ending-start (c .args .d) (c .args .b) (mark (c .args .marks .now)) (c .args .lows .now) (c .args .highs .now))
+    (λ c κs. (c .before .before .pre .0 .shape-passes, c .loop-test .taken))
+    (λ c κs. search needs)
+    (λ c. omega (arith, few (c .before .before)))
+    (λ c. omega (arith, c .before .before .before .before .pre .1, c .before .before .loop-test .taken, c .before .before .before .loop .inv .low .room))
+    (λ c κs. search needs)
+    (λ c. omega (arith, few (c .before .before .before)))
+    (λ c. omega (arith, c .before .before .before .before .before .pre .2, c .before .before .before .loop-test .taken, c .before .before .before .before .loop .inv .high .room))
+    (λ c. omega (arith, few (c .before .before .before)))
+    (λ c. omega (arith, c .before .before .before .loop-test .taken))
+    loop-again
+    (λ c. c .before .loop .inv .low .room)
+    (λ c. c .before .loop .inv .high .room)
+    returns)
