@@ -117,7 +117,7 @@ fn search_parts(
         ⌜ SearchesInto (first (searchCauses l (now (query .entry)) k (roomOf room room (length (now (reads .entry)))))) l (now (query .entry)) k r
         room (now (reads .entry)) (now (numbers .exit)) (now (distances .exit)) (now (reads .exit)) ⌝ }
 {
-    search::search::search(
+    least_reading::search(
         d,
         b,
         n,

@@ -1,15 +1,14 @@
 -- The theory of the reading order at a library: a distance is possible at a number where some vector of its code's cell has it.
 -- Assumes nothing.
 use mathlib.Core.Path.{_≡_, refl, sym, ap, _∙_}
-use mathlib.Core.Bool.{true, _&&_, and-eq-true-iff}
+use mathlib.Core.Bool.{true, and-eq-true-iff}
 use mathlib.Core.Logic.{_≢_, inl, inr}
 use mathlib.Core.List.{List}
-use Prim.Native.Nat.{ℕ, zero, suc, _*_, _<_}
+use Prim.Native.Nat.{ℕ, zero, suc, _<_}
 use native.Mathlib.Nat.{eq-or-lt-of-le, le-of-suc-le-suc}
 use native.Mathlib.Decide.{ℕ-discrete}
 use native.Mathlib.Omega.{arith}
 use lib.IntN.{ℤ}
-use lib.ListN.{length}
 use Rattle.order.specs.Members.{_∈_}
 use Rattle.order.specs.Counted.{counted, counts}
 use Rattle.selection.specs.Reading.{scan}
@@ -22,10 +21,10 @@ use Rattle.cells.specs.Cells.{vectorAt, noneEmpty, noEmptyCodes, goodCodes}
 use Rattle.distance.specs.Distance.{distanceOf}
 use Rattle.distance.specs.Bounds.{firstBound}
 use Rattle.distance.specs.CellBounds.{lower-le, CellReached, lower-reached, upper-reached}
-use Rattle.search.specs.Search.{Library, numbersIn, distanceIn, lowIn, highIn, scanned, searched}
-use Rattle.search.specs.Settled.{withVectors, CellOf, OwnCodes, SameCells, SettlesAnswer, NeededVector}
+use Rattle.search.specs.Search.{Library, numbersIn, distanceIn, lowIn, highIn, scanned}
+use Rattle.search.specs.Settled.{withVectors, CellOf, OwnCodes, SettlesAnswer, NeededVector}
 use Rattle.scan.specs.Ranked.{scan-agree}
-use Rattle.search.specs.Rows.{Row, Rows, in-a-row}
+use Rattle.search.specs.Rows.{Row, in-a-row}
 
 -- v is the distance of a vector of code i's cell
 pub record Possible (l : Library) (query : List ℤ) (i v : ℕ) : Type 0 where

@@ -5,8 +5,5 @@ pub mod Rows
 pub mod Instance
 pub mod Theorems
 pub mod Ready
-pub mod Answered
-pub mod Searching
-pub mod Buffers
 pub mod Entry
 pub mod Answer

@@ -6,7 +6,7 @@ use Prim.Native.Nat.{ℕ, zero, suc, _+_, _*_, _≤_, _<_}
 use native.Mathlib.Nat.{suc-mul, mul-le-mul-right, eq-or-lt-of-le, le-of-suc-le-suc, lt-suc-self, le-trans, le-suc, le-of-eq, zero-mul}
 use native.Mathlib.Omega.{arith}
 use lib.IntN.{ℤ}
-use lib.ListN.{length, take, drop, length-append, length-drop}
+use lib.ListN.{length, drop, length-append, length-drop}
 use lib.Seq.{take-append-le, drop-append-le, drop-at, take-all}
 use Rattle.cells.specs.Cells.{vectorAt}
 

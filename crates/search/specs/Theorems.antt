@@ -4,7 +4,6 @@
 -- vector is needed, is in Settled.antt. The query, k, n, d, b and the marks are any; "not refused" is `Accepts`.
 -- Assumes nothing.
 use mathlib.Core.Path.{_≡_, refl, sym, ap, _∙_}
-use mathlib.Core.Bool.{true}
 use mathlib.Core.Logic.{_≢_}
 use mathlib.Core.List.{List, [], _∷_, List·Memᴰ·head, List·Memᴰ·tail}
 use Prim.Native.Nat.{ℕ, _+_, _≤_, _<_}
@@ -18,7 +17,7 @@ use Rattle.selection.specs.Settles.{Bounds, fixed}
 use Rattle.selection.specs.Theorems.{reads-in-order, reads-among, exact, stable, needed, settling-holds, least}
 use Rattle.cells.specs.Cells.{vectorAt}
 use Rattle.distance.specs.Distance.{distanceOf}
-use Rattle.search.specs.Search.{Library, numbersIn, distanceIn, lowIn, highIn, inOwnCell, inOwnCells, scanned, searched, Room}
+use Rattle.search.specs.Search.{Library, numbersIn, distanceIn, lowIn, highIn, inOwnCells, scanned, searched, Room}
 use Rattle.search.specs.Accepted.{Accepts, passes, accepts, lengths-told, lengths-exact}
 use Rattle.search.specs.Settled.{withVectors, OwnCodes, SameCells, SettlesAnswer, NeededVector}
 use Rattle.search.specs.Instance.{Possible, own-lower, own-possible, cell-bounds, settles-distances, needed-vector}

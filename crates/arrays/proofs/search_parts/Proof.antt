@@ -11,7 +11,7 @@ use Rattle.refusal.specs.First.{first}
 use Rattle.search.specs.declared.search.Searched.{Searched}
 use Rattle.search.specs.Search.{Library, searched, searchCauses}
 use Rattle.search.specs.Ready.{library, roomOf}
-use Rattle.search.specs.Searching.{Searches, searches-by}
+use Rattle.least_reading.specs.Searching.{Searches, searches-by}
 use Rattle.arrays.specs.Arrays.{SearchesInto}
 use Rattle.arrays.specs.Room.{search-tells, stands-back}
 use Rattle.arrays.proofs.search_parts.Statement.{statement}

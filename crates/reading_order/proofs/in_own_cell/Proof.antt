@@ -1,0 +1,40 @@
+-- `in_own_cell` meets its contract: the part that is lent is the vector, and the cell is there. Assumes nothing.
+use mathlib.Core.Path.{_≡_, ap, _∙_}
+use Prim.Native.Nat.{ℕ, _+_, _-_, _*_, _^_, _<_}
+use native.Mathlib.Omega.{arith}
+use lib.ListN.{take, drop}
+use borrow.Author.Needs.{needs}
+use borrow.Author.Tests.{lt-ltb}
+use Rattle.refusal.specs.First.{outcome-accepted}
+use Rattle.limits.specs.Limits.{maxVectors}
+use Rattle.cells.specs.CellCauses.{cellHolds}
+use Rattle.reading_order.proofs.in_own_cell.Statement.{statement}
+use Rattle.reading_order.proofs.in_own_cell.Tie as tie
+
+returns : tie.Need-returns
+unfolding cellHolds
+returns c =
+    let start = c .before .before .before in
+    let a = start .args in
+    let o = a .number * a .d in
+    let count : o + a .d - o ≡ a .d = omega arith in
+    c .in-cell .ensures
+    ∙ ap (λ (m : ℕ). cellHolds (a .d) (a .b) (a .marks .now) (a .codes .now) (a .number) (take m (drop o (a .vectors .now)))) count
+    ∙ outcome-accepted _ _ (start .pre .0)
+    ∙ rw (lt-ltb (a .number) maxVectors (start .pre .1))
+
+small : (c : tie.After-shared-slice-known) → let a = c .before .args in a .number * a .d + a .d < 2 ^ 64
+small c = c .before .pre .2 .small
+
+pub in-own-cell-spec : {M : Type 1} → statement M
+in-own-cell-spec =
+    tie.close
+    (tie.spec
+    (λ c. omega (arith, small c))
+    (λ c. omega (arith, small c))
+    (λ c. omega (arith, small c))
+    (λ c. omega (arith, small c))
+    (λ c. omega (arith, small c))
+    (λ c. omega (arith, c .before .pre .2 .ends))
+    (λ c κs. search needs)
+    returns)

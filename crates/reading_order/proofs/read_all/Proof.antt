@@ -1,0 +1,73 @@
+-- `read_all` meets its contract: the first k are read and sorted, and the rest read from there on. Assumes nothing.
+use mathlib.Core.Path.{_≡_, refl, _∙_}
+use mathlib.Core.Bool.{Bool, true, false}
+use mathlib.Core.List.{List}
+use Prim.Native.Nat.{ℕ}
+use native.Mathlib.Omega.{arith}
+use lib.IntN.{ℤ}
+use lib.ListN.{length, take}
+use lib.Seq.{length-take-le}
+use borrow.Author.Needs.{needs}
+use borrow.Author.Tests.{not-true, not-false}
+use Rattle.refusal.specs.declared.Refusal.the-variants.{Cell}
+use Rattle.refusal.specs.First.{first, outcome}
+use Rattle.order.specs.Pair.{sort, numbersOf}
+use Rattle.order.specs.Pairs.{pairsOf, keysOf}
+use Rattle.order.specs.Counted.{counted-length}
+use Rattle.order.specs.Rank.{rankCauses}
+use Rattle.order.specs.Ranking.{ranked-count}
+use Rattle.selection.specs.Reading.{readingOrder}
+use Rattle.selection.specs.Loop.{after, reached-first}
+use Rattle.selection.specs.Gathered.{gathers-sorted}
+use Rattle.search.specs.declared.search.Searched.the-variants.{Refused}
+use Rattle.search.specs.Search.{Library, Room, numbersIn, distanceIn, lowIn}
+use Rattle.search.specs.Ready.{Ready, ready-room}
+use Rattle.reading_order.specs.Answered.{Reads, FirstReads, HasRead}
+use Rattle.reading_order.proofs.read_all.Statement.{statement}
+use Rattle.reading_order.proofs.read_all.Tie as tie
+
+module _ {l : Library} {query : List ℤ} {k : ℕ} {r : Bool} {keys best : List ℕ} (first-reads : FirstReads l query k r keys best) where
+  sorted : {room : Room} → Ready l query k room → r ≡ true → {keys-then best-then : List ℕ}
+      → keys-then ≡ outcome (first (rankCauses (length keys) (length best))) (keysOf (sort (pairsOf keys best))) (λ _. keys)
+      → best-then ≡ outcome (first (rankCauses (length keys) (length best))) (numbersOf (sort (pairsOf keys best))) (λ _. best)
+      → HasRead l query k k keys-then best-then
+  unfolding after
+  sorted is all sorted-keys sorted-best =
+      let order = readingOrder (lowIn l query) (numbersIn l) in
+      let long : length order ≡ l .n = ranked-count (lowIn l query) (numbersIn l) ∙ counted-length 0 (l .n) in
+      let full : length (take k order) ≡ k = length-take-le k order (omega (arith, is .enough)) in
+      record {
+        within = is .enough;
+        reached = reached-first k (lowIn l query) (distanceIn l query) (numbersIn l) k (omega arith) (omega (arith, is .enough, counted-length 0 (l .n)));
+        holds = gathers-sorted (first-reads .gathered all) full (is .some) (omega (arith, is .enough, is .count)) sorted-keys sorted-best;
+        inside = first-reads .inside all;
+      }
+
+  refused : r ≡ false → Reads l query k (Refused Cell) keys best
+  refused out =
+      let some-out = first-reads .outside out in
+      record { answer = rw some-out; keys-are = λ none. cc; numbers-are = λ none. cc }
+
+returns : tie.Need-returns
+returns c = refused (c .before .before .before .before .before .read-first .ensures) (not-true _ (c .if1 .taken))
+
+read-rest-requires : tie.Need-read-rest-requires
+read-rest-requires c κs =
+    let sort = c .before .before .before .before .before .before in
+    let read = sort .before .before .before .before .before .before .before .before in
+    let pre = read .before .before .before .before .before .before .before .before .pre in
+    (ready-room (pre .0) _ _ _ refl refl refl, (pre .1 .0, (pre .1 .1, sorted (read .read-first .ensures) (pre .0) (not-false _ (sort .before .before .before .if1 .left)) (sort .sort .ensures .1 .0) (sort .sort .ensures .1 .1))))
+
+pub read-all-spec : {M : Type 1} → statement M
+read-all-spec =
+    tie.close
+    (tie.spec
+    (λ c κs. search needs)
+    (λ c. search needs)
+    (λ c. search needs)
+    returns
+    (λ c κs. search needs)
+    read-rest-requires
+    (λ c. search needs)
+    (λ c. search needs)
+    (λ c. search needs))

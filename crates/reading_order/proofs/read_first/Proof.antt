@@ -1,0 +1,159 @@
+-- `read_first` meets its contract: the first `done` of the reading order lie in their cells and stand in the two lists. Assumes nothing.
+use mathlib.Core.Path.{_≡_, refl, sym, ap, _∙_}
+use mathlib.Core.Bool.{true, false, true≢false, false≢true}
+use mathlib.Core.List.{List}
+use Prim.Native.Nat.{ℕ, _+_, _-_, _%_, _^_, _≤_, _<_}
+use native.Mathlib.Numerals.{add-one}
+use native.Mathlib.Omega.{arith}
+use lib.IntN.{ℤ}
+use lib.ListN.{length, take, getD, set}
+use lib.Seq.{length-take-le, take-suc}
+use borrow.Author.Needs.{needs}
+use borrow.Author.Tests.{not-true, not-false}
+use Rattle.order.specs.Counted.{counted-length}
+use Rattle.order.specs.Ranking.{ranked-count}
+use Rattle.selection.specs.Reading.{readingOrder}
+use Rattle.selection.specs.Loop.{reached-first, goes-on-first}
+use Rattle.selection.specs.Gathered.{Gathers, gathers-start, gathers-next}
+use Rattle.search.specs.Search.{Library, Room, numbersIn, distanceIn, lowIn, inOwnCell, inOwnCells}
+use Rattle.search.specs.Ready.{library, Ready, place, ordered-below}
+use Rattle.reading_order.specs.Answered.{FirstReads, cells-snoc, measured, next-outside}
+use Rattle.reading_order.proofs.read_first.Statement.{statement}
+use Rattle.reading_order.proofs.read_first.Tie as tie
+
+record State (l : Library) (query : List ℤ) (k done : ℕ) (keys best : List ℕ) : Type 0 where
+  within : done ≤ k
+  gathers : Gathers k (distanceIn l query) (take done (readingOrder (lowIn l query) (numbersIn l))) keys best
+  inside : inOwnCells l (take done (readingOrder (lowIn l query) (numbersIn l))) ≡ true
+
+abbrev Inv-loop : tie.InvT-loop
+Inv-loop d b n k query marks codes vectors order keys₀ best₀ done₀ keys best done =
+    State (library d b n marks codes vectors) query k done keys best
+
+abbrev μ-loop : tie.MeasureT-loop
+μ-loop d b n k query marks codes vectors order keys₀ best₀ done₀ keys best done = k - done
+
+module _ {l : Library} {query : List ℤ} {k : ℕ} {room : Room} (is : Ready l query k room) {keys best : List ℕ} where
+  begin : length keys ≡ k → length best ≡ k → State l query k 0 keys best
+  unfolding inOwnCells
+  begin keys-room best-room = record { within = omega arith; gathers = gathers-start keys-room best-room; inside = refl }
+
+  module _ {done : ℕ} (at : State l query k done keys best) where
+    finish : k ≤ done → FirstReads l query k true keys best
+    finish all =
+        let same : done ≡ k = omega (arith, at .within) in
+        record { inside = λ _. rw same at (at .inside); gathered = λ _. rw same at (at .gathers); outside = λ none. absurd (true≢false none) }
+
+    module _ (more : done < k) (number : ℕ) (its : number ≡ getD (readingOrder (lowIn l query) (numbersIn l)) done 0) where
+      below : number < l .n
+      below = rw its (ordered-below l (lowIn l query) done (omega (arith, is .enough)))
+
+      long : length (readingOrder (lowIn l query) (numbersIn l)) ≡ l .n
+      long = ranked-count (lowIn l query) (numbersIn l) ∙ counted-length 0 (l .n)
+
+      fails : inOwnCell l number ≡ false → FirstReads l query k false keys best
+      fails out =
+          let enough : k ≤ length (numbersIn l) = omega (arith, is .enough, counted-length 0 (l .n)) in
+          record {
+            inside = λ none. absurd (false≢true none);
+            gathered = λ none. absurd (false≢true none);
+            outside = λ _.
+                next-outside l query k done (omega (arith, is .enough))
+                (reached-first k (lowIn l query) (distanceIn l query) (numbersIn l) done (at .within) enough)
+                (goes-on-first k (lowIn l query) (distanceIn l query) (numbersIn l) done more (omega arith) _)
+                (sym (ap (inOwnCell l) its) ∙ out);
+          }
+
+      turn : inOwnCell l number ≡ true → (distance : ℕ) → distance ≡ distanceIn l query number % 2 ^ 64
+          → State l query k (done + 1) (set keys done distance) (set best done number)
+      turn cell distance is-distance =
+          let order = readingOrder (lowIn l query) (numbersIn l) in
+          let short : done < length order = omega (arith, long, is .enough) in
+          let one = take-suc order done 0 short in
+          rw add-one
+          (record {
+            within = omega arith;
+            gathers = rw (one, ← its)
+                (gathers-next (at .gathers) number done distance (sym (length-take-le done order (omega arith))) more (is-distance ∙ measured is number below cell));
+            inside = rw (one, ← its) (cells-snoc l (take done order) number (at .inside) cell);
+          })
+
+-- the library that was handed in
+abbrev given : tie.Start Inv-loop μ-loop → Library
+given s = library (s .args .d) (s .args .b) (s .args .n) (s .args .marks .now) (s .args .codes .now) (s .args .vectors .now)
+
+loop-holds : tie.Need-loop-holds Inv-loop μ-loop
+loop-holds c =
+    let is = c .before .before .before .before .pre .0 in
+    begin is (is .lengths .of-distances) (is .lengths .of-numbers)
+
+order-length : (s : tie.Start Inv-loop μ-loop) → length (s .args .order .now) ≡ s .args .n
+order-length s =
+    ap length (s .pre .1) ∙ ranked-count (lowIn (given s) (s .args .query .now)) (numbersIn (given s)) ∙ counted-length 0 (s .args .n)
+
+-- the number that is read next
+its-number : (c : tie.After-shared-slice-known3 Inv-loop μ-loop) → let s = c .before .before .before .before .before .before .before in let done = c .before .before .loop .done in
+    getD (s .args .order .now) done 0 ≡ getD (readingOrder (lowIn (given s) (s .args .query .now)) (numbersIn (given s))) done 0
+its-number c = ap (λ (o : List ℕ). getD o (c .before .before .loop .done) 0) (c .before .before .before .before .before .before .before .pre .1)
+
+is-below : (c : tie.After-shared-slice-known3 Inv-loop μ-loop) → let s = c .before .before .before .before .before .before .before in
+    getD (s .args .order .now) (c .before .before .loop .done) 0 < s .args .n
+is-below c =
+    let is = c .before .before .before .before .before .before .before .pre .0 in
+    below is (c .before .before .loop .inv) (c .before .loop-test .taken) _ (its-number c)
+
+read-number : tie.Need-shared-slice-read-number Inv-loop μ-loop
+read-number c =
+    let s = c .before .before .before .before .before .before .before in
+    omega (arith, order-length s, s .pre .0 .enough)
+
+in-own-cell-requires : tie.Need-in-own-cell-requires Inv-loop μ-loop
+in-own-cell-requires c κs =
+    let is = c .before .before .before .before .before .before .before .pre .0 in
+    (is .shaped, omega (arith, is-below c, is .count), place is _ (is-below c))
+
+returns : tie.Need-returns Inv-loop μ-loop
+returns c =
+    let next = c .before .before in
+    fails (next .before .before .before .before .before .before .before .pre .0) (next .before .before .loop .inv) (next .before .loop-test .taken) _ (its-number next)
+    (sym (c .before .in-own-cell .ensures) ∙ not-true _ (c .if1 .taken))
+
+distance-of-requires : tie.Need-distance-of-requires Inv-loop μ-loop
+distance-of-requires c κs =
+    let next = c .before .before in
+    place (next .before .before .before .before .before .before .before .pre .0) _ (is-below next)
+
+loop-again : tie.Need-loop-again Inv-loop μ-loop
+loop-again c =
+    let asked = c .before .before in
+    let next = asked .before in
+    turn (next .before .before .before .before .before .before .before .pre .0) (next .before .before .loop .inv) (next .before .loop-test .taken) _ (its-number next)
+    (sym (asked .in-own-cell .ensures) ∙ not-false _ (c .before .if1 .left)) _ (c .distance-of .ensures)
+
+returns-2 : tie.Need-returns-2 Inv-loop μ-loop
+returns-2 c = finish (c .before .before .before .before .before .before .pre .0) (c .before .loop .inv) (omega arith)
+
+pub read-first-spec : {M : Type 1} → statement M
+read-first-spec =
+    tie.close
+    (tie.spec
+    Inv-loop
+    μ-loop
+    loop-holds
+    (λ c. search needs)
+    read-number
+    in-own-cell-requires
+    (λ c. search needs)
+    (λ c. search needs)
+    returns
+    distance-of-requires
+    (λ c. search needs)
+    (λ c. search needs)
+    (λ c. search needs)
+    (λ c. search needs)
+    (λ c. search needs)
+    (λ c. search needs)
+    loop-again
+    (λ c. search needs)
+    (λ c. search needs)
+    returns-2)

@@ -1,0 +1,196 @@
+-- `read_rest` meets its contract: the laws of a loop that reads, and of the cells of the vectors read. Assumes nothing.
+use mathlib.Core.Path.{_≡_, sym, ap, _∙_}
+use mathlib.Core.Bool.{Bool, true, false}
+use mathlib.Core.List.{List}
+use Prim.Native.Nat.{ℕ, suc, _+_, _-_, _%_, _^_, _≤_, _<_}
+use native.Mathlib.Numerals.{add-one}
+use native.Mathlib.Omega.{arith}
+use lib.IntN.{ℤ}
+use lib.ListN.{length, take, getD}
+use lib.Seq.{length-take-le, take-all}
+use borrow.Author.Needs.{needs}
+use borrow.Author.Tests.{not-true, not-false}
+use Rattle.refusal.specs.declared.Refusal.the-variants.{Cell}
+use Rattle.order.specs.Pair.{pairOf}
+use Rattle.order.specs.Pairs.{pair, pairsOf}
+use Rattle.order.specs.Rank.{keyAt}
+use Rattle.order.specs.Counted.{counted-length}
+use Rattle.order.specs.Ranking.{ranked-count}
+use Rattle.selection.specs.Reading.{readingOrder, goesOn}
+use Rattle.selection.specs.Loop.{after, reached-next, reached-stop, reached-end, full-after}
+use Rattle.selection.specs.Kept.{Keeps}
+use Rattle.selection.specs.Holds.{holds-keys, holds-numbers, arrays-goes-on, arrays-next}
+use Rattle.search.specs.declared.search.Searched.the-variants.{Read, Refused}
+use Rattle.search.specs.Search.{Library, Room, numbersIn, distanceIn, lowIn, inOwnCell, searched}
+use Rattle.distance.specs.Values.{valuesFrom, values-length, value-at}
+use Rattle.search.specs.Ready.{library, Ready, Place, place, ordered-below}
+use Rattle.reading_order.specs.Answered.{Reads, HasRead, afterReads, measured, next-in-cell, next-outside}
+use Rattle.reading_order.proofs.read_rest.Statement.{statement}
+use Rattle.reading_order.proofs.read_rest.Tie as tie
+
+abbrev Inv-loop : tie.InvT-loop
+Inv-loop d b n k query marks codes vectors lows order keys₀ best₀ done₀ keys best done =
+    (k ≤ done) × HasRead (library d b n marks codes vectors) query k done keys best
+
+abbrev μ-loop : tie.MeasureT-loop
+μ-loop d b n k query marks codes vectors lows order keys₀ best₀ done₀ keys best done = n - done
+
+module _ {l : Library} {query : List ℤ} {k : ℕ} {room : Room} (is : Ready l query k room) {keys best : List ℕ} {done : ℕ}
+    (at : HasRead l query k done keys best) where
+  -- nothing more is read
+  reads-count : length (afterReads l query k done .reads) ≡ done
+  unfolding after
+  reads-count =
+      length-take-le done (readingOrder (lowIn l query) (numbersIn l))
+      (omega (arith, at .within, ranked-count (lowIn l query) (numbersIn l), counted-length 0 (l .n)))
+
+  finish : searched l query k ≡ afterReads l query k done → Reads l query k (Read done) keys best
+  finish all = record {
+    answer = rw (all, at .inside, reads-count);
+    keys-are = λ _. rw all (sym (take-all k keys (omega (arith, at .holds .keys-room))) ∙ holds-keys (at .holds));
+    numbers-are = λ _. rw all (sym (take-all k best (omega (arith, at .holds .numbers-room))) ∙ holds-numbers (at .holds));
+  }
+
+  module _ (more : done < l .n) (number : ℕ) (its : number ≡ getD (readingOrder (lowIn l query) (numbersIn l)) done 0) where
+    below : number < l .n
+    below = rw its (ordered-below l (lowIn l query) done more)
+
+    inside : done < length (numbersIn l)
+    inside = omega (arith, counted-length 0 (l .n))
+
+    tested : (low : ℕ) → low ≡ keyAt (valuesFrom (lowIn l query) 0 (l .n)) number → {r : Bool} → r ≡ goesOn k (take k (pairsOf keys best)) (pair low number)
+        → goesOn k (afterReads l query k done .best) (pairOf (lowIn l query) (getD (readingOrder (lowIn l query) (numbersIn l)) done 0)) ≡ r
+    tested low is-low test = arrays-goes-on _ _ _ _ _ (at .holds) (pair low number) its (is-low ∙ value-at (lowIn l query) (l .n) number below) test
+
+    stop : goesOn k (afterReads l query k done .best) (pairOf (lowIn l query) (getD (readingOrder (lowIn l query) (numbersIn l)) done 0)) ≡ false
+        → Reads l query k (Read done) keys best
+    stop stops = finish (reached-stop _ _ _ _ _ (at .reached) inside stops)
+
+    module _ (goes : goesOn k (afterReads l query k done .best) (pairOf (lowIn l query) (getD (readingOrder (lowIn l query) (numbersIn l)) done 0)) ≡ true) where
+      outside : inOwnCell l number ≡ false → Reads l query k (Refused Cell) keys best
+      outside out =
+          let some-out = next-outside l query k done more (at .reached) goes (sym (ap (inOwnCell l) its) ∙ out) in
+          record {
+            answer = rw some-out;
+            keys-are = λ none. cc;
+            numbers-are = λ none. cc;
+          }
+
+      turn : k ≤ done → inOwnCell l number ≡ true → (distance : ℕ) → distance ≡ distanceIn l query number % 2 ^ 64
+          → {keys-then best-then : List ℕ} {r : ℕ} → Keeps keys best k (pair distance number) r keys-then best-then
+          → HasRead l query k (done + 1) keys-then best-then
+      turn full cell distance is-distance {keys-then} {best-then} {r} keeps =
+          let holds = arrays-next _ _ _ _ _ (at .holds) (pair distance number) its (is-distance ∙ measured is number below cell) inside keeps in
+          let same : r ≡ k = holds .counted ∙ full-after k (lowIn l query) (distanceIn l query) (numbersIn l) (suc done) (omega arith) inside in
+          rw add-one
+          (record {
+            within = omega arith;
+            reached = reached-next _ _ _ _ _ (at .reached) inside goes;
+            holds = rw same at holds;
+            inside = next-in-cell l query k done more (at .inside) (sym (ap (inOwnCell l) its) ∙ cell);
+          })
+
+-- the library that was handed in
+abbrev given : tie.Start Inv-loop μ-loop → Library
+given s = library (s .args .d) (s .args .b) (s .args .n) (s .args .marks .now) (s .args .codes .now) (s .args .vectors .now)
+
+-- where the next number is looked up
+abbrev entry : tie.After-shared-slice-known4 Inv-loop μ-loop → tie.Start Inv-loop μ-loop
+entry c = c .before .before .before .before .before .before .before .before
+
+order-length : (s : tie.Start Inv-loop μ-loop) → length (s .args .order .now) ≡ s .args .n
+order-length s =
+    ap length (s .pre .1 .1 .0) ∙ ranked-count (lowIn (given s) (s .args .query .now)) (numbersIn (given s)) ∙ counted-length 0 (s .args .n)
+
+-- the number that is read next
+its-number : (c : tie.After-shared-slice-known4 Inv-loop μ-loop) → let s = entry c in let done = c .before .before .loop .done in
+    getD (s .args .order .now) done 0 ≡ getD (readingOrder (lowIn (given s) (s .args .query .now)) (numbersIn (given s))) done 0
+its-number c = ap (λ (o : List ℕ). getD o (c .before .before .loop .done) 0) (entry c .pre .1 .1 .0)
+
+is-below : (c : tie.After-shared-slice-known4 Inv-loop μ-loop) → getD (entry c .args .order .now) (c .before .before .loop .done) 0 < entry c .args .n
+is-below c = below (entry c .pre .0) (c .before .before .loop .inv .1) (c .before .loop-test .taken) _ (its-number c)
+
+-- it has a low, and a place among the vectors
+has-low : (c : tie.After-shared-slice-known4 Inv-loop μ-loop) → getD (entry c .args .order .now) (c .before .before .loop .done) 0 < length (entry c .args .lows .now)
+has-low c =
+    let s = entry c in
+    omega (arith, is-below c, ap length (s .pre .1 .0) ∙ values-length (lowIn (given s) (s .args .query .now)) 0 (s .args .n))
+
+its-place : (c : tie.After-shared-slice-known4 Inv-loop μ-loop) → Place (entry c .args .d) (entry c .args .vectors .now) (getD (entry c .args .order .now) (c .before .before .loop .done) 0)
+its-place c = place (entry c .pre .0) _ (is-below c)
+
+-- and whether it is read
+test : (c : tie.After-goes-on Inv-loop μ-loop) → let next = c .before .before .before .before in let s = entry next in let done = next .before .before .loop .done in
+    goesOn (s .args .k) (afterReads (given s) (s .args .query .now) (s .args .k) done .best) (pairOf (lowIn (given s) (s .args .query .now)) (getD (readingOrder (lowIn (given s) (s .args .query .now)) (numbersIn (given s))) done 0))
+    ≡ c .goes-on .result
+test c =
+    let next = c .before .before .before .before in
+    let s = entry next in
+    tested (s .pre .0) (next .before .before .loop .inv .1) (next .before .loop-test .taken) _ (its-number next) _
+    (ap (λ (ls : List ℕ). keyAt ls (getD (s .args .order .now) (next .before .before .loop .done) 0)) (s .pre .1 .0)) (c .goes-on .ensures)
+
+returns : tie.Need-returns Inv-loop μ-loop
+returns c =
+    let next = c .before .before .before .before .before in
+    stop (entry next .pre .0) (next .before .before .loop .inv .1) (next .before .loop-test .taken) _ (its-number next) (test (c .before) ∙ not-true _ (c .if1 .taken))
+
+in-own-cell-requires : tie.Need-in-own-cell-requires Inv-loop μ-loop
+in-own-cell-requires c κs =
+    let next = c .before .before .before .before .before in
+    let is = entry next .pre .0 in
+    (is .shaped, omega (arith, is-below next, is .count), its-place next)
+
+returns-2 : tie.Need-returns-2 Inv-loop μ-loop
+returns-2 c =
+    let asked = c .before in
+    let next = asked .before .before .before .before .before .before in
+    outside (entry next .pre .0) (next .before .before .loop .inv .1) (next .before .loop-test .taken) _ (its-number next)
+    (test (asked .before .before) ∙ not-false _ (asked .before .if1 .left)) (sym (asked .in-own-cell .ensures) ∙ not-true _ (c .if2 .taken))
+
+loop-again : tie.Need-loop-again Inv-loop μ-loop
+loop-again c =
+    let kept = c .before .before .before .before in
+    let measure = kept .before .before .before in
+    let asked = measure .before .before in
+    let next = asked .before .before .before .before .before .before in
+    let at = next .before .before .loop .inv in (
+      omega arith,
+      turn (entry next .pre .0) (at .1) (next .before .loop-test .taken) _ (its-number next)
+          (test (asked .before .before) ∙ not-false _ (asked .before .if1 .left)) (at .0) (sym (asked .in-own-cell .ensures) ∙ not-false _ (measure .before .if2 .left))
+          _ (measure .distance-of .ensures) (kept .keep .ensures),
+    )
+
+returns-3 : tie.Need-returns-3 Inv-loop μ-loop
+returns-3 c =
+    let start = c .before .before .before .before .before .before .before in
+    let at = c .before .loop .inv .1 in
+    finish (start .pre .0) at (reached-end _ _ _ _ _ (at .reached) (omega (arith, counted-length 0 (start .args .n))))
+
+pub read-rest-spec : {M : Type 1} → statement M
+read-rest-spec =
+    tie.close
+    (tie.spec
+    Inv-loop
+    μ-loop
+    (λ c. (omega arith, c .before .before .before .before .before .pre .1 .1 .1))
+    (λ c. search needs)
+    (λ c. omega (arith, order-length (entry c)))
+    (λ c. omega (arith, has-low c))
+    (λ c. omega (arith, has-low c))
+    (λ c. has-low (c .before))
+    (λ c κs. search needs)
+    (λ c. search needs)
+    (λ c. search needs)
+    returns
+    in-own-cell-requires
+    (λ c. search needs)
+    (λ c. search needs)
+    returns-2
+    (λ c κs. its-place (c .before .before .before .before .before .before .before))
+    (λ c κs. search needs)
+    (λ c. search needs)
+    (λ c. search needs)
+    loop-again
+    (λ c. search needs)
+    (λ c. search needs)
+    returns-3)

@@ -1,0 +1,101 @@
+-- What reading gives: the best where each vector read lies in its cell, and a refusal otherwise. Assumes nothing.
+use mathlib.Core.Path.{_≡_, refl, sym, _∙_}
+use mathlib.Core.Bool.{Bool, true, false, cond, and-eq-true-iff}
+use mathlib.Core.List.{List, [], _∷_, _++_, List·Memᴰ·head, List·Memᴰ·tail}
+use Prim.Native.Nat.{ℕ, suc, _%_, _^_, _≤_, _<_}
+use native.Mathlib.Nat.{mod-eq-of-lt}
+use native.Mathlib.Omega.{arith}
+use lib.IntN.{ℤ}
+use lib.ListN.{length, take, getD}
+use Rattle.refusal.specs.declared.Refusal.the-variants.{Cell}
+use Rattle.order.specs.Pair.{numbersOf, pairOf}
+use Rattle.order.specs.Pairs.{keysOf}
+use Rattle.order.specs.Members.{_∈_}
+use Rattle.order.specs.Counted.{counted-length}
+use Rattle.selection.specs.Reading.{Reading, readNext, goesOn, readingOrder}
+use Rattle.selection.specs.Loop.{Reached, after, after-next, reached-next}
+use Rattle.selection.specs.Steps.{next-read}
+use Rattle.selection.specs.Gathered.{Gathers}
+use Rattle.selection.specs.Holds.{Holds}
+use Rattle.cells.specs.Cells.{vectorAt, InCell}
+use Rattle.distance.specs.Small.{distance-small}
+use Rattle.distance.specs.CellComponents.{cell-components}
+use Rattle.search.specs.declared.search.Searched.{Searched}
+use Rattle.search.specs.declared.search.Searched.the-variants.{Read, Refused}
+use Rattle.search.specs.Search.{Library, Room, numbersIn, distanceIn, lowIn, inOwnCell, inOwnCells, searched}
+use Rattle.search.specs.Ready.{Ready, place}
+
+-- the outcome of reading: the answer, and the keys and numbers of the best
+pub record Reads (l : Library) (query : List ℤ) (k : ℕ) (r : Searched) (keys numbers : List ℕ) : Type 0 where
+  pub answer : r ≡ cond (inOwnCells l ((searched l query k) .reads)) (Read (length ((searched l query k) .reads))) (Refused Cell)
+  pub keys-are : inOwnCells l ((searched l query k) .reads) ≡ true → keys ≡ keysOf ((searched l query k) .best)
+  pub numbers-are : inOwnCells l ((searched l query k) .reads) ≡ true → numbers ≡ numbersOf ((searched l query k) .best)
+
+-- the outcome of reading the first k: where each lies in its cell, they stand in the two lists with their distances
+pub record FirstReads (l : Library) (query : List ℤ) (k : ℕ) (r : Bool) (keys numbers : List ℕ) : Type 0 where
+  pub inside : r ≡ true → inOwnCells l (take k (readingOrder (lowIn l query) (numbersIn l))) ≡ true
+  pub gathered : r ≡ true → Gathers k (distanceIn l query) (take k (readingOrder (lowIn l query) (numbersIn l))) keys numbers
+  pub outside : r ≡ false → inOwnCells l ((searched l query k) .reads) ≡ false
+
+-- after the first `done` reads
+abbrev pub afterReads : Library → List ℤ → ℕ → ℕ → Reading
+afterReads l query k done = after k (lowIn l query) (distanceIn l query) (numbersIn l) done
+
+-- so many were read, each lies in its cell, and the two lists hold the k best
+pub record HasRead (l : Library) (query : List ℤ) (k done : ℕ) (keys numbers : List ℕ) : Type 0 where
+  pub within : done ≤ l .n
+  pub reached : Reached k (lowIn l query) (distanceIn l query) (numbersIn l) done
+  pub holds : Holds k keys numbers k (afterReads l query k done .best)
+  pub inside : inOwnCells l (afterReads l query k done .reads) ≡ true
+
+-- ---- cells of several vectors
+
+pub cells-snoc : (l : Library) (is : List ℕ) (i : ℕ) → inOwnCells l is ≡ true → inOwnCell l i ≡ true → inOwnCells l (is ++ (i ∷ [])) ≡ true
+unfolding inOwnCells
+cells-snoc l [] i all one = rw one
+cells-snoc l (j ∷ is) i all one =
+    let both = and-eq-true-iff (inOwnCell l j) (inOwnCells l is) .0 all in
+    rw (both .0, cells-snoc l is i (both .1) one)
+
+cells-member : (l : Library) (is : List ℕ) {i : ℕ} → inOwnCells l is ≡ true → i ∈ is → inOwnCell l i ≡ true
+unfolding inOwnCells
+cells-member l (j ∷ is) all (List·Memᴰ·head e) = rw e (and-eq-true-iff (inOwnCell l j) (inOwnCells l is) .0 all .0)
+cells-member l (j ∷ is) all (List·Memᴰ·tail m) = cells-member l is (and-eq-true-iff (inOwnCell l j) (inOwnCells l is) .0 all .1) m
+
+-- one that is not in its cell
+pub cells-fail : (l : Library) (is : List ℕ) {i : ℕ} → inOwnCell l i ≡ false → i ∈ is → inOwnCells l is ≡ false
+cells-fail l is {i} out m = go (inOwnCells l is) refl
+  where
+    go : (b : Bool) → inOwnCells l is ≡ b → b ≡ false
+    go false e = refl
+    go true e = sym (cells-member l is e m) ∙ out
+
+-- ---- a vector in its cell is measured exactly
+
+pub measured : {l : Library} {query : List ℤ} {k : ℕ} {room : Room} → Ready l query k room → (i : ℕ) → i < l .n → inOwnCell l i ≡ true
+    → distanceIn l query i % 2 ^ 64 ≡ distanceIn l query i
+measured {l} {query} is i below inside =
+    let cell : InCell (l .d) (l .b) (l .marks) (l .codes) i (vectorAt (l .d) (l .vectors) i) = record { components = place is i below .size; inside = inside } in
+    mod-eq-of-lt (distance-small query (is .components) _ (cell-components (l .d) (l .b) (l .marks) (is .marks) (l .codes) i cell) (l .d) (is .dimensions))
+
+-- ---- the loop
+
+module _ (l : Library) (query : List ℤ) (k done : ℕ) (more : done < l .n) where
+  within : done < length (numbersIn l)
+  within = omega (arith, counted-length 0 (l .n))
+
+  -- the next is in its cell
+  pub next-in-cell : inOwnCells l ((after k (lowIn l query) (distanceIn l query) (numbersIn l) done) .reads) ≡ true
+      → inOwnCell l (getD (readingOrder (lowIn l query) (numbersIn l)) done 0) ≡ true
+      → inOwnCells l ((after k (lowIn l query) (distanceIn l query) (numbersIn l) (suc done)) .reads) ≡ true
+  unfolding readNext
+  next-in-cell all one = rw (after-next k (lowIn l query) (distanceIn l query) (numbersIn l) done within) (cells-snoc l _ _ all one)
+
+  -- the next is read, and not in its cell
+  pub next-outside : Reached k (lowIn l query) (distanceIn l query) (numbersIn l) done
+      → goesOn k ((after k (lowIn l query) (distanceIn l query) (numbersIn l) done) .best) (pairOf (lowIn l query) (getD (readingOrder (lowIn l query) (numbersIn l)) done 0)) ≡ true
+      → inOwnCell l (getD (readingOrder (lowIn l query) (numbersIn l)) done 0) ≡ false → inOwnCells l ((searched l query k) .reads) ≡ false
+  next-outside reached goes out =
+      let rest = (reached-next k (lowIn l query) (distanceIn l query) (numbersIn l) done reached within goes) .rest in
+      cells-fail l ((searched l query k) .reads) out
+      (rw (← rest, after-next k (lowIn l query) (distanceIn l query) (numbersIn l) done within) (next-read k (distanceIn l query) _ _ _))
