@@ -1,5 +1,5 @@
 -- `sum_run` meets its contract: the sum is that of the first t dimensions of the run, modulo 2^64. Assumes nothing.
-use mathlib.Core.Path.{_≡_, refl, sym, _∙_}
+use mathlib.Core.Path.{_≡_, refl, sym}
 use mathlib.Core.List.{List}
 use Prim.Native.Nat.{ℕ, suc, _+_, _-_, _*_, _/_, _%_, _^_, _≤_, _<_}
 use native.Mathlib.Nat.{zero-mul, suc-mul, add-zero, mul-le-mul, le-refl, mod-lt}
