@@ -73,9 +73,9 @@ pub fn ends_of(d: usize, b: usize, t: usize) -> Ends
     }
 }
 
-// Whether a number is at least `low` and below `high`.
+// Whether a number is at least `low` and below `high`, without a branch.
 pub fn lies(low: i32, z: i32, high: i32) -> bool
     ensures { λ r. ⌜ r ≡ lies low z high ⌝ }
 {
-    low <= z && z < high
+    (low <= z) & (z < high)
 }
