@@ -8,7 +8,7 @@ ghost use Rattle.limits.specs.Limits.{maxVectors};
 ghost use Rattle.nearest.specs.Entries.{entryAt, filled};
 
 // Writes an entry over each of the first `count`.
-pub fn fill(
+pub(crate) fn fill(
     entries: &mut [Entry],
     numbers: &[u32; MAX_VECTORS],
     distances: &[u64; MAX_VECTORS],
