@@ -110,14 +110,14 @@ locate-all-spec =
     (λ c. c .before .pre .0 .shaped .some)
     (λ c. c .before .pre .0 .shaped .some)
     loop-holds
-    (λ c κs. fewest (c .before .before .before .pre .0 .shaped))
+    (λ c κs. search needs)
     (λ c κs. search needs)
     (λ c. search needs)
     (λ c. search needs)
     (λ c κs. search needs)
     cast-regions
     slice-write-regions
-    (λ c κs. c .before .before .before .before .before .loop .inv .begins-at .inside)
+    (λ c κs. search needs)
     add-next-offset
     (λ c κs. search needs)
     (λ c. search needs)

@@ -75,13 +75,13 @@ vectors-inside-spec =
     (λ c. c .pre .0 .some)
     (λ c. c .pre .0 .some)
     loop-holds
-    (λ c κs. fewest (c .before .before .pre .0))
+    (λ c κs. search needs)
     (λ c κs. search needs)
     (λ c. search needs)
     (λ c. search needs)
     (λ c κs. search needs)
     returns
-    (λ c κs. c .before .before .before .before .before .before .loop .inv .0 .inside)
+    (λ c κs. search needs)
     add-next-offset
     (λ c κs. search needs)
     (λ c. search needs)
