@@ -2,7 +2,7 @@
 use codes::check_sizes;
 use codes::column_bits;
 use codes::next_column;
-use codes::put_all;
+use codes::pack;
 use limits::MAX_DIMENSIONS;
 use limits::MAX_VECTORS;
 use partition::region::in_marks;
@@ -19,7 +19,7 @@ ghost use Rattle.refusal.specs.declared.Verdict.the-variants.{Accepted};
 ghost use Rattle.refusal.specs.First.{first, outcome};
 ghost use Rattle.layout.specs.Layout.{firstMarks};
 ghost use Rattle.layout.specs.Stretch.{shapeCauses, Shape};
-ghost use Rattle.codes.specs.Pack.{Sizes};
+ghost use Rattle.codes.specs.Pack.{sizeCauses};
 ghost use Rattle.approximation.specs.Vectors.{vectorRegions, vectorsInside, vectorCodes};
 ghost use Rattle.approximation.specs.VectorCauses.{rowCauses, locateCauses, regionsCauses, packVectorsCauses, Inside};
 
@@ -162,13 +162,13 @@ fn locate_all(d: usize, b: usize, vectors: &[i32], marks: &[i32], regions: &mut 
 
 // The codes, where nothing refuses: the region numbers are packed.
 fn put_vectors(d: usize, b: usize, n: usize, vectors: &[i32], marks: &[i32], codes: &mut [u8])
-    requires { ⌜ (Sizes d b n (length (now vectors)) (length (now codes))) × (Inside d b (now marks) (now vectors)) ⌝ }
+    requires { ⌜ (first (sizeCauses d b n (length (now vectors)) (length (now codes))) ≡ Accepted) × (Inside d b (now marks) (now vectors)) ⌝ }
     ensures { λ _. ⌜ now (codes .exit) ≡ vectorCodes d b n (now (marks .entry)) (now (vectors .entry)) ⌝ }
 {
     let mut regions = [0u8; MAX_VECTORS * MAX_DIMENSIONS];
     let count = vectors.len();
     locate_all(d, b, vectors, marks, &mut regions);
-    put_all(d, b, &regions[..count], codes);
+    pack(d, b, n, &regions[..count], codes);
 }
 
 // Where the marks of a column's dimension begin: the first's at the front, another's where those before them end.

@@ -1,7 +1,5 @@
 // Where the lower marks of the regions that a code names stand in the marks buffer.
-use codes::bits::bits_left;
-use codes::bits::low;
-use codes::bits::refill;
+use codes::bits::bits_at;
 ghost use mathlib.Core.Path.{_≡_};
 ghost use mathlib.Core.List.{_++_};
 ghost use Prim.Native.Nat.{_-_, _^_, _≤_, _<_};
@@ -26,8 +24,8 @@ pub(crate) fn mark_places(d: usize, b: usize, codes: &[u8], i: usize, places: &m
     place_run(codes, fewest, bit + more * wide, start, more, d, places);
 }
 
-// Those of the dimensions from `first` to `end`, of w bits each: `bit` is where a region's number begins in the codes, whose bits are read
-// ahead, and `start` where its dimension's marks begin.
+// Those of the dimensions from `first` to `end`, of w bits each: `bit` is where a region's number begins in the codes, and `start` where
+// its dimension's marks begin.
 fn place_run(
     codes: &[u8],
     w: usize,
@@ -43,13 +41,9 @@ fn place_run(
 {
     let mut bit = first_bit;
     let mut start = first_start;
-    let mut word = 0usize;
-    let mut left = 0;
     let mut t = first;
     while t < end {
-        word = refill(codes, bit, word, left);
-        left = bits_left(bit, left) - w;
-        places[t] = start + low(word >> left, w);
+        places[t] = start + bits_at(codes, bit, w);
         bit += w;
         start += (1usize << w) + 1;
         t += 1;

@@ -6,7 +6,7 @@ use mathlib.Core.List.{List, _++_}
 use Prim.Native.Nat.{ℕ, suc, _+_, _/_, _%_, _≤_, _<_}
 use native.Mathlib.Numerals.{add-one}
 use native.Mathlib.Omega.{arith}
-use borrow.Author.Tests.{eqb-false}
+use borrow.Author.Tests.{eqb-false, le-leb, lt-ltb}
 use lib.Dec.{leb, ltb, eqb}
 use lib.ListN.{length, getD, drop}
 use lib.Seq.{drop-cons}
@@ -27,11 +27,16 @@ module _ {d b : ℕ} (shaped : Shape d b) where
   fewest = fewest-le maxDimensionBits d b (shaped .bits)
 
   -- what `column_bits` gives is that
-  pub width : {t w : ℕ} → w ≡ b / d + cond (leb (suc t) (b % d)) 1 0 → Width d b t w
+  pub width : {t w : ℕ} → w ≡ b / d + cond (leb (b / d) maxDimensionBits && leb (suc t) (b % d)) 1 0 → Width d b t w
   unfolding bitsOf
   width {t} {w} e =
       let few : b / d + cond (leb (suc t) (b % d)) 1 0 ≤ maxDimensionBits = bits-le maxDimensionBits d b t (shaped .some) (shaped .bits) in
-      record { is = e; few = rw e few }
+      let is = rw (le-leb (b / d) maxDimensionBits fewest) at e in
+      record { is = is; few = rw is few }
+
+-- what `next_column` gives for one of the columns is the next
+pub next-is : {d t r : ℕ} → t < d → r ≡ cond (ltb t d) (nextColumn d t) 0 → r ≡ nextColumn d t
+next-is {d} {t} within e = rw (lt-ltb t d within) at e
 
 pub next-below : (d t : ℕ) → t < d → nextColumn d t < d
 next-below d t within = go (eqb (suc t) d) refl

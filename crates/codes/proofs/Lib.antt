@@ -2,4 +2,3 @@
 pub mod Answers
 pub mod Columns
 mod Writing
-mod TwoBytes

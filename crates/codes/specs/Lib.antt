@@ -3,4 +3,3 @@ pub mod BitLaws
 pub mod Codes
 pub mod PackLaws
 pub mod Pack
-pub mod Ahead

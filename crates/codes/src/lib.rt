@@ -3,13 +3,14 @@ pub mod bits;
 
 use crate::bits::bits_at;
 use crate::bits::low;
+use limits::MAX_DIMENSION_BITS;
 use limits::MAX_VECTORS;
 use refusal::Refusal;
 use refusal::Verdict;
 ghost use mathlib.Core.Path.{_≡_};
-ghost use mathlib.Core.Bool.{true, cond};
-ghost use Prim.Native.Nat.{suc, _+_, _*_, _/_, _≤_, _<_};
-ghost use lib.Dec.{leb};
+ghost use mathlib.Core.Bool.{true, _&&_, cond};
+ghost use Prim.Native.Nat.{suc, _+_, _*_, _/_, _≤_};
+ghost use lib.Dec.{leb, ltb};
 ghost use lib.ListN.{length};
 ghost use Rattle.refusal.specs.First.{first, outcome};
 ghost use Rattle.limits.specs.Limits.{maxDimensions, maxDimensionBits, maxVectors};
@@ -119,7 +120,7 @@ fn regions_fit(d: usize, b: usize, regions: &[u8]) -> bool
 }
 
 // Region numbers packed into as many bytes as hold their bits. Fewer than 8 bits wait for the next byte.
-pub fn put_all(d: usize, b: usize, regions: &[u8], codes: &mut [u8])
+fn put_all(d: usize, b: usize, regions: &[u8], codes: &mut [u8])
     requires { ⌜ Shape d b × (regionsFit d b 0 (now regions) ≡ true) × (length (now codes) ≡ (length (joined d b 0 (now regions)) + 7) / 8) ⌝ }
     ensures { λ _. ⌜ now (codes .exit) ≡ bytesOf (length (now (codes .entry))) (joined d b 0 (now (regions .entry))) ⌝ }
 {
@@ -169,18 +170,22 @@ fn take_all(d: usize, b: usize, codes: &[u8], regions: &mut [u8])
     }
 }
 
-// The bits of a column's dimension, where each has the fewest and the first ones have one more.
+// The bits of a column's dimension, where each has the fewest and the first ones have one more. More than the most are left as they are.
 pub fn column_bits(fewest: usize, more: usize, column: usize) -> usize
-    requires { ⌜ fewest ≤ maxDimensionBits ⌝ }
-    ensures { λ r. ⌜ r ≡ fewest + cond (leb (suc column) more) 1 0 ⌝ }
+    ensures { λ r. ⌜ r ≡ fewest + cond (leb fewest maxDimensionBits && leb (suc column) more) 1 0 ⌝ }
 {
+    if MAX_DIMENSION_BITS < fewest {
+        return fewest;
+    }
     if column < more { fewest + 1 } else { fewest }
 }
 
-// The column behind a column, the first behind the last.
+// The column behind one of d columns, the first behind the last; the first where there is no such column.
 pub fn next_column(d: usize, column: usize) -> usize
-    requires { ⌜ column < d ⌝ }
-    ensures { λ r. ⌜ r ≡ nextColumn d column ⌝ }
+    ensures { λ r. ⌜ r ≡ cond (ltb column d) (nextColumn d column) 0 ⌝ }
 {
+    if d <= column {
+        return 0;
+    }
     if column + 1 == d { 0 } else { column + 1 }
 }

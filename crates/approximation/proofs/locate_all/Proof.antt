@@ -19,7 +19,7 @@ use Rattle.partition.specs.View.{marksAt}
 use Rattle.codes.specs.Codes.{nextColumn}
 use Rattle.approximation.specs.Vectors.{vectorRegions, regionsFrom, insideFrom}
 use Rattle.approximation.specs.VectorCauses.{Inside, good-each}
-use Rattle.codes.proofs.Columns.{Width, fewest, width}
+use Rattle.codes.proofs.Columns.{Width, width, next-is}
 use Rattle.approximation.proofs.Stretches.{Begins, begins, part-is, part-few, part-within, goes-on, inside-next, regions-next}
 use Rattle.approximation.proofs.locate_all.Statement.{statement}
 use Rattle.approximation.proofs.locate_all.Tie as tie
@@ -98,7 +98,7 @@ loop-again c =
     let locate = c .before .before in
     let part = locate .before .before in
     let at = part .before .before .before in
-    rw (c .next-offset .ensures, c .before .next-column .ensures)
+    rw (c .next-offset .ensures, next-is (at .loop .inv .begins-at .inside) (c .before .next-column .ensures))
     (turn (at .before .before .pre .0) (at .before .before .pre .1) (at .loop .inv) (wide (part .before)) (part .marks-at .ensures) (part .before .before .loop-test .taken) (found locate))
 
 pub locate-all-spec : {M : Type 1} → statement M
@@ -110,14 +110,14 @@ locate-all-spec =
     (λ c. c .before .pre .0 .shaped .some)
     (λ c. c .before .pre .0 .shaped .some)
     loop-holds
-    (λ c κs. fewest (c .before .before .before .pre .0 .shaped))
+    (λ c κs. search needs)
     (λ c κs. search needs)
     (λ c. search needs)
     (λ c. search needs)
     (λ c κs. search needs)
     cast-regions
     slice-write-regions
-    (λ c κs. c .before .before .before .before .before .loop .inv .begins-at .inside)
+    (λ c κs. search needs)
     add-next-offset
     (λ c κs. search needs)
     (λ c. search needs)

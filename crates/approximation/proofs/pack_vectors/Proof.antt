@@ -7,7 +7,7 @@ use lib.ListN.{length}
 use Rattle.refusal.specs.declared.Verdict.the-variants.{Accepted}
 use Rattle.refusal.specs.First.{Row, first, accepted-front}
 use Rattle.layout.specs.Stretch.{shapeCauses}
-use Rattle.codes.specs.Pack.{sizeCauses, sizes}
+use Rattle.codes.specs.Pack.{sizeCauses}
 use Rattle.approximation.specs.Vectors.{vectorCodes}
 use Rattle.approximation.specs.VectorCauses.{locateCauses, inside-marks}
 use Rattle.codes.proofs.Answers.{refused-before, refused-behind, accepted-both}
@@ -40,7 +40,7 @@ put-vectors-requires : tie.Need-put-vectors-requires
 put-vectors-requires c κs =
     let told = c .before .before .before .before in
     let args = told .before .before .before .before .args in (
-      sizes (args .d) (args .b) (args .n) (length (args .vectors .now)) (length (args .codes .now)) (right told),
+      right told,
       inside-marks (args .d) (args .b) (args .vectors .now) (args .marks .now) (shaped told) (located (c .before)),
     )
 

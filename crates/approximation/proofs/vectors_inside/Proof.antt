@@ -12,7 +12,7 @@ use mir.ValLaws.{toZ-ofZ}
 use Rattle.partition.specs.Region.{inMarks}
 use Rattle.codes.specs.Codes.{nextColumn}
 use Rattle.approximation.specs.Vectors.{vectorsInside, insideFrom}
-use Rattle.codes.proofs.Columns.{Width, fewest, width}
+use Rattle.codes.proofs.Columns.{Width, width, next-is}
 use Rattle.approximation.proofs.Stretches.{Begins, begins, part-is, part-within, goes-on, inside-next}
 use Rattle.approximation.proofs.vectors_inside.Statement.{statement}
 use Rattle.approximation.proofs.vectors_inside.Tie as tie
@@ -51,7 +51,7 @@ loop-again c =
     let test = c .before .before .before in
     let part = test .before .before in
     let at = part .before .before .before in
-    rw (c .next-offset .ensures, c .before .next-column .ensures) (
+    rw (c .next-offset .ensures, next-is (at .loop .inv .0 .inside) (c .before .next-column .ensures)) (
       goes-on (at .before .args .marks .now) (at .before .pre .1) (at .loop .inv .0) (wide (part .before)) (part .marks-at .ensures),
       turn test ∙ rw (not-false (test .in-marks .result) (c .before .before .if1 .left)),
     )
@@ -75,13 +75,13 @@ vectors-inside-spec =
     (λ c. c .pre .0 .some)
     (λ c. c .pre .0 .some)
     loop-holds
-    (λ c κs. fewest (c .before .before .pre .0))
+    (λ c κs. search needs)
     (λ c κs. search needs)
     (λ c. search needs)
     (λ c. search needs)
     (λ c κs. search needs)
     returns
-    (λ c κs. c .before .before .before .before .before .before .loop .inv .0 .inside)
+    (λ c κs. search needs)
     add-next-offset
     (λ c κs. search needs)
     (λ c. search needs)

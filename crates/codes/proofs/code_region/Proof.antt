@@ -86,7 +86,7 @@ code-region-spec =
     (λ c. told (c .before) .shaped .some)
     (λ c. told (c .before) .shaped .some)
     (λ c. omega (arith, told (c .before) .is))
-    (λ c κs. fewest (told (c .before) .shaped))
+    (λ c κs. search needs)
     (λ c κs. search needs)
     (λ c. search needs)
     returns-2

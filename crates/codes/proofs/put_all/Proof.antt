@@ -10,11 +10,12 @@ use borrow.Author.Tests.{ltb-true}
 use lib.Dec.{ltb}
 use lib.ListN.{length, getD, drop, set, length-set, drop-of-length-le}
 use lib.Pow.{pow-mono, shl-exact}
+use borrow.Author.Needs.{needs}
 use Rattle.limits.specs.Limits.{maxDimensionBits}
 use Rattle.layout.specs.Layout.{bitsOf}
 use Rattle.codes.specs.Bits.{lowBits}
 use Rattle.codes.specs.Codes.{nextColumn, joined, regionsFit}
-use Rattle.codes.proofs.Columns.{Width, fewest, width, next-below, fit-next, joined-next}
+use Rattle.codes.proofs.Columns.{Width, width, next-is, next-below, fit-next, joined-next}
 use Rattle.codes.proofs.Writing.{Writing, push, has-room, is-byte, emit, no-bits, last-lt, last-byte}
 use Rattle.codes.proofs.put_all.Statement.{statement}
 use Rattle.codes.proofs.put_all.Tie as tie
@@ -97,10 +98,10 @@ loop-holds c =
 
 loop-again : tie.Need-loop-again Inv-loop μ-loop
 loop-again c =
-    rw (c .before .before .next-column .ensures, c .low .ensures) (put (turn (c .before .before .before .before)) (c .before .if1 .taken))
+    rw (next-is (c .before .before .before .before .before .before .loop .inv .inside) (c .before .before .next-column .ensures), c .low .ensures) (put (turn (c .before .before .before .before)) (c .before .if1 .taken))
 
 loop-again-2 : tie.Need-loop-again-2 Inv-loop μ-loop
-loop-again-2 c = rw (c .before .next-column .ensures) (held (turn (c .before .before .before)) (c .if1 .left))
+loop-again-2 c = rw (next-is (c .before .before .before .before .before .loop .inv .inside) (c .before .next-column .ensures)) (held (turn (c .before .before .before)) (c .if1 .left))
 
 -- the last byte is not cut
 exact : {waiting bits : ℕ} → waiting < 8 → bits < 2 ^ waiting → (bits * 2 ^ (8 - waiting)) % 2 ^ 64 ≡ bits * 2 ^ (8 - waiting)
@@ -129,13 +130,13 @@ put-all-spec =
     (λ c. c .before .before .pre .0 .some)
     (λ c. c .before .before .pre .0 .some)
     loop-holds
-    (λ c κs. fewest (c .before .before .before .before .pre .0))
+    (λ c κs. search needs)
     (λ c. omega (arith, wide c))
     (λ c. omega arith)
     (λ c. omega (arith, c .shared-slice-known2 .given (c .before .before .before .loop .i)))
     (λ c. omega (arith, few-bits (turn (c .before))))
     (λ c. omega (arith, turn (c .before) .few))
-    (λ c κs. c .before .before .before .loop .inv .inside)
+    (λ c κs. search needs)
     (λ c. omega (arith, turn (c .before .before .before) .few))
     (λ c. record { fits = is-byte (turn (c .before .before .before) .writing) (c .if1 .taken) })
     (λ c. has-room (turn (c .before .before .before) .writing) (omega arith))

@@ -9,9 +9,10 @@ use borrow.Author.Tests.{eqb-true, eqb-false, lt-ltb, le-ltb, eq-eqb, ne-eqb}
 use lib.Dec.{ltb, eqb}
 use lib.ListN.{length, getD, drop, drop-of-length-le}
 use lib.Pow.{pow-pos}
+use borrow.Author.Needs.{needs}
 use Rattle.layout.specs.Layout.{bitsOf}
 use Rattle.codes.specs.Codes.{nextColumn, regionsFit}
-use Rattle.codes.proofs.Columns.{fewest, width, next-below, fit-next}
+use Rattle.codes.proofs.Columns.{width, next-is, next-below, fit-next}
 use Rattle.codes.proofs.regions_fit.Statement.{statement}
 use Rattle.codes.proofs.regions_fit.Tie as tie
 
@@ -52,7 +53,7 @@ loop-again : tie.Need-loop-again Inv-loop μ-loop
 loop-again c =
     let start = c .before .before .before .before .before .before .before in
     let at = c .before .before .before .before .before .loop in
-    rw (c .next-column .ensures) (next-below (start .args .d) (at .column) (at .inv .0), turn (c .before .before) ∙ rw (eq-eqb _ 0 (c .before .if1 .left)))
+    rw (next-is (at .inv .0) (c .next-column .ensures)) (next-below (start .args .d) (at .column) (at .inv .0), turn (c .before .before) ∙ rw (eq-eqb _ 0 (c .before .if1 .left)))
 
 returns-2 : tie.Need-returns-2 Inv-loop μ-loop
 unfolding regionsFit
@@ -69,10 +70,10 @@ regions-fit-spec =
     (λ c. (c .before .pre .some, refl))
     (λ c. omega arith)
     (λ c. omega (arith, c .shared-slice-known2 .given (c .before .before .loop .i)))
-    (λ c κs. fewest (c .before .before .before .before .pre))
+    (λ c κs. search needs)
     (λ c. omega (arith, width (c .before .before .before .before .before .pre) (c .column-bits .ensures) .few))
     returns
-    (λ c κs. c .before .before .before .before .loop .inv .0)
+    (λ c κs. search needs)
     (λ c. omega arith)
     (λ c. omega arith)
     loop-again

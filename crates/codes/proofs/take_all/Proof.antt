@@ -12,7 +12,7 @@ use Rattle.limits.specs.Limits.{maxDimensionBits}
 use Rattle.codes.specs.Bits.{byteBits, bitsAt}
 use Rattle.codes.specs.BitLaws.{bits-at, bits-at-lt}
 use Rattle.codes.specs.Codes.{nextColumn, split}
-use Rattle.codes.proofs.Columns.{Width, fewest, width, next-below}
+use Rattle.codes.proofs.Columns.{Width, width, next-is, next-below}
 use Rattle.codes.proofs.take_all.Statement.{statement}
 use Rattle.codes.proofs.take_all.Tie as tie
 
@@ -66,7 +66,7 @@ loop-again : tie.Need-loop-again Inv-loop μ-loop
 loop-again c =
     let at = c .before .before .before .before in
     let start = at .before .before .before in
-    rw (c .next-column .ensures, c .before .bits-at .ensures)
+    rw (next-is (at .loop .inv .inside) (c .next-column .ensures), c .before .bits-at .ensures)
     (takes (at .loop .inv) (width (start .pre .0) (c .before .before .column-bits .ensures)) (omega arith))
 
 pub take-all-spec : {M : Type 1} → statement M
@@ -78,12 +78,12 @@ take-all-spec =
     (λ c. c .before .before .pre .0 .some)
     (λ c. c .before .before .pre .0 .some)
     (λ c. record { within = omega arith; room = refl; inside = c .before .before .pre .0 .some; near = omega arith; so-far = rw sub-zero })
-    (λ c κs. fewest (c .before .before .before .before .pre .0))
+    (λ c κs. search needs)
     (λ c κs. search needs)
     byte
     (λ c. omega arith)
     add-from
-    (λ c κs. c .before .before .before .loop .inv .inside)
+    (λ c κs. search needs)
     (λ c. omega arith)
     (λ c. omega arith)
     loop-again

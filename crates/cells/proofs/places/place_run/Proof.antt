@@ -1,34 +1,32 @@
 -- `place_run` meets its contract: the places written so far, with those of the dimensions from t on, are the whole. Assumes nothing.
-use mathlib.Core.Path.{_≡_, refl, _∙_}
+use mathlib.Core.Path.{_≡_, refl}
 use mathlib.Core.List.{List, _++_, append-nil}
-use Prim.Native.Nat.{ℕ, suc, _+_, _-_, _*_, _/_, _%_, _^_, _≤_, _<_}
+use Prim.Native.Nat.{ℕ, suc, _+_, _-_, _*_, _%_, _^_, _≤_, _<_}
 use native.Mathlib.Omega.{arith}
 use borrow.Author.Needs.{needs}
 use lib.ListN.{length, take, set, length-set}
 use Rattle.order.proofs.Written.{written-one}
 use Rattle.codes.specs.Bits.{bitsAt}
 use Rattle.codes.specs.BitLaws.{bits-at-lt}
-use Rattle.codes.specs.Ahead.{bitsLeft, Ahead, none-ahead, next-bits, rest-ahead, ahead-again, eight-left}
 use Rattle.cells.specs.Places.{runPlaces}
 use Rattle.cells.proofs.Powers.{regions}
 use Rattle.cells.proofs.places.place_run.Statement.{statement}
 use Rattle.cells.proofs.places.place_run.Tie as tie
 
 -- the loop's invariant
-record Running (codes : List ℕ) (w end room : ℕ) (whole places : List ℕ) (bit start word left t : ℕ) : Type 0 where
+record Running (codes : List ℕ) (w end room : ℕ) (whole places : List ℕ) (bit start t : ℕ) : Type 0 where
   within : t ≤ end
   length-is : length places ≡ room
   bit-small : bit ≤ 2 ^ 32 + 7 * t
   start-small : start ≤ 2 ^ 32 + 129 * t
-  ahead : Ahead codes bit word left
   so-far : take t places ++ runPlaces codes w bit start (end - t) ≡ whole
 
 abbrev Inv-loop : tie.InvT-loop
-Inv-loop codes w first-bit first-start first end places₀ bit₀ start₀ word₀ left₀ t₀ places bit start word left t =
-    Running codes w end (length places₀) (take first places₀ ++ runPlaces codes w first-bit first-start (end - first)) places bit start word left t
+Inv-loop codes w first-bit first-start first end places₀ bit₀ start₀ t₀ places bit start t =
+    Running codes w end (length places₀) (take first places₀ ++ runPlaces codes w first-bit first-start (end - first)) places bit start t
 
 abbrev μ-loop : tie.MeasureT-loop
-μ-loop codes w first-bit first-start first end places₀ bit₀ start₀ word₀ left₀ t₀ places bit start word left t = end - t
+μ-loop codes w first-bit first-start first end places₀ bit₀ start₀ t₀ places bit start t = end - t
 
 loop-holds : tie.Need-loop-holds Inv-loop μ-loop
 loop-holds c =
@@ -38,25 +36,22 @@ loop-holds c =
       length-is = refl;
       bit-small = omega (arith, pre);
       start-small = omega (arith, pre);
-      ahead = none-ahead _ _;
       so-far = refl;
     }
 
-module _ {codes : List ℕ} {w end room : ℕ} {whole places : List ℕ} {bit start word left t : ℕ} (at : Running codes w end room whole places bit start word left t) where
-  next : {word' left' region : ℕ} → w ≤ 7 → t < end → end ≤ room → region ≡ bitsAt codes bit w → Ahead codes (bit + w) word' left'
-      → Running codes w end room whole (set places t (start + region)) (bit + w) (start + (1 * 2 ^ w % 2 ^ 64 + 1)) word' left' (t + 1)
+module _ {codes : List ℕ} {w end room : ℕ} {whole places : List ℕ} {bit start t : ℕ} (at : Running codes w end room whole places bit start t) where
+  next : w ≤ 7 → t < end → end ≤ room → Running codes w end room whole (set places t (start + bitsAt codes bit w)) (bit + w) (start + (1 * 2 ^ w % 2 ^ 64 + 1)) (t + 1)
   unfolding runPlaces
-  next few less enough is ahead =
+  next few less enough =
       let shift = regions w few in
-      let rest : end - t ≡ suc (end - (t + 1)) = omega arith in
-      rw (shift .exact, is)
+      let left : end - t ≡ suc (end - (t + 1)) = omega arith in
+      rw (shift .exact)
       (record {
         within = omega arith;
         length-is = simp length-set (at .length-is);
         bit-small = omega (arith, at .bit-small);
         start-small = omega (arith, at .start-small, shift .most);
-        ahead = ahead;
-        so-far = written-one places t _ _ _ (omega (arith, at .length-is)) (rw rest at (at .so-far));
+        so-far = written-one places t _ _ _ (omega (arith, at .length-is)) (rw left at (at .so-far));
       })
 
   done : end ≤ t → take end places ≡ whole
@@ -66,24 +61,6 @@ module _ {codes : List ℕ} {w end room : ℕ} {whole places : List ℕ} {bit st
       let left : end - end ≡ 0 = omega arith in
       rw (all, left, append-nil) at (at .so-far)
 
--- the region's number, and what is left ahead
-record Taken (codes : List ℕ) (bit w word left : ℕ) : Type 0 where
-  enough : w ≤ left
-  most : left ≤ 63
-  number : word / 2 ^ (left - w) % 2 ^ w ≡ bitsAt codes bit w
-  rest : Ahead codes (bit + w) word (left - w)
-
-taken : (c : tie.After-bits-left Inv-loop μ-loop) → let at = c .before .before .before in
-    Taken (at .before .before .before .args .codes .now) (at .loop .bit) (at .before .before .before .args .w) (c .before .refill .result) (c .bits-left .result)
-taken c =
-    let at = c .before .before .before in
-    let start = at .before .before .before in
-    let w = start .args .w in
-    let ahead = ahead-again (at .loop .inv .ahead) in
-    let enough : w ≤ bitsLeft (at .loop .bit) (at .loop .left) = omega (arith, eight-left (at .loop .bit) (at .loop .left), start .pre .0) in
-    rw (c .before .refill .ensures, c .bits-left .ensures)
-    (record { enough = enough; most = ahead .most; number = next-bits ahead w enough (omega (arith, start .pre .0)); rest = rest-ahead ahead w enough })
-
 -- what the loop's sums stay below
 record Sums (bit start w region : ℕ) : Type 0 where
   bit-small : bit ≤ 2 ^ 33
@@ -92,10 +69,9 @@ record Sums (bit start w region : ℕ) : Type 0 where
   power : 1 * 2 ^ w % 2 ^ 64 ≤ 128
   number : region < 256
 
-sums : (c : tie.After-low Inv-loop μ-loop) → let at = c .before .before .before .before in
-    Sums (at .loop .bit) (at .loop .start) (at .before .before .before .args .w) (c .low .result)
+sums : (c : tie.After-bits-at Inv-loop μ-loop) → let at = c .before .before in Sums (at .loop .bit) (at .loop .start) (at .before .before .before .args .w) (c .bits-at .result)
 sums c =
-    let at = c .before .before .before .before in
+    let at = c .before .before in
     let start = at .before .before .before in
     let shift = regions (start .args .w) (start .pre .0) in
     record {
@@ -103,14 +79,13 @@ sums c =
       start-small = omega (arith, at .loop .inv .start-small, at .loop .inv .within, start .pre);
       few = start .pre .0;
       power = rw (shift .exact) (shift .most);
-      number = rw (c .low .ensures, taken (c .before) .number) (bits-at-lt (start .args .codes .now) (at .loop .bit) (start .args .w) (omega (arith, start .pre .0)));
+      number = rw (c .bits-at .ensures) (bits-at-lt (start .args .codes .now) (at .loop .bit) (start .args .w) (omega (arith, start .pre .0)));
     }
 
 loop-again : tie.Need-loop-again Inv-loop μ-loop
 loop-again c =
-    let at = c .before .before .before .before in
-    let pre = at .before .before .before .pre in
-    next (at .loop .inv) (pre .0) (omega arith) (pre .5) (c .low .ensures ∙ taken (c .before) .number) (taken (c .before) .rest)
+    let at = c .before .before in
+    rw (c .bits-at .ensures) (next (at .loop .inv) (at .before .before .before .pre .0) (omega arith) (at .before .before .before .pre .5))
 
 pub place-run-spec : {M : Type 1} → statement M
 place-run-spec =
@@ -120,19 +95,15 @@ place-run-spec =
     μ-loop
     loop-holds
     (λ c κs. search needs)
-    (λ c κs. search needs)
-    (λ c. taken c .enough)
-    (λ c. omega (arith, taken c .most))
-    (λ c κs. omega (arith, c .before .before .before .before .before .before .pre .0))
     (λ c. omega (arith, sums c))
     (λ c. omega arith)
-    (λ c. omega (arith, c .before .before .before .before .loop .inv .length-is, c .before .before .before .before .before .before .before .pre .5))
+    (λ c. omega (arith, c .before .before .loop .inv .length-is, c .before .before .before .before .before .pre .5))
     (λ c. omega (arith, sums c))
     (λ c. omega (arith, sums c))
     (λ c. omega (arith, sums c))
     (λ c. omega (arith, sums c))
     (λ c. omega arith)
-    (λ c. omega arith)
+    (λ c. omega (arith, c .before .before .loop .inv .length-is, c .before .before .before .before .before .pre .5))
     loop-again
     (λ c. c .before .loop .inv .length-is)
     (λ c. done (c .before .loop .inv) (omega arith)))

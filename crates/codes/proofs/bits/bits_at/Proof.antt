@@ -1,18 +1,32 @@
 -- `bits::bits_at` meets its contract: w bits, at most 8, from a place of a byte on stand in that byte and the next. Assumes nothing.
-use mathlib.Core.Path.{_≡_, sym, _∙_}
-use mathlib.Core.List.{List, _++_}
-use Prim.Native.Nat.{ℕ, _+_, _-_, _*_, _/_, _%_, _^_, _≤_, _<_}
-use native.Mathlib.Nat.{add-zero, div-add-mod'}
+use mathlib.Core.Path.{_≡_, refl, sym, _∙_}
+use mathlib.Core.List.{List, [], _∷_, _++_, append-assoc, append-nil}
+use Prim.Native.Nat.{ℕ, zero, suc, _+_, _-_, _*_, _/_, _%_, _^_, _≤_, _<_}
+use native.Mathlib.Nat.{suc-mul, add-comm, add-zero, div-add-mod'}
 use native.Mathlib.Omega.{arith}
 use borrow.Author.Needs.{needs}
 use borrow.Author.Tests.{le-leb, lt-leb}
 use lib.ListN.{getD, drop}
-use lib.Seq.{drop-drop, getD-drop}
+use lib.Seq.{drop-at, drop-nil, drop-drop, getD-drop}
 use Rattle.codes.specs.Bits.{lowBits, fromBits, byteBits, bitsAt}
-use Rattle.codes.specs.BitLaws.{Bytes, from-field, same-drop, from-same}
-use Rattle.codes.proofs.TwoBytes.{drop-bytes, two-bytes}
+use Rattle.codes.specs.BitLaws.{Bytes, length-low, low-join, from-field, Same, same-drop, same-zeros, from-same}
 use Rattle.codes.proofs.bits.bits_at.Statement.{statement}
 use Rattle.codes.proofs.bits.bits_at.Tie as tie
+
+drop-bytes : (q : ℕ) (bytes : List ℕ) → drop (q * 8) (byteBits bytes) ≡ byteBits (drop q bytes)
+unfolding byteBits
+drop-bytes zero bytes = refl
+drop-bytes (suc q) [] = drop-nil (suc q * 8)
+drop-bytes (suc q) (x ∷ bytes) =
+    rw (suc-mul q 8, add-comm (q * 8) 8, ← drop-drop (q * 8) 8 (lowBits 8 x ++ byteBits bytes), drop-at (lowBits 8 x) (byteBits bytes) 8 (length-low 8 x))
+    (drop-bytes q bytes)
+
+-- the bits of the first two bytes, as those of one number, in front of the rest
+two-bytes : (bytes : List ℕ) → Bytes bytes → Same (byteBits bytes) (lowBits 16 (getD bytes 0 0 * 256 + getD bytes 1 0) ++ byteBits (drop 2 bytes))
+unfolding byteBits
+two-bytes [] small = rw append-nil (same-zeros 16 [])
+two-bytes (x ∷ []) small = rw (append-nil (lowBits 8 x), append-nil, ← low-join 8 8 x 0 (small 1)) (same-zeros 8 (lowBits 8 x))
+two-bytes (x ∷ y ∷ bytes) small = rw (← append-assoc, low-join 8 8 x y (small 1)) (λ i. refl)
 
 in-two : (bytes : List ℕ) → Bytes bytes → (r w : ℕ) → r < 8 → w ≤ 8
     → fromBits w (drop r (byteBits bytes)) ≡ (getD bytes 0 0 * 256 + getD bytes 1 0) / 2 ^ (16 - r - w) % 2 ^ w
