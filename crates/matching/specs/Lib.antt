@@ -1,3 +1,5 @@
+pub mod Answer
+pub mod Lent
 pub mod Match
 pub mod Packed
 pub mod Answerable

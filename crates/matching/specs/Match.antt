@@ -16,7 +16,7 @@ use Rattle.loading.specs.Load.{recordsCauses as libraryCauses}
 use Rattle.query.specs.Query.{recordsCauses as queryCauses, componentsOf}
 use Rattle.matching.specs.declared.Printed.{Printed}
 use Rattle.text.specs.Text.{refusedText}
-use Rattle.answer.specs.Answer.{answerText}
+use Rattle.matching.specs.Answer.{answerText}
 
 -- ---- what stands where
 

@@ -42,7 +42,7 @@ use Rattle.loading.specs.Load.{recordsCauses as libraryCauses}
 use Rattle.query.specs.Query.{recordsCauses as queryCauses, componentsOf}
 use Rattle.text.specs.TextLaws.{decimal-length}
 use Rattle.text.specs.Text.{line, entryLine, entryLines, refusedText}
-use Rattle.answer.specs.Answer.{searchable, answerText}
+use Rattle.matching.specs.Answer.{searchable, answerText}
 use Rattle.matching.specs.Match.{behind, kLength, kOf, kCauses, causesWith, matchText, textRoom}
 use Rattle.loading.specs.Loaded.{shaped, loaded-count, loaded-components}
 use Rattle.matching.specs.Answerable.{query-components}

@@ -30,7 +30,7 @@ use Rattle.loading.specs.Load.{marksRoom, settingsRoom, componentsRoom, records
 use Rattle.loading.specs.Loaded.{loaded-shape, loaded-count, shaped, marks-count, settings-count, components-count, loaded-within}
 use Rattle.query.specs.Query.{queryCauses as lentCauses, recordsCauses as queryCauses, componentsOf}
 use Rattle.text.specs.Text.{refusedText}
-use Rattle.answer.specs.Answer.{searchable, answerText}
+use Rattle.matching.specs.Answer.{searchable, answerText}
 use Rattle.matching.specs.Match.{behind, kLength, kOf, kCauses, matchText}
 use Rattle.matching.specs.Answerable.{packs, searches}
 

@@ -1,19 +1,24 @@
--- Text put into a buffer from an index on, and lines put together. Assumes nothing.
-use mathlib.Core.Path.{_≡_, refl, sym, ap, _∙_}
+-- Text put into a buffer from an index on, and lines put together. A store past the end of a list changes nothing (`sets`): what does not fit
+-- is not put. Assumes nothing.
+use mathlib.Core.Path.{_≡_, refl, sym, ap, subst, _∙_}
+use mathlib.Core.Bool.{Bool, true, false}
 use mathlib.Core.List.{List, [], _∷_, _++_, append-assoc}
-use Prim.Native.Nat.{ℕ, suc, _+_, _≤_, _<_}
-use native.Mathlib.Nat.{add-zero, zero-add}
+use Prim.Native.Nat.{ℕ, suc, _+_, _^_, _≤_, _<_, min}
+use native.Mathlib.Nat.{add-zero, zero-add, lt-of-lt-of-le}
 use native.Mathlib.Numerals.{add-one}
 use native.Mathlib.Omega.{arith}
-use lib.ListN.{length, getD, drop, set, length-append, drop-of-length-le}
-use lib.Seq.{sets, length-sets, sets-eq, drop-cons}
+use borrow.Author.Tests.{ltb-true, ltb-false}
+use lib.Dec.{lit≤, ltb}
+use lib.ListN.{length, getD, take, drop, set, length-append, drop-of-length-le}
+use lib.Seq.{sets, set-out, length-sets, sets-eq, take-all, drop-cons}
 use Rattle.order.specs.Pair.{Pair}
 use Rattle.order.specs.Pairs.{pair}
 use Rattle.nearest.specs.declared.Entry.{Entry}
 use Rattle.nearest.specs.Entries.{entriesOf}
 use Rattle.text.specs.Text.{space, lineEnd, decimal, line, entryLine, entryLines}
+use Rattle.text.specs.TextLaws.{decimal-length}
 
--- the text stands in the buffer from an index on, all else is as it was, and r is the index behind it
+-- the text stands in the buffer from an index on, as far as it fits, all else is as it was, and r is the index behind the whole text
 pub record Puts (text : List ℕ) (at : ℕ) (before after : List ℕ) (r : ℕ) : Type 0 where
   pub is : after ≡ sets before at text
   pub end : r ≡ at + length text
@@ -38,9 +43,13 @@ puts-more {text} {at} {before} {more = more} puts next = record {
   end = omega (arith, next .end, puts .end, length-append text more);
 }
 
--- one byte
-pub puts-byte : (x at : ℕ) (before : List ℕ) → Puts (x ∷ []) at before (set before at x) (at + 1)
-puts-byte x at before = record { is = refl; end = refl }
+pub puts-then : {text : List ℕ} {at : ℕ} {before after : List ℕ} {r : ℕ} {more : List ℕ} {n : ℕ} {then : List ℕ} {r' : ℕ} → Puts text at before after r
+    → Puts more n after then r' → n ≡ at + length text → Puts (text ++ more) at before then r'
+puts-then {after = after} {more = more} {then = then} {r' = r'} puts next behind = puts-more puts (subst (λ (m : ℕ). Puts more m after then r') (behind ∙ sym (puts .end)) next)
+
+-- a byte past the end
+pub puts-out : (x at : ℕ) (before : List ℕ) → length before ≤ at → Puts (x ∷ []) at before before (at + 1)
+puts-out x at before past = record { is = sym (set-out before at x past); end = refl }
 
 pub puts-same : {text other : List ℕ} {at : ℕ} {before after : List ℕ} {r : ℕ} → text ≡ other → Puts text at before after r → Puts other at before after r
 puts-same same puts = rw (← same) puts
@@ -70,18 +79,16 @@ line-of-two x y = spaced x y []
 pub line-of-three : (x y z : ℕ) → field x space ++ field y space ++ field z lineEnd ≡ line x (y ∷ z ∷ [])
 line-of-three x y z = append-assoc (field x space) (field y space) (field z lineEnd) ∙ rw (line-of-two y z) (spaced x y (z ∷ []))
 
--- and how long they are
-pub field-length : (x end : ℕ) → length (field x end) ≡ length (decimal x) + 1
-field-length x end = length-append (decimal x) (end ∷ [])
+-- the last index, which is the last number of 64 bits too
+abbrev pub lastIndex : ℕ
+lastIndex = 18446744073709551615
 
-pub two-length : (x y : ℕ) → length (line x (y ∷ [])) ≡ length (field x space) + length (field y lineEnd)
-two-length x y = ap length (sym (line-of-two x y)) ∙ length-append (field x space) (field y lineEnd)
+-- the most bytes of a number of 64 bits and the byte that ends it
+abbrev pub fieldRoom : ℕ
+fieldRoom = 21
 
-pub three-length : (x y z : ℕ) → length (line x (y ∷ z ∷ [])) ≡ length (field x space) + length (field y space) + length (field z lineEnd)
-three-length x y z =
-    ap length (sym (line-of-three x y z))
-    ∙ length-append (field x space ++ field y space) (field z lineEnd)
-    ∙ ap (λ (n : ℕ). n + length (field z lineEnd)) (length-append (field x space) (field y space))
+pub decimal-room : (x : ℕ) → x < 2 ^ 64 → length (decimal x) + 1 ≤ fieldRoom
+decimal-room x small = omega (arith, decimal-length 19 x (lt-of-lt-of-le small (lit≤ tt)))
 
 -- ---- entries
 
@@ -107,3 +114,15 @@ lines-next settings entries none i within = rw (drop-cons entries i none within,
 pub lines-none : (settings : List ℕ) (entries : List Entry) (i : ℕ) → length entries ≤ i → linesFrom settings entries i ≡ []
 unfolding entryLines pairsIn
 lines-none settings entries i past = rw (drop-of-length-le entries past)
+
+-- the first k of n entries, where k may be above n
+pub first-of : (k n : ℕ) (entries : List Entry) → length entries ≡ n → take (min k n) entries ≡ take k entries
+first-of k n entries size = go (ltb k n) refl
+  where
+    go : (t : Bool) → ltb k n ≡ t → take (min k n) entries ≡ take k entries
+    go true e =
+        let few : min k n ≡ k = omega (arith, ltb-true k n e) in
+        ap (λ (m : ℕ). take m entries) few
+    go false e =
+        let all : min k n ≡ n = omega (arith, ltb-false k n e) in
+        ap (λ (m : ℕ). take m entries) all ∙ take-all n entries (omega (arith, size)) ∙ sym (take-all k entries (omega (arith, size, ltb-false k n e)))

@@ -1,8 +1,5 @@
 -- `match_input` meets its contract: the text is that of the library's first cause, or of what follows the library. Assumes nothing.
-use mathlib.Core.Path.{_≡_, sym, subst}
-use mathlib.Core.List.{List}
-use Prim.Native.Nat.{ℕ, _≤_}
-use lib.ListN.{length}
+use mathlib.Core.Path.{_≡_, sym}
 use borrow.Author.Needs.{needs}
 use Rattle.text.specs.Text.{refusedText}
 use Rattle.matching.specs.Match.{matchText}
@@ -20,7 +17,7 @@ match-loaded-requires c κs =
     let load = told .before .before .before .before .before .before in
     let pre = start load .pre in
     let of = load .load .ensures in
-    (loaded-holds (start load .args .input .now) (pre .0) (pre .1) (pre .2) (of .0) (told .enum-told .given .1) _ _ _ (of .1 .0) (of .1 .1 .0) (of .1 .1 .1), pre .3)
+    loaded-holds (start load .args .input .now) (pre .0) (pre .1) (pre .2) (of .0) (told .enum-told .given .1) _ _ _ (of .1 .0) (of .1 .1 .0) (of .1 .1 .1)
 
 -- the library is refused
 refused-is : (c : tie.After-verdict) → let load = c .before .before .before .before .before .before in matchText (start load .args .input .now) ≡ refusedText (c .verdict .given .0 .0)
@@ -28,12 +25,6 @@ refused-is c =
     let load = c .before .before .before .before .before .before in
     let pre = start load .pre in
     loaded-refused (start load .args .input .now) (pre .0) (pre .1) (pre .2) (load .load .ensures .0) (c .verdict .given .1)
-
-put-refusal-requires : tie.Need-put-refusal-requires
-put-refusal-requires c κs =
-    let told = c .before .before in
-    let s = start (told .before .before .before .before .before .before) in
-    subst (λ (text : List ℕ). length text ≤ length (s .args .text .now)) (refused-is told) (s .pre .3)
 
 returns-2 : tie.Need-returns-2
 returns-2 c =
@@ -48,7 +39,7 @@ match-input-spec =
     (λ c. search needs)
     match-loaded-requires
     (λ c. search needs)
-    put-refusal-requires
+    (λ c κs. search needs)
     (λ c. search needs)
     (λ c. search needs)
     (λ c. search needs)

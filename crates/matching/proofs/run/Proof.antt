@@ -29,9 +29,6 @@ room c =
     let s = c .before .before .before in
     rw (c .if1 .left) (text-room (s .args .input .now) (λ i. omega (arith, c .before .before .shared-slice-known .given i)))
 
-match-input-requires : tie.Need-match-input-requires
-match-input-requires c κs = (refl, refl, refl, room (c .before .before .before .before))
-
 returns-2 : tie.Need-returns-2
 returns-2 c =
     let put = c .before .before .before .before .before in
@@ -52,6 +49,6 @@ run-spec =
     (λ c. search needs)
     (λ c. search needs)
     (λ c. search needs)
-    match-input-requires
+    (λ c κs. (refl, refl, refl))
     (λ c. puts-length (c .before .before .before .before .before .match-input .ensures))
     returns-2)

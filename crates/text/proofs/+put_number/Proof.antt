@@ -4,15 +4,16 @@ use mathlib.Core.Path.{_≡_, sym, ap, _∙_}
 use mathlib.Core.List.{[], _∷_}
 use Prim.Native.Nat.{ℕ, _+_, _/_, _%_, _≤_, _<_}
 use native.Mathlib.Omega.{arith}
-use lib.ListN.{length, length-append, length-set}
+use lib.ListN.{length, length-append}
 use borrow.Fn.Kinds.{In}
 use borrow.Fn.PlainCycle.{Measures, is, falls, and}
 use Rattle.text.specs.Text.{digit, decimal}
 use Rattle.text.specs.TextLaws.{decimal-one, decimal-more}
-use Rattle.text.specs.Puts.{puts-length, puts-same, puts-byte, puts-more}
+use Rattle.text.specs.Puts.{puts-length, puts-same, puts-more}
 use Rattle.text.proofs.put_number.Reads as put-number
 use Rattle.text.proofs.put_number.Kinds as put-number-kinds
 use Rattle.text.proofs.+put_number.Lts-put_number as put-number-lts
+use Rattle.text.proofs.put_byte.Reads as put-byte
 use Rattle.text.proofs.+put_number.{statement}
 use Rattle.text.proofs.+put_number.Tie.{close}
 
@@ -33,54 +34,52 @@ more-length : (x : ℕ) → 10 ≤ x → length (decimal x) ≡ length (decimal 
 more-length x large = ap length (decimal-more x large) ∙ length-append (decimal (x / 10)) (digit (x % 10) ∷ [])
 
 module _ {t : ℕ} where
-  writes-one : put-number-lts.Need-slice-write-text (put-number-below t, put-number.Post) (put-number-at t) put-number.Post
-  writes-one c = omega (arith, c .before .before .pre .1, one-length (c .before .before .args .x) (c .if1 .taken))
+  one-requires : put-number-lts.Need-put-byte-requires (put-byte.Asked, put-byte.Learnt, put-number-below t, put-number.Post) (put-number-at t) put-number.Post
+  one-requires c κs =
+      let start = c .before .before .before in
+      omega (arith, start .pre .1, one-length (start .args .x) (c .before .if1 .taken))
 
-  returns : put-number-lts.Need-returns (put-number-below t, put-number.Post) (put-number-at t) put-number.Post
-  returns c = puts-same (sym (decimal-one (c .before .before .args .x) (c .if1 .taken))) (puts-byte _ _ _)
+  returns : put-number-lts.Need-returns (put-byte.Asked, put-byte.Learnt, put-number-below t, put-number.Post) (put-number-at t) put-number.Post
+  returns c =
+      let byte = c .before .before in
+      let small = byte .before .before in
+      puts-same (sym (decimal-one (small .before .before .args .x) (small .if1 .taken))) (byte .put-byte .ensures)
 
-  calls : put-number-lts.Need-put-number-requires (put-number-below t, put-number.Post) (put-number-at t) put-number.Post
+  calls : put-number-lts.Need-put-number-requires (put-byte.Asked, put-byte.Learnt, put-number-below t, put-number.Post) (put-number-at t) put-number.Post
   calls c κs =
       let start = c .before .before .before in
-      let large = c .before .if1 .left in
-      (omega (arith, start .pre .0), omega (arith, start .pre .1, more-length (start .args .x) large))
+      (omega (arith, start .pre .0), omega (arith, start .pre .1, more-length (start .args .x) (c .before .if1 .left)))
 
-  writes-last : put-number-lts.Need-slice-write-text-2 (put-number-below t, put-number.Post) (put-number-at t) put-number.Post
-  writes-last c =
-      let back = c .before .before in
-      let start = back .before .before .before .before in
-      let puts = back .put-number .ensures in
-      omega (arith, start .pre .1, more-length (start .args .x) (back .before .before .if1 .left), puts .end, puts-length puts)
+  last-requires : put-number-lts.Need-put-byte-requires-2 (put-byte.Asked, put-byte.Learnt, put-number-below t, put-number.Post) (put-number-at t) put-number.Post
+  last-requires c κs =
+      let number = c .before .before .before in
+      let start = number .before .before .before .before in
+      omega (arith, start .pre .1, more-length (start .args .x) (number .before .before .if1 .left), number .put-number .ensures .end)
 
-  returns-2 : put-number-lts.Need-returns-2 (put-number-below t, put-number.Post) (put-number-at t) put-number.Post
+  same-length-2 : put-number-lts.Need-same-length-2 (put-byte.Asked, put-byte.Learnt, put-number-below t, put-number.Post) (put-number-at t) put-number.Post
+  same-length-2 c =
+      let byte = c .before .before in
+      puts-length (byte .put-byte2 .ensures) ∙ puts-length (byte .before .before .before .before .put-number .ensures)
+
+  returns-2 : put-number-lts.Need-returns-2 (put-byte.Asked, put-byte.Learnt, put-number-below t, put-number.Post) (put-number-at t) put-number.Post
   returns-2 c =
-      let back = c .before .before in
-      let start = back .before .before .before .before in
-      puts-same (sym (decimal-more (start .args .x) (back .before .before .if1 .left))) (puts-more (back .put-number .ensures) (puts-byte _ _ _))
-
-  ends : put-number-lts.Need-add-result-2 (put-number-below t, put-number.Post) (put-number-at t) put-number.Post
-  ends c =
-      let back = c .before .before in
-      let start = back .before .before .before .before in
-      omega (arith, start .pre .1, start .good, more-length (start .args .x) (back .before .before .if1 .left), back .put-number .ensures .end)
-
-  same-length-2 : put-number-lts.Need-same-length-2 (put-number-below t, put-number.Post) (put-number-at t) put-number.Post
-  same-length-2 c = simp length-set (puts-length (c .before .before .put-number .ensures))
+      let byte = c .before .before in
+      let number = byte .before .before .before .before in
+      let large = number .before .before in
+      puts-same (sym (decimal-more (large .before .before .args .x) (large .if1 .left))) (puts-more (number .put-number .ensures) (byte .put-byte2 .ensures))
 
 pub +put-number-spec : {M : Type 1} → statement M
 +put-number-spec =
     close μ-put-number
-    (λ t. put-number-lts.spec (put-number-below t, put-number.Post) (put-number-at t) put-number.Post
+    (λ t. put-number-lts.spec (put-byte.Asked, put-byte.Learnt, put-number-below t, put-number.Post) (put-number-at t) put-number.Post
     (λ c. omega arith)
     (λ c. omega arith)
-    writes-one
-    (λ c. omega (arith, c .before .before .pre .1, c .before .before .good, one-length (c .before .before .args .x) (c .if1 .taken)))
-    (λ c. simp length-set)
+    one-requires
+    (λ c. puts-length (c .before .before .put-byte .ensures))
     returns
     calls
     (λ c. omega arith)
     (λ c. omega arith)
-    writes-last
-    ends
+    last-requires
     same-length-2
     returns-2)

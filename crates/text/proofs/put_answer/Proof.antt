@@ -1,42 +1,37 @@
 -- `put_answer` meets its contract: the entries stand behind line one. Assumes nothing.
-use mathlib.Core.Path.{_≡_, _∙_}
-use mathlib.Core.List.{[], _∷_, _++_}
-use Prim.Native.Nat.{_+_}
+use mathlib.Core.Path.{_≡_, ap, _∙_}
+use mathlib.Core.List.{List}
+use Prim.Native.Nat.{ℕ}
 use native.Mathlib.Omega.{arith}
-use lib.ListN.{length, take, length-append}
-use Rattle.text.specs.Text.{line, entryLines}
-use Rattle.text.specs.Puts.{puts-length, puts-more, pairsIn}
+use lib.ListN.{length, take}
+use borrow.Author.Needs.{needs}
+use Rattle.limits.specs.Limits.{maxVectors}
+use Rattle.nearest.specs.declared.Entry.{Entry}
+use Rattle.text.specs.Text.{entryLines}
+use Rattle.text.specs.Puts.{puts-length, puts-more, puts-same, pairsIn, first-of}
 use Rattle.text.proofs.put_answer.Statement.{statement}
 use Rattle.text.proofs.put_answer.Tie as tie
 
-lines-length : (s : tie.Start) → let one = line (s .args .k) (s .args .count ∷ []) in
-    let entries = entryLines (s .args .settings .now) (pairsIn (take (s .args .k) (s .args .entries))) in
-    length (one ++ entries) ≡ length one + length entries
-lines-length s = length-append (line (s .args .k) (s .args .count ∷ [])) (entryLines (s .args .settings .now) (pairsIn (take (s .args .k) (s .args .entries))))
-
-put-pair-requires : tie.Need-put-pair-requires
-put-pair-requires c κs =
-    let start = c .before .before .before in
-    omega (arith, start .pre .1, lines-length start)
-
 put-entries-requires : tie.Need-put-entries-requires
 put-entries-requires c κs =
-    let one = c .before .before .before in
-    let start = one .before .before .before .before in
-    let puts = one .put-pair .ensures in
-    (start .pre .0, omega (arith, start .pre .1, lines-length start, puts .end, puts-length puts))
+    let count = c .before in
+    (omega (arith, count .entry-count .ensures), omega (arith, count .before .before .before .put-pair .ensures .1))
 
 same-length : tie.Need-same-length
 same-length c =
     let two = c .before .before in
-    let one = two .before .before .before .before in
-    puts-length (two .put-entries .ensures) ∙ puts-length (one .put-pair .ensures)
+    let one = two .before .before .before .before .before in
+    puts-length (two .put-entries .ensures) ∙ puts-length (one .put-pair .ensures .0)
 
 returns : tie.Need-returns
 returns c =
     let two = c .before .before in
-    let one = two .before .before .before .before in
-    puts-more (one .put-pair .ensures) (two .put-entries .ensures)
+    let count = two .before .before in
+    let one = count .before .before .before in
+    let start = one .before .before .before .before in
+    let size : length (start .args .entries) ≡ maxVectors = start .good .1 .1 .1 .0 .1 .0 .1 in
+    let same = ap (λ (m : ℕ). take m (start .args .entries)) (count .entry-count .ensures) ∙ first-of (start .args .k) maxVectors (start .args .entries) size in
+    puts-more (one .put-pair .ensures .0) (puts-same (ap (λ (entries : List Entry). entryLines (start .args .settings .now) (pairsIn entries)) same) (two .put-entries .ensures))
 
 pub put-answer-spec : {M : Type 1} → statement M
-put-answer-spec = tie.close (tie.spec put-pair-requires put-entries-requires same-length returns)
+put-answer-spec = tie.close (tie.spec (λ c κs. omega arith) (λ c κs. search needs) put-entries-requires same-length returns)

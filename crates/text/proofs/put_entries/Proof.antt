@@ -1,22 +1,23 @@
 -- `put_entries` meets its contract: what is put so far, with the lines of the entries that are left, is the whole. Assumes nothing.
 use mathlib.Core.Path.{_≡_, refl, sym, ap, _∙_}
 use mathlib.Core.List.{List, [], _++_, append-assoc, append-nil}
-use Prim.Native.Nat.{ℕ, _+_, _-_, _≤_, _<_}
+use Prim.Native.Nat.{ℕ, _+_, _*_, _-_, _≤_, _<_}
 use native.Mathlib.Omega.{arith}
-use lib.ListN.{length, getD, take, length-append}
+use lib.ListN.{length, getD, take}
 use lib.Seq.{length-take-le, getD-take}
 use borrow.Author.Needs.{needs}
 use Rattle.limits.specs.Limits.{maxVectors}
 use Rattle.order.specs.Pairs.{pair}
 use Rattle.nearest.specs.declared.Entry.{Entry}
 use Rattle.text.specs.Text.{entryLine, entryLines}
-use Rattle.text.specs.Puts.{Puts, puts-length, puts-none, puts-more, puts-same, pairsIn, linesFrom, lines-next, lines-none}
+use Rattle.text.specs.Puts.{Puts, puts-length, puts-none, puts-more, puts-same, fieldRoom, pairsIn, linesFrom, lines-next, lines-none}
 use Rattle.text.proofs.put_entries.Statement.{statement}
 use Rattle.text.proofs.put_entries.Tie as tie
 
 -- the loop's invariant
 record Lines (settings : List ℕ) (k : ℕ) (text₀ : List ℕ) (at : ℕ) (entries : List Entry) (text : List ℕ) (next i : ℕ) : Type 0 where
   few : i ≤ k
+  near : next ≤ at + i * (3 * fieldRoom)
   size : length (take k entries) ≡ k
   front : List ℕ
   puts : Puts front at text₀ text next
@@ -42,13 +43,8 @@ module _ {settings : List ℕ} {k : ℕ} {text₀ : List ℕ} {at : ℕ} {entrie
         lines-next settings (take k entries) none i (omega (arith, is .size)) ∙ rw (getD-take k entries i none more) refl in
         append-assoc (is .front) entry (linesFrom settings (take k entries) (i + 1)) ∙ ap (λ (rest : List ℕ). is .front ++ rest) (sym next-is) ∙ is .whole
 
-    -- there is room for one more entry
-    room : at + length (entryLines settings (pairsIn (take k entries))) ≤ length text₀ → next + length entry ≤ length text
-    room fits =
-        omega (arith, ap length split, length-append (is .front ++ entry) (linesFrom settings (take k entries) (i + 1)), length-append (is .front) entry, is .puts .end, puts-length (is .puts))
-
-    turn : {then : List ℕ} {next' : ℕ} → Puts entry next text then next' → Lines settings k text₀ at entries then next' (i + 1)
-    turn puts = record { few = omega arith; size = is .size; front = is .front ++ entry; puts = puts-more (is .puts) puts; whole = split }
+    turn : {then : List ℕ} {next' : ℕ} → Puts entry next text then next' → next' ≤ next + 3 * fieldRoom → Lines settings k text₀ at entries then next' (i + 1)
+    turn puts short = record { few = omega arith; near = omega (arith, is .near, short); size = is .size; front = is .front ++ entry; puts = puts-more (is .puts) puts; whole = split }
 
   done : k ≤ i → Puts (entryLines settings (pairsIn (take k entries))) at text₀ text next
   done past =
@@ -59,21 +55,20 @@ loop-holds : tie.Need-loop-holds Inv-loop μ-loop
 loop-holds c =
     let start = c .before .before in
     let size : length (start .args .t3) ≡ maxVectors = start .good .1 .1 .0 .1 .0 .1 in
-    record { few = omega arith; size = length-take-le (start .args .k) (start .args .t3) (rw size (start .pre .0)); front = []; puts = puts-none _ _; whole = refl }
+    record { few = omega arith; near = omega arith; size = length-take-le (start .args .k) (start .args .t3) (rw size (start .pre .0)); front = []; puts = puts-none _ _; whole = refl }
 
 put-entry-requires : tie.Need-put-entry-requires Inv-loop μ-loop
 put-entry-requires c κs =
-    let found = c .before in
-    let at = found .before .before .before .before in
+    let at = c .before .before .before .before .before in
     let start = at .before .before .before in
-    rw (found .settings-at .ensures) (room (at .loop .inv) (omega arith) (start .pre .1))
+    omega (arith, at .loop .inv .near, start .pre .0, start .pre .1)
 
 loop-again : tie.Need-loop-again Inv-loop μ-loop
 loop-again c =
     let put = c .before .before in
     let found = put .before .before in
     let at = found .before .before .before .before in
-    turn (at .loop .inv) (omega arith) (rw (found .settings-at .ensures) at (put .put-entry .ensures))
+    turn (at .loop .inv) (omega arith) (rw (found .settings-at .ensures) at (put .put-entry .ensures .0)) (put .put-entry .ensures .1)
 
 pub put-entries-spec : {M : Type 1} → statement M
 put-entries-spec =

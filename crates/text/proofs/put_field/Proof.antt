@@ -1,36 +1,34 @@
 -- `put_field` meets its contract: the byte stands behind the digits. Assumes nothing.
+use mathlib.Core.Path.{_∙_}
 use native.Mathlib.Omega.{arith}
-use lib.ListN.{length-set}
-use Rattle.text.specs.Puts.{puts-length, puts-more, puts-byte, field-length}
+use Rattle.text.specs.Puts.{puts-length, puts-more, decimal-room}
 use Rattle.text.proofs.put_field.Statement.{statement}
 use Rattle.text.proofs.put_field.Tie as tie
 
--- where the digits are put, and the entry
-abbrev back : tie.After-slice-known2 → tie.After-put-number
-back c = c .before .before
-
-abbrev start : tie.After-slice-known2 → tie.Start
-start c = back c .before .before .before
-
 put-number-requires : tie.Need-put-number-requires
-put-number-requires c κs = omega (arith, c .before .before .pre, field-length (c .before .before .args .x) (c .before .before .args .end))
+put-number-requires c κs =
+    let start = c .before .before in
+    omega (arith, start .pre, decimal-room (start .args .x) (start .fits .x .fits))
 
-slice-write-text : tie.Need-slice-write-text
-slice-write-text c =
-    let puts = back c .put-number .ensures in
-    omega (arith, start c .pre, field-length (start c .args .x) (start c .args .end), puts .end, puts-length puts)
+put-byte-requires : tie.Need-put-byte-requires
+put-byte-requires c κs =
+    let number = c .before .before .before in
+    let start = number .before .before .before in
+    omega (arith, start .pre, decimal-room (start .args .x) (start .fits .x .fits), number .put-number .ensures .end)
 
-add-result : tie.Need-add-result
-add-result c =
-    let puts = back c .put-number .ensures in
-    omega (arith, start c .pre, start c .good, field-length (start c .args .x) (start c .args .end), puts .end)
+same-length : tie.Need-same-length
+same-length c =
+    let byte = c .before .before in
+    puts-length (byte .put-byte .ensures) ∙ puts-length (byte .before .before .before .before .put-number .ensures)
+
+returns : tie.Need-returns
+returns c =
+    let byte = c .before .before in
+    let number = byte .before .before .before .before in
+    let start = number .before .before .before in (
+      puts-more (number .put-number .ensures) (byte .put-byte .ensures),
+      omega (arith, decimal-room (start .args .x) (start .fits .x .fits), number .put-number .ensures .end, byte .put-byte .ensures .end),
+    )
 
 pub put-field-spec : {M : Type 1} → statement M
-put-field-spec =
-    tie.close
-    (tie.spec
-    put-number-requires
-    slice-write-text
-    add-result
-    (λ c. simp length-set (puts-length (back c .put-number .ensures)))
-    (λ c. puts-more (back c .put-number .ensures) (puts-byte _ _ _)))
+put-field-spec = tie.close (tie.spec put-number-requires put-byte-requires same-length returns)

@@ -1,7 +1,6 @@
 -- `match_query` meets its contract: the text is that of the query's first cause, or of the answer. Assumes nothing.
-use mathlib.Core.Path.{_≡_, sym, ap, subst, _∙_}
+use mathlib.Core.Path.{_≡_, sym, ap, _∙_}
 use mathlib.Core.List.{List, _++_}
-use Prim.Native.Nat.{ℕ, _≤_}
 use lib.IntN.{ℤ, pos}
 use lib.ListN.{length, take, drop, replicate}
 use lib.Seq.{length-take-le}
@@ -14,9 +13,9 @@ use Rattle.whole.specs.Components.{areComponents}
 use Rattle.library.specs.Library.{Library, libraryWith}
 use Rattle.query.specs.Query.{recordsCauses, componentsOf}
 use Rattle.text.specs.Text.{refusedText}
-use Rattle.answer.specs.Answer.{answerText}
+use Rattle.matching.specs.Answer.{answerText}
 use Rattle.matching.specs.Answerable.{query-components, query-length}
-use Rattle.answer.specs.Lent.{back-within, shared-is}
+use Rattle.matching.specs.Lent.{back-within, shared-is}
 use Rattle.text.specs.Puts.{puts-length, puts-same}
 use Rattle.matching.specs.Steps.{queryText, ready-dimensions, query-rows}
 use Rattle.matching.proofs.parts.match_query.Statement.{statement}
@@ -25,14 +24,14 @@ use Rattle.matching.proofs.parts.match_query.Tie as tie
 query-holds : tie.Need-array-borrow-prefix-query
 query-holds c =
     let start = c .before .before .before in
-    between 1 (start .args .d) maxDimensions (ready-dimensions (start .pre .0 .0)) .below
+    between 1 (start .args .d) maxDimensions (ready-dimensions (start .pre .0)) .below
 
 -- the call's verdict is that of the query's records
 verdict-is : (c : tie.After-query2) → let start = c .before .before .before .before .before in
     c .query2 .result ≡ first (recordsCauses (start .args .d) (start .args .bytes .now))
 verdict-is c =
     let start = c .before .before .before .before .before in
-    c .query2 .ensures .0 ∙ query-rows (start .args .d) _ (start .args .bytes .now) (ready-dimensions (start .pre .0 .0)) (length-take-le _ _ (query-holds (c .before .before)))
+    c .query2 .ensures .0 ∙ query-rows (start .args .d) _ (start .args .bytes .now) (ready-dimensions (start .pre .0)) (length-take-le _ _ (query-holds (c .before .before)))
 
 abbrev query-back : tie.After-query2 → List ℤ
 query-back c = c .query2 .last .1 .1 .0
@@ -68,18 +67,10 @@ answer-requires c κs =
     let back = told .before .before .before in
     let is = told .enum-told .given .1 in
     let s = back .before .before .before .before .before in
-    let ready = s .pre .0 .0 in
+    let ready = s .pre .0 in
     let size = ap length (components-are back is) ∙ query-length (s .args .d) (s .args .bytes .now) in
     let components = ap areComponents (components-are back is) ∙ query-components (s .args .d) (s .args .bytes .now) (passes back is) in
-    (ready .of-packing, (ready .of-search _ (s .args .k) size components (s .pre .0 .1), rw (text-is back is) (s .pre .1)))
-
-put-refusal-requires : tie.Need-put-refusal-requires
-put-refusal-requires c κs =
-    let back = c .before .before .before .before .before in
-    let s = back .before .before .before .before .before in
-    let refused = sym (verdict-is back) ∙ c .before .before .verdict .given .1 in
-    subst (λ (text : List ℕ). length text ≤ length (s .args .text .now))
-    (outcome-refused (answerText (given s) (componentsOf (s .args .d) (s .args .bytes .now)) (s .args .k)) refusedText refused) (s .pre .1)
+    (ready .of-packing, ready .of-search _ (s .args .k) size components (s .pre .1))
 
 returns : tie.Need-returns
 returns c =
@@ -106,7 +97,7 @@ match-query-spec =
     (λ c. sym (length-take-le _ _ (query-within (c .before))))
     answer-requires
     (λ c. search needs)
-    put-refusal-requires
+    (λ c κs. search needs)
     (λ c. puts-length (c .before .before .answer .ensures))
     returns
     (λ c. puts-length (c .before .before .put-refusal .ensures))

@@ -1,5 +1,5 @@
 -- `match_rest` meets its contract: the text is that of k's first cause, or of what follows k. Assumes nothing.
-use mathlib.Core.Path.{_≡_, sym, ap, ap₂, subst, _∙_}
+use mathlib.Core.Path.{_≡_, sym, ap, ap₂, _∙_}
 use mathlib.Core.Bool.{_&&_}
 use mathlib.Core.List.{List}
 use Prim.Native.Nat.{ℕ, _-_, _≤_}
@@ -44,19 +44,13 @@ match-query-requires c κs =
     let u = c .before .before in
     let s = u .before .before .before .before .before .before .before in
     let among = ap (λ (k : ℕ). leb 1 k && leb k (s .args .n)) (u .u16-at .ensures) ∙ k-among (s .args .n) (s .args .rest .now) (accepted (u .before)) in
-    ((s .pre .0, among), rw (text-is u) (s .pre .1))
+    (s .pre, among)
 
 -- k is refused
 refused-is : (c : tie.After-cause) → let s = c .before .before .before .before .before .before in restText (given s) (s .args .rest .now) ≡ refusedText (c .cause .given .0 .0)
 refused-is c =
     let s = c .before .before .before .before .before .before in
     k-refused (given s) (s .args .rest .now) (sym (c .before .before .check-k .ensures) ∙ c .cause .given .1)
-
-put-refusal-requires : tie.Need-put-refusal-requires
-put-refusal-requires c κs =
-    let told = c .before .before in
-    let s = told .before .before .before .before .before .before in
-    subst (λ (text : List ℕ). length text ≤ length (s .args .text .now)) (refused-is told) (s .pre .1)
 
 returns : tie.Need-returns
 returns c =
@@ -81,7 +75,7 @@ match-rest-spec =
     (λ c. search needs)
     match-query-requires
     (λ c. search needs)
-    put-refusal-requires
+    (λ c κs. search needs)
     (λ c. puts-length (c .before .before .match-query .ensures))
     returns
     (λ c. puts-length (c .before .before .put-refusal .ensures))

@@ -67,14 +67,14 @@ use Rattle.nearest.proofs.search as core
 use Rattle.nearest.proofs.search.Symbol as core-def
 use Rattle.nearest.proofs.search.Symbol.{name as #core}
 use Rattle.nearest.proofs.search.Met as core-thm
-use Rattle.answer.specs.declared.found.Found.{Found}
-use Rattle.answer.proofs.Held.{copies, same, same-length, same-is, repeated, apart, lent-front, whole-again}
-use Rattle.answer.proofs.found.Found as F
-use Rattle.answer.proofs.found.Found.Laws as F′
-use Rattle.answer.proofs.found.find.Key.{name as #answer·found·find}
-use Rattle.answer.proofs.found.find as face
-use Rattle.answer.proofs.found.find.Statement as stated
-use Rattle.answer.proofs.found.find.Code as code
+use Rattle.matching.specs.declared.found.Found.{Found}
+use Rattle.matching.proofs.Held.{copies, same, same-length, same-is, repeated, apart, lent-front, whole-again}
+use Rattle.matching.proofs.found.Found as F
+use Rattle.matching.proofs.found.Found.Laws as F′
+use Rattle.matching.proofs.found.find.Key.{name as #answer·found·find}
+use Rattle.matching.proofs.found.find as face
+use Rattle.matching.proofs.found.find.Statement as stated
+use Rattle.matching.proofs.found.find.Code as code
 
 abbrev R : RattleType
 R = S.the-row

@@ -1,6 +1,4 @@
 // The answer of a match: the nearest vectors of a loaded library, as text.
-mod found;
-
 use crate::found::find;
 use limits::MAX_DIMENSION_BITS;
 use limits::MAX_DIMENSIONS;
@@ -8,8 +6,6 @@ use limits::MAX_VECTORS;
 use search::search::Searched;
 use text::put_answer;
 ghost use mathlib.Core.Path.{_≡_};
-ghost use Prim.Native.Nat.{_≤_};
-ghost use lib.ListN.{length};
 ghost use Rattle.refusal.specs.declared.Verdict.the-variants.{Accepted};
 ghost use Rattle.refusal.specs.First.{first};
 ghost use Rattle.codes.specs.Codes.{codeLength};
@@ -19,13 +15,13 @@ ghost use Rattle.search.specs.Search.{searched, searchCauses};
 ghost use Rattle.search.specs.Ready.{library, roomOf};
 ghost use Rattle.library.specs.Library.{libraryWith};
 ghost use Rattle.text.specs.Puts.{Puts};
-ghost use Rattle.answer.specs.Answer.{searchable, answerLines, answerText};
+ghost use Rattle.matching.specs.Answer.{searchable, answerLines, answerText};
 
 // The most bytes of codes.
 const CODES_ROOM: usize = MAX_VECTORS * MAX_DIMENSION_BITS * MAX_DIMENSIONS / 8;
 
 // The answer to a query.
-pub fn answer(
+pub(crate) fn answer(
     d: usize,
     b: usize,
     n: usize,
@@ -38,7 +34,6 @@ pub fn answer(
 ) -> usize
     requires { ⌜ first (packVectorsCauses d b n (now components) (now marks) (codeLength b n)) ≡ Accepted ⌝ }
     requires { ⌜ first (searchCauses (searchable (libraryWith d b n (now marks) (now settings) (now components))) (now query) k (roomOf k k n)) ≡ Accepted ⌝ }
-    requires { ⌜ length (answerText (libraryWith d b n (now marks) (now settings) (now components)) (now query) k) ≤ length (now text) ⌝ }
     ensures { λ r. ⌜ Puts (answerText (libraryWith d b n (now (marks .entry)) (now (settings .entry)) (now (components .entry))) (now (query .entry)) k) 0
         (now (text .entry)) (now (text .exit)) r ⌝ }
 {
@@ -73,7 +68,6 @@ fn answer_coded(
     text: &mut [u8],
 ) -> usize
     requires { ⌜ first (searchCauses (library d b n (now marks) (now codes) (now components)) (now query) k (roomOf k k n)) ≡ Accepted ⌝ }
-    requires { ⌜ length (answerLines (now settings) k (searched (library d b n (now marks) (now codes) (now components)) (now query) k)) ≤ length (now text) ⌝ }
     ensures { λ r. ⌜ Puts (answerLines (now (settings .entry)) k
         (searched (library d b n (now (marks .entry)) (now (codes .entry)) (now (components .entry))) (now (query .entry)) k)) 0
         (now (text .entry)) (now (text .exit)) r ⌝ }

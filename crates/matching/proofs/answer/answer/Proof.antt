@@ -17,10 +17,10 @@ use Rattle.approximation.specs.Vectors.{vectorCodes}
 use Rattle.search.specs.Search.{searched}
 use Rattle.search.specs.Ready.{library}
 use Rattle.text.specs.Puts.{puts-length, puts-same}
-use Rattle.answer.specs.Answer.{answerLines}
-use Rattle.answer.specs.Lent.{back-within, shared-is}
-use Rattle.answer.proofs.answer.Statement.{statement}
-use Rattle.answer.proofs.answer.Tie as tie
+use Rattle.matching.specs.Answer.{answerLines}
+use Rattle.matching.specs.Lent.{back-within, shared-is}
+use Rattle.matching.proofs.answer.answer.Statement.{statement}
+use Rattle.matching.proofs.answer.answer.Tie as tie
 
 -- the bits of all codes are few
 few-bits : (d b n codes : ℕ) (vectors marks : List ℤ) → first (packVectorsCauses d b n vectors marks codes) ≡ Accepted → n * b ≤ 98304
@@ -61,7 +61,7 @@ answer-coded-requires : tie.Need-answer-coded-requires
 answer-coded-requires c κs =
     let back = c .before .before .before in
     let s = back .before .before .before .before in
-    (rw (codes-are back) (s .pre .1 .0), rw (codes-are back) (s .pre .1 .1))
+    rw (codes-are back) (s .pre .1)
 
 returns : tie.Need-returns
 returns c =

@@ -2,7 +2,6 @@
 use mathlib.Core.Path.{_≡_, sym, ap, _∙_}
 use mathlib.Core.List.{List, [], _∷_, _++_}
 use Prim.Native.Nat.{ℕ, _≤_}
-use native.Mathlib.Omega.{arith}
 use borrow.Author.Needs.{needs}
 use lib.IntN.{ℤ}
 use lib.ListN.{length, take}
@@ -22,19 +21,18 @@ use Rattle.nearest.specs.declared.Entry.{Entry}
 use Rattle.nearest.specs.Entries.{entriesOf, entryRoom}
 use Rattle.text.specs.Text.{line, entryLines}
 use Rattle.text.specs.Puts.{puts-length, puts-same, pairsIn, pairs-back}
-use Rattle.answer.specs.Answer.{answerLines}
-use Rattle.answer.proofs.answer_coded.Statement.{statement}
-use Rattle.answer.proofs.answer_coded.Tie as tie
+use Rattle.matching.specs.Answer.{answerLines}
+use Rattle.matching.proofs.answer.answer_coded.Statement.{statement}
+use Rattle.matching.proofs.answer.answer_coded.Tie as tie
 
 -- the library that is searched
 abbrev given : tie.Start → Library
 given s = library (s .args .d) (s .args .b) (s .args .n) (s .args .marks .now) (s .args .codes .now) (s .args .components .now)
 
-few : (s : tie.Start) → (s .args .k ≤ maxVectors) × (s .args .n ≤ maxVectors)
+few : (s : tie.Start) → s .args .n ≤ maxVectors
 few s =
-    let p = passes (given s) (s .args .query .now) (s .args .k) (roomOf (s .args .k) (s .args .k) (s .args .n)) (s .pre .0) in
-    let of-n = between 1 (s .args .n) maxVectors (p .count) .below in
-    (omega (arith, of-n, between 1 (s .args .k) (s .args .n) (p .neighbours) .below), of-n)
+    let p = passes (given s) (s .args .query .now) (s .args .k) (roomOf (s .args .k) (s .args .k) (s .args .n)) (s .pre) in
+    between 1 (s .args .n) maxVectors (p .count) .below
 
 room-same : (l : Library) (query : List ℤ) (k n : ℕ) {reads : ℕ} → reads ≡ n → first (searchCauses l query k (roomOf k k n)) ≡ Accepted
     → first (searchCauses l query k (entryRoom k reads)) ≡ Accepted
@@ -43,7 +41,7 @@ room-same l query k n same accepted = rw same accepted
 find-requires : tie.Need-find-requires
 find-requires c κs =
     let s = c .before .before .before .before in
-    room-same (given s) (s .args .query .now) (s .args .k) (s .args .n) (length-take-le _ _ (few s .1)) (s .pre .0)
+    room-same (given s) (s .args .query .now) (s .args .k) (s .args .n) (length-take-le _ _ (few s)) (s .pre)
 
 -- the text, from what was found
 lines-are : (settings : List ℕ) (k : ℕ) (reading : Reading) {count : ℕ} {answer : Searched} (entries : List Entry) → count ≡ searchedCount answer
@@ -57,11 +55,6 @@ text-is c =
     let s = c .before .before .before .before .before .before .before .before in
     lines-are (s .args .settings .now) (s .args .k) (searched (given s) (s .args .query .now) (s .args .k)) (c .before .before .before .find .result .entries) (c .read-count .ensures) (c .before .before .before .find .ensures)
 
-put-answer-requires : tie.Need-put-answer-requires
-put-answer-requires c κs =
-    let s = c .before .before .before .before .before .before .before .before .before in
-    (few s .0, rw (text-is (c .before)) (s .pre .1))
-
 returns : tie.Need-returns
 returns c =
     let put = c .before .before in
@@ -71,10 +64,10 @@ pub answer-coded-spec : {M : Type 1} → statement M
 answer-coded-spec =
     tie.close
     (tie.spec
-    (λ c. few (c .before .before .before) .1)
-    (λ c. sym (length-take-le _ _ (few (c .before .before .before .before) .1)))
+    (λ c. few (c .before .before .before))
+    (λ c. sym (length-take-le _ _ (few (c .before .before .before .before))))
     find-requires
     (λ c κs. search needs)
-    put-answer-requires
+    (λ c κs. search needs)
     (λ c. puts-length (c .before .before .put-answer .ensures))
     returns)
