@@ -1,25 +1,36 @@
 -- The sizes of a library whose counts are within the limits, and the places of its records as numbers. Assumes nothing.
-use mathlib.Core.Path.{_≡_, refl, _∙_}
+use mathlib.Core.Path.{_≡_, refl}
+use mathlib.Core.Bool.{not}
+use mathlib.Core.List.{[], _∷_}
 use Prim.Native.Nat.{ℕ, suc, _+_, _-_, _*_, _^_, _≤_, _<_}
 use native.Mathlib.Nat.{suc-mul, mul-le-mul-left, mul-le-mul-right, le-trans}
 use native.Mathlib.Numerals.{add-one}
 use native.Mathlib.Omega.{arith}
-use borrow.Author.Tests.{le-leb}
-use Rattle.refusal.specs.declared.Refusal.the-variants.{Dimension}
+use borrow.Author.Tests.{not-false}
+use Rattle.refusal.specs.declared.Refusal.the-variants.{Count}
 use Rattle.refusal.specs.declared.Verdict.the-variants.{Accepted}
-use Rattle.refusal.specs.First.{first, first-next, outcome-accepted}
-use Rattle.limits.specs.Limits.{maxDimensionBits, maxVectors}
+use Rattle.refusal.specs.First.{_⇒_, first, outcome-accepted, passed}
+use Rattle.limits.specs.Limits.{maxDimensionBits, maxVectors, isVectorCount}
+use Rattle.limits.specs.Tests.{between}
 use Rattle.layout.specs.declared.Stretch.{Stretch}
 use Rattle.layout.specs.Layout.{bitsOf, firstMarks}
 use Rattle.layout.specs.Laws.{marks-le}
-use Rattle.layout.specs.Stretch.{Shape, shapeCauses, dimensionCauses, marksLength, Stretches}
+use Rattle.layout.specs.Stretch.{Shape, shapeCauses, stretchOf, marksLength, Stretches, stretches, dimension-accepted}
 use Rattle.records.specs.Records.{vectorKind, formats, widthsAmong, widthsOf, sum, recordLength}
+use Rattle.records.specs.RowLaws.{both}
 use Rattle.library.specs.Library.{markTotal, markPlace, vectorPlace, libraryLength}
+use Rattle.library.specs.Tests.{countsCauses}
 
 -- d dimensions with b bits in all, and no more than so many vectors
 pub record Small (d b n : ℕ) : Type 0 where
   pub shape-passes : first (shapeCauses d b) ≡ Accepted
   pub few : n ≤ maxVectors
+
+pub small : (d b n : ℕ) → first (countsCauses d b n) ≡ Accepted → Small d b n
+small d b n accepted =
+    let rows = both (shapeCauses d b) ((not (isVectorCount n) ⇒ Count) ∷ []) accepted in
+    let counted = not-false (isVectorCount n) (passed _ Count [] (rows .back) .fails) in
+    record { shape-passes = rows .front; few = between 1 n maxVectors counted .below }
 
 -- ---- places as numbers
 
@@ -48,10 +59,6 @@ pub marks-length-is : (d b : ℕ) → first (shapeCauses d b) ≡ Accepted → m
 unfolding marksLength
 marks-length-is d b accepted = outcome-accepted _ _ accepted
 
-pub dimension-passes : (d b t : ℕ) → first (shapeCauses d b) ≡ Accepted → t < d → first (dimensionCauses d b (t + 1)) ≡ Accepted
-dimension-passes d b t accepted among =
-    first-next Dimension (shapeCauses d b) (rw (le-leb 1 (t + 1) (omega arith), le-leb (t + 1) d (omega arith))) ∙ accepted
-
 -- the numbers of a dimension's first and last mark, for the dimension with t dimensions before it
 pub record EndsAt (d b t first last : ℕ) : Type 0 where
   pub first-is : first ≡ firstMarks d b t
@@ -59,8 +66,8 @@ pub record EndsAt (d b t first last : ℕ) : Type 0 where
   pub within : last < markTotal d b
   pub small : markTotal d b ≤ 2080
 
-pub ends-at : {d b t : ℕ} {s : Stretch} → t < d → Stretches d b (t + 1) s → EndsAt d b t (s .offset) (s .offset + 2 ^ s .bits)
-ends-at {d} {b} {t} {s} among is =
+stretch-ends : {d b t : ℕ} {s : Stretch} → t < d → Stretches d b (t + 1) s → EndsAt d b t (s .offset) (s .offset + 2 ^ s .bits)
+stretch-ends {d} {b} {t} {s} among is =
     let before : t + 1 - 1 ≡ t = omega arith in
     let offset : s .offset ≡ firstMarks d b t = rw before at (is .offset-is) in
     let bits : s .bits ≡ bitsOf d b (suc t) = rw add-one at (is .bits-are) in
@@ -70,6 +77,12 @@ ends-at {d} {b} {t} {s} among is =
       within = omega (arith, is .end, is .within);
       small = is .small;
     }
+
+-- they are those of its stretch, where the shape passes
+pub ends-at : {from to : ℕ} (d b t : ℕ) → first (shapeCauses d b) ≡ Accepted → t < d
+    → (from ≡ (stretchOf d b (t + 1)) .offset) × (to ≡ (stretchOf d b (t + 1)) .offset + 2 ^ (stretchOf d b (t + 1)) .bits) → EndsAt d b t from to
+ends-at d b t passes among ends =
+    rw (ends .0, ends .1) (stretch-ends {s = stretchOf d b (t + 1)} among (stretches (dimension-accepted d b t passes among) refl))
 
 -- a vector's components are among those of n vectors
 pub row-within : {i n : ℕ} (d : ℕ) → i < n → i * d + d ≤ n * d

@@ -6,13 +6,11 @@ use records::VECTOR_LENGTH;
 use refusal::Refusal;
 use refusal::Verdict;
 ghost use mathlib.Core.Path.{_≡_};
-ghost use Prim.Native.Nat.{_^_, _<_};
-ghost use Rattle.refusal.specs.declared.Verdict.the-variants.{Accepted};
-ghost use Rattle.refusal.specs.First.{first};
-ghost use Rattle.layout.specs.Stretch.{shapeCauses};
+ghost use Prim.Native.Nat.{_+_, _^_};
+ghost use Rattle.refusal.specs.First.{first, outcome};
+ghost use Rattle.layout.specs.Stretch.{stretchOf};
 ghost use Rattle.library.specs.Library.{markPlace, vectorPlace, libraryLength};
 ghost use Rattle.library.specs.Tests.{countsCauses};
-ghost use Rattle.library.specs.Sizes.{Small, EndsAt};
 ghost use Rattle.library.specs.Ends.{lies};
 
 // Whether the counts of a library are within the limits.
@@ -31,27 +29,27 @@ pub fn check_counts(d: usize, b: usize, n: usize) -> Verdict
 }
 
 // Where the record of mark i begins.
-pub fn mark_place(i: usize) -> usize
-    requires { ⌜ i < 2 ^ 32 ⌝ }
+pub fn mark_place(i: u32) -> usize
     ensures { λ r. ⌜ r ≡ markPlace i ⌝ }
 {
-    HEAD_LENGTH + i * MARK_LENGTH
+    HEAD_LENGTH + i as usize * MARK_LENGTH
 }
 
 // Where, behind m marks, the record of vector i begins.
-pub fn vector_place(m: usize, i: usize) -> usize
-    requires { ⌜ (m < 2 ^ 32) × (i < 2 ^ 32) ⌝ }
+pub fn vector_place(m: u32, i: u32) -> usize
     ensures { λ r. ⌜ r ≡ vectorPlace m i ⌝ }
 {
-    mark_place(m) + i * VECTOR_LENGTH
+    mark_place(m) + i as usize * VECTOR_LENGTH
 }
 
-// How many bytes a library has.
+// How many bytes a library of these counts has, 0 where they are out of range.
 pub fn library_length(d: usize, b: usize, n: usize) -> usize
-    requires { ⌜ Small d b n ⌝ }
-    ensures { λ r. ⌜ r ≡ libraryLength d b n ⌝ }
+    ensures { λ r. ⌜ r ≡ outcome (first (countsCauses d b n)) (libraryLength d b n) (λ _. 0) ⌝ }
 {
-    vector_place(layout::marks_length(d, b), n) + END_LENGTH
+    match check_counts(d, b, n) {
+        Verdict::Accepted => vector_place(layout::marks_length(d, b) as u32, n as u32) + END_LENGTH,
+        Verdict::Refused(_) => 0,
+    }
 }
 
 // The numbers of a dimension's first and last mark.
@@ -60,12 +58,11 @@ pub struct Ends {
     pub last: usize,
 }
 
-// Those of the dimension with t dimensions before it.
-pub fn ends_of(d: usize, b: usize, t: usize) -> Ends
-    requires { ⌜ (first (shapeCauses d b) ≡ Accepted) × (t < d) ⌝ }
-    ensures { λ r. ⌜ EndsAt d b t (r .first) (r .last) ⌝ }
+// Those of dimension j, from 1; 0 and 1 where there is no such dimension.
+pub fn ends_of(d: usize, b: usize, j: usize) -> Ends
+    ensures { λ r. ⌜ (r .first ≡ (stretchOf d b j) .offset) × (r .last ≡ (stretchOf d b j) .offset + 2 ^ (stretchOf d b j) .bits) ⌝ }
 {
-    let stretch = layout::stretch_of(d, b, t + 1);
+    let stretch = layout::stretch_of(d, b, j);
     let first = stretch.offset;
     Ends {
         first,

@@ -72,7 +72,7 @@ fn check_marks(bytes: &[u8]) -> Verdict
     let counts = counts_of(bytes);
     let mut t = 0;
     while t < counts.d {
-        let ends = ends_of(counts.d, counts.b, t);
+        let ends = ends_of(counts.d, counts.b, t + 1);
         match check_dimension(bytes, ends.first, ends.last - ends.first + 1) {
             Verdict::Accepted => {
                 t += 1;
@@ -109,7 +109,7 @@ fn check_mark(bytes: &[u8], from: usize, i: usize) -> Verdict
     requires { ⌜ from + i < 2 ^ 32 ⌝ }
     ensures { λ r. ⌜ r ≡ first (markCauses (now (bytes .entry)) from i) ⌝ }
 {
-    let at = mark_place(from + i);
+    let at = mark_place((from + i) as u32);
     match check_frame(bytes, at, byte_at(bytes, at) == MARK) {
         Verdict::Accepted => {
             if is_mark_wrong(bytes, from + i, i) {
@@ -160,7 +160,7 @@ fn read_ends(bytes: &[u8], d: usize, b: usize, lows: &mut [i32], highs: &mut [i3
 {
     let mut t = 0;
     while t < d {
-        let ends = ends_of(d, b, t);
+        let ends = ends_of(d, b, t + 1);
         lows[t] = mark_at(bytes, ends.first);
         highs[t] = mark_at(bytes, ends.last);
         t += 1;
@@ -174,7 +174,7 @@ fn check_each(bytes: &[u8], d: usize, m: usize, n: usize, lows: &[i32], highs: &
 {
     let mut i = 0;
     while i < n {
-        match check_vector(bytes, d, vector_place(m, i), lows, highs) {
+        match check_vector(bytes, d, vector_place(m as u32, i as u32), lows, highs) {
             Verdict::Accepted => {
                 i += 1;
             }
@@ -249,6 +249,9 @@ fn check_end(bytes: &[u8]) -> Verdict
     ensures { λ r. ⌜ r ≡ first (endCauses (readLibrary (now (bytes .entry))) (now (bytes .entry))) ⌝ }
 {
     let counts = counts_of(bytes);
-    let at = vector_place(layout::marks_length(counts.d, counts.b), counts.n);
+    let at = vector_place(
+        layout::marks_length(counts.d, counts.b) as u32,
+        counts.n as u32,
+    );
     check_frame(bytes, at, byte_at(bytes, at) == END)
 }

@@ -30,7 +30,7 @@ pub(crate) fn fill_settings(bytes: &[u8], m: usize, n: usize, settings: &mut [u3
 {
     let mut i = 0;
     while i < n {
-        settings[i] = records::u32_at(bytes, vector_place(m, i) + 1);
+        settings[i] = records::u32_at(bytes, vector_place(m as u32, i as u32) + 1);
         i += 1;
     }
 }
@@ -43,7 +43,13 @@ pub(crate) fn fill_components(bytes: &[u8], m: usize, d: usize, n: usize, compon
 {
     let mut i = 0;
     while i < n {
-        fill_vector(bytes, vector_place(m, i), d, i * d, components);
+        fill_vector(
+            bytes,
+            vector_place(m as u32, i as u32),
+            d,
+            i * d,
+            components,
+        );
         i += 1;
     }
 }

@@ -35,7 +35,7 @@ pub(crate) fn mark_at(bytes: &[u8], i: usize) -> i32
     requires { ⌜ i < 2 ^ 32 ⌝ }
     ensures { λ r. ⌜ r ≡ markAt (now (bytes .entry)) i ⌝ }
 {
-    signed(u32_at(bytes, mark_place(i) + 1), 0x8000_0000)
+    signed(u32_at(bytes, mark_place(i as u32) + 1), 0x8000_0000)
 }
 
 // Its key.

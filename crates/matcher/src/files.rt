@@ -14,7 +14,7 @@ ghost use Rattle.query.specs.Query.{queryCauses, componentsOf};
 pub extern "C" fn matcher_library_length(d: usize, b: usize, n: usize) -> usize
     ensures { λ r. ⌜ r ≡ outcome (first (countsCauses d b n)) (libraryLength d b n) (λ _. 0) ⌝ }
 {
-    writing::bytes_length(d, b, n)
+    library::library_length(d, b, n)
 }
 
 // The bytes of a library, into a buffer of as many.

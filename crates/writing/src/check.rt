@@ -106,7 +106,7 @@ fn fill_ends(d: usize, b: usize, marks: &[i32], lows: &mut [i32], highs: &mut [i
 {
     let mut t = 0;
     while t < d {
-        let ends = ends_of(d, b, t);
+        let ends = ends_of(d, b, t + 1);
         lows[t] = whole::at(marks, ends.first);
         highs[t] = whole::at(marks, ends.last);
         t += 1;

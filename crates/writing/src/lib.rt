@@ -7,8 +7,6 @@ use crate::put::put_byte;
 use crate::put::write_head;
 use crate::put::write_marks;
 use crate::put::write_vectors;
-use library::check_counts;
-use library::library_length;
 use library::vector_place;
 use records::END;
 use refusal::Verdict;
@@ -16,8 +14,7 @@ ghost use mathlib.Core.Path.{_≡_};
 ghost use lib.ListN.{length};
 ghost use Rattle.refusal.specs.declared.Verdict.the-variants.{Accepted};
 ghost use Rattle.refusal.specs.First.{first, outcome};
-ghost use Rattle.library.specs.Library.{libraryWith, libraryBytes, libraryLength};
-ghost use Rattle.library.specs.Tests.{countsCauses};
+ghost use Rattle.library.specs.Library.{libraryWith, libraryBytes};
 ghost use Rattle.writing.specs.Write.{writeCauses};
 
 // The bytes of a library, into a buffer of as many.
@@ -47,16 +44,6 @@ pub fn write(
     }
 }
 
-// How many bytes a library of these counts has, 0 where they are out of range.
-pub fn bytes_length(d: usize, b: usize, n: usize) -> usize
-    ensures { λ r. ⌜ r ≡ outcome (first (countsCauses d b n)) (libraryLength d b n) (λ _. 0) ⌝ }
-{
-    match check_counts(d, b, n) {
-        Verdict::Accepted => library_length(d, b, n),
-        Verdict::Refused(_) => 0,
-    }
-}
-
 // The records of a library that can be written, one behind the other.
 fn write_all(
     d: usize,
@@ -73,5 +60,9 @@ fn write_all(
     write_head(d, b, n, bytes);
     write_marks(marks, bytes);
     write_vectors(d, n, marks.len(), settings, components, bytes);
-    put_byte(bytes, vector_place(marks.len(), n), END as u64);
+    put_byte(
+        bytes,
+        vector_place(marks.len() as u32, n as u32),
+        END as u64,
+    );
 }

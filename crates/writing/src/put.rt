@@ -37,7 +37,7 @@ pub(crate) fn write_marks(marks: &[i32], bytes: &mut [u8])
 {
     let mut i = 0;
     while i < marks.len() {
-        let at = mark_place(i);
+        let at = mark_place(i as u32);
         put_byte(bytes, at, MARK as u64);
         put_quad(bytes, at + 1, bits_of(marks[i]));
         i += 1;
@@ -59,7 +59,14 @@ pub(crate) fn write_vectors(
 {
     let mut i = 0;
     while i < n {
-        write_vector(d, vector_place(m, i), settings[i], components, i * d, bytes);
+        write_vector(
+            d,
+            vector_place(m as u32, i as u32),
+            settings[i],
+            components,
+            i * d,
+            bytes,
+        );
         i += 1;
     }
 }

@@ -5,6 +5,7 @@ use native.Mathlib.Nat.{mul-le-mul}
 use native.Mathlib.Omega.{arith}
 use lib.ListN.{length}
 use borrow.Author.Needs.{needs}
+use Rattle.refusal.specs.First.{outcome-accepted}
 use Rattle.layout.specs.Stretch.{Shape, shape}
 use Rattle.library.specs.Library.{markTotal, vectorPlace, libraryLength}
 use Rattle.library.specs.Sizes.{vector-place, library-length, marks-few, marks-length-is}
@@ -58,11 +59,6 @@ fill-components-requires c κs =
     let product = mul-le-mul (head at .few) (shaped at .few) in
     (omega (arith, few-marks at), shaped at .few, head at .few, omega (arith, product, can at .components-count), vectors-within at)
 
-library-length-requires : tie.Need-library-length-requires
-library-length-requires c κs =
-    let is = head (c .before .before .before .before .before .before .before .before .before .before) in
-    record { shape-passes = is .of-shape .shape-passes; few = is .few }
-
 returns : tie.Need-returns
 returns c =
     let components = c .before .before in
@@ -75,7 +71,7 @@ returns c =
     let marks-are = rw (total-is at) at (marks .fill-marks .ensures) ∙ marks-filled bytes of (args .marks .now) in
     let settings-are = rw (total-is at) at (settings .fill-settings .ensures) ∙ settings-filled bytes of (args .settings .now) in
     let components-are = rw (total-is at) at (components .fill-components .ensures) ∙ components-filled bytes of (args .components .now) in
-    (counts-are bytes of (c .library-length .ensures), (marks-are, (settings-are, components-are)))
+    (counts-are bytes of (c .library-length .ensures ∙ outcome-accepted _ _ (of .counts-pass)), (marks-are, (settings-are, components-are)))
 
 pub fill-all-spec : {M : Type 1} → statement M
 fill-all-spec =
@@ -86,7 +82,7 @@ fill-all-spec =
     fill-marks-requires
     fill-settings-requires
     fill-components-requires
-    library-length-requires
+    (λ c κs. search needs)
     (λ c. search needs)
     (λ c. search needs)
     (λ c. search needs)

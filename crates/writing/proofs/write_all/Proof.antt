@@ -52,11 +52,6 @@ write-vectors-requires c κs =
       fits = rw (vector-place (length (start .args .marks .now)) (start .args .n)) (omega (arith, whole start, head .write-head .kept, marks .write-marks .kept));
     }
 
-vector-place-requires : tie.Need-vector-place-requires
-vector-place-requires c κs =
-    let start = c .before .before .before .before .before .before .before .before .before .before .before .before .before .before .before in
-    (omega (arith, few-marks start), omega (arith, can start .few))
-
 put-byte-requires : tie.Need-put-byte-requires
 put-byte-requires c κs =
     let vectors = c .before .before .before .before in
@@ -98,7 +93,9 @@ write-all-spec =
     write-head-requires
     write-marks-requires
     write-vectors-requires
-    vector-place-requires
+    (λ c. omega (arith, few-marks (c .before .before .before .before .before .before .before .before .before .before .before .before .before .before .before)))
+    (λ c. omega (arith, can (c .before .before .before .before .before .before .before .before .before .before .before .before .before .before .before) .few))
+    (λ c κs. search needs)
     (λ c. search needs)
     put-byte-requires
     (λ c. omega (arith, kept (c .before .before)))

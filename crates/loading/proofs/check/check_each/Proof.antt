@@ -60,7 +60,9 @@ check-each-spec =
     Inv-loop
     μ-loop
     (λ c. (omega arith, first-none))
-    (λ c κs. (c .before .before .before .pre .1, omega (arith, c .before .before .before .pre .2, c .loop-test .taken)))
+    (λ c. omega (arith, c .before .before .before .pre .1))
+    (λ c. omega (arith, c .before .before .before .pre .2, c .loop-test .taken))
+    (λ c κs. search needs)
     (λ c κs. c .before .before .before .before .pre .0)
     (λ c. search needs)
     (λ c. omega (arith, c .before .before .before .before .loop-test .taken))

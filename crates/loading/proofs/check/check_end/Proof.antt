@@ -1,5 +1,6 @@
 -- `check_end` meets its contract: the end has no body. Assumes nothing.
 use mathlib.Core.Path.{_≡_, _∙_}
+use Prim.Native.Nat.{_≤_}
 use native.Mathlib.Omega.{arith}
 use mathlib.Core.List.{append-nil}
 use borrow.Author.Needs.{needs}
@@ -25,19 +26,19 @@ counted c =
     let counts = c .before .counts-of .result in
     c .marks-length .ensures ∙ marks-length-is (counts .d) (counts .b) (head (c .before) .of-shape .shape-passes)
 
-vector-place-requires : tie.Need-vector-place-requires
-vector-place-requires c κs =
+few-marks : (c : tie.After-marks-length) → c .marks-length .result ≤ 2080
+few-marks c =
     let counts = c .before .counts-of .result in
-    let is = head (c .before) in
-    (omega (arith, counted c, marks-few (counts .d) (counts .b) (shape (counts .d) (counts .b) (is .of-shape .shape-passes))), omega (arith, is .few))
+    rw (counted c) (marks-few (counts .d) (counts .b) (shape (counts .d) (counts .b) (head (c .before) .of-shape .shape-passes)))
 
 returns : tie.Need-returns
 returns c =
     let place = c .before .before in
-    let bytes = place .before .before .before .before .args .bytes .now in
-    let counts = place .before .before .counts-of .result in
-    let is = head (place .before .before) in
-    frame-at {place = vectorPlace (markTotal (counts .d) (counts .b)) (counts .n)} endKind bytes (place .vector-place .ensures ∙ rw (counted (place .before))) (c .before .byte-at .ensures) (c .check-frame .ensures)
+    let marks = place .before .before in
+    let bytes = marks .before .before .before .args .bytes .now in
+    let counts = marks .before .counts-of .result in
+    let is = head (marks .before) in
+    frame-at {place = vectorPlace (markTotal (counts .d) (counts .b)) (counts .n)} endKind bytes (place .vector-place .ensures ∙ rw (counted marks)) (c .before .byte-at .ensures) (c .check-frame .ensures)
     ∙ rw (append-nil, is .of-shape .d-is, is .of-shape .b-is, is .n-is)
 
 pub check-end-spec : {M : Type 1} → statement M
@@ -46,7 +47,9 @@ check-end-spec =
     (tie.spec
     (λ c κs. search needs)
     (λ c κs. search needs)
-    vector-place-requires
+    (λ c. omega (arith, few-marks c))
+    (λ c. omega (arith, head (c .before .before) .few))
+    (λ c κs. search needs)
     (λ c κs. search needs)
     (λ c κs. search needs)
     returns)

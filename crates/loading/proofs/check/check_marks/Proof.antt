@@ -9,6 +9,7 @@ use Rattle.refusal.specs.First.{Row, first, first-none}
 use Rattle.layout.specs.Layout.{markCount, firstMarks}
 use Rattle.layout.specs.Stretch.{shape}
 use Rattle.library.specs.Each.{each}
+use Rattle.library.specs.Sizes.{EndsAt, ends-at}
 use Rattle.library.specs.EachLaws.{each-more, each-stops}
 use Rattle.loading.specs.Load.{markCauses}
 use Rattle.loading.specs.Heads.{HeadOf, head-of}
@@ -32,12 +33,20 @@ head c =
     let is = c .counts-of .ensures in
     head-of (start .args .bytes .now) (start .pre) (is .0) (is .1) (is .2)
 
+-- the numbers of a dimension's first and last mark
+ends-are : (c : tie.After-ends-of Inv-loop μ-loop) → let now = c .before .before .before in let counts = now .before .counts-of .result in
+    EndsAt (counts .d) (counts .b) (now .loop .t) (c .ends-of .result .first) (c .ends-of .result .last)
+ends-are c =
+    let now = c .before .before .before in
+    let counts = now .before .counts-of .result in
+    ends-at (counts .d) (counts .b) (now .loop .t) (head (now .before) .of-shape .shape-passes) (c .before .if1 .taken) (c .ends-of .ensures)
+
 -- the verdict on a dimension
 here : (c : tie.After-check-dimension Inv-loop μ-loop) → let now = c .before .before .before .before .before in let counts = now .before .counts-of .result in
     c .check-dimension .result ≡ first (causes (now .before .before .before .args .bytes .now) (counts .d) (counts .b) (now .loop .t))
 here c =
     let ends = c .before .before .ends-of in
-    let is = ends .ensures in
+    let is = ends-are (c .before .before) in
     let counts = c .before .before .before .before .before .before .counts-of .result in
     let t = c .before .before .before .before .before .loop .t in
     let count : ends .result .last - ends .result .first + 1 ≡ markCount (counts .d) (counts .b) (suc t) = omega (arith, is .first-is, is .last-is) in
@@ -87,10 +96,11 @@ check-marks-spec =
     μ-loop
     (λ c κs. search needs)
     (λ c. (omega arith, first-none))
-    (λ c κs. (head (c .before .before .before) .of-shape .shape-passes, c .if1 .taken))
-    (λ c. omega (arith, c .before .ends-of .ensures .first-is, c .before .ends-of .ensures .last-is))
-    (λ c. omega (arith, c .before .ends-of .ensures .within, c .before .ends-of .ensures .small))
-    (λ c κs. omega (arith, c .before .ends-of .ensures .within, c .before .ends-of .ensures .small, c .before .ends-of .ensures .first-is, c .before .ends-of .ensures .last-is))
+    (λ c. omega (arith, few c))
+    (λ c κs. search needs)
+    (λ c. omega (arith, ends-are (c .before) .first-is, ends-are (c .before) .last-is))
+    (λ c. omega (arith, ends-are (c .before) .within, ends-are (c .before) .small))
+    (λ c κs. omega (arith, ends-are (c .before) .within, ends-are (c .before) .small, ends-are (c .before) .first-is, ends-are (c .before) .last-is))
     (λ c. search needs)
     (λ c. omega (arith, few (c .before .before .before .before .before)))
     (λ c. omega (arith, c .before .before .before .before .before .if1 .taken))

@@ -8,6 +8,7 @@ use native.Mathlib.Omega.{arith}
 use lib.Arith.{digits-div, digits-mod}
 use lib.IntN.{ℤ}
 use lib.ListN.{length, drop}
+use borrow.Author.Needs.{needs}
 use Rattle.records.specs.Records.{vectorKind, recordLength}
 use Rattle.library.specs.Library.{vectorPlace, storedAt, componentAt}
 use Rattle.library.specs.Sizes.{vector-place, vector-length, row-within}
@@ -84,7 +85,9 @@ fill-components-spec =
     Inv-loop
     μ-loop
     loop-holds
-    (λ c κs. (start c .pre .0, omega (arith, start c .pre .2, c .loop-test .taken)))
+    (λ c. omega (arith, start c .pre .0))
+    (λ c. omega (arith, start c .pre .2, c .loop-test .taken))
+    (λ c κs. search needs)
     (λ c. omega (arith, row (c .before), few (c .before)))
     fill-vector-requires
     (λ c. omega (arith, c .before .before .before .before .loop-test .taken))

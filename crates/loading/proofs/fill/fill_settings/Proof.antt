@@ -44,7 +44,9 @@ fill-settings-spec =
     Inv-loop
     μ-loop
     (λ c. let args = c .before .before .args in filling-start (args .n) (settingsAt (args .m) (args .bytes .now)) (args .settings .now))
-    (λ c κs. omega (arith, c .before .before .before .before .pre))
+    (λ c. omega (arith, c .before .before .before .before .pre))
+    (λ c. omega (arith, c .before .before .before .before .pre))
+    (λ c κs. search needs)
     add-u32-at
     (λ c κs. search needs)
     (λ c. omega (arith, c .before .before .before .before .before .before .pre))

@@ -1,15 +1,21 @@
 -- `check_shaped` meets its contract: the tests in their order. Assumes nothing.
 use mathlib.Core.Path.{_≡_, sym, _∙_}
+use mathlib.Core.Bool.{not}
+use mathlib.Core.List.{[], _∷_}
 use Prim.Native.Nat.{_*_, _≤_}
 use native.Mathlib.Nat.{mul-le-mul}
 use native.Mathlib.Omega.{arith}
 use borrow.Author.Needs.{needs}
 use borrow.Author.Tests.{not-false, eq-eqb, ne-eqb}
-use Rattle.refusal.specs.First.{first}
-use Rattle.limits.specs.Limits.{maxVectors}
+use Rattle.refusal.specs.declared.Refusal.the-variants.{Count}
+use Rattle.refusal.specs.declared.Verdict.the-variants.{Accepted}
+use Rattle.refusal.specs.First.{_⇒_, first, outcome-accepted}
+use Rattle.limits.specs.Limits.{maxVectors, isVectorCount}
 use Rattle.limits.specs.Tests.{between}
-use Rattle.layout.specs.Stretch.{shape}
-use Rattle.library.specs.Library.{markTotal}
+use Rattle.layout.specs.Stretch.{shapeCauses, shape}
+use Rattle.records.specs.RowLaws.{go-on}
+use Rattle.library.specs.Library.{markTotal, libraryLength}
+use Rattle.library.specs.Tests.{countsCauses}
 use Rattle.library.specs.Sizes.{marks-length-is}
 use Rattle.writing.proofs.check.check_shaped.Statement.{statement}
 use Rattle.writing.proofs.check.check_shaped.Tie as tie
@@ -49,13 +55,24 @@ returns-4 c =
     let count = marks .before in
     rw (← count .before .is-vector-count .ensures, count .if1 .left, eq-eqb _ _ (c .before .before .if2 .left ∙ marks-counted marks), eq-eqb _ _ (c .before .if3 .left), ne-eqb _ _ (c .if4 .taken))
 
+-- the counts pass
+length-is : (c : tie.After-library-length) → let args = c .before .before .before .before .before .before .before .before .args in
+    c .library-length .result ≡ libraryLength (args .d) (args .b) (args .n)
+unfolding first
+length-is c =
+    let count = c .before .before .before .before .before in
+    let start = count .before .before .before in
+    let passes : first (countsCauses (start .args .d) (start .args .b) (start .args .n)) ≡ Accepted =
+    go-on (shapeCauses (start .args .d) (start .args .b)) ((not (isVectorCount (start .args .n)) ⇒ Count) ∷ []) (start .pre) ∙ rw (← count .before .is-vector-count .ensures, count .if1 .left) in
+    c .library-length .ensures ∙ outcome-accepted _ _ passes
+
 returns-5 : tie.Need-returns-5
 unfolding first
 returns-5 c =
     let size = c .before in
     let marks = size .before .before .before .before in
     let count = marks .before in
-    rw (← count .before .is-vector-count .ensures, count .if1 .left, eq-eqb _ _ (size .before .before .before .if2 .left ∙ marks-counted marks), eq-eqb _ _ (size .before .before .if3 .left), eq-eqb _ _ (size .before .if4 .left), ne-eqb _ _ (rw (size .library-length .ensures) at (c .if5 .taken)))
+    rw (← count .before .is-vector-count .ensures, count .if1 .left, eq-eqb _ _ (size .before .before .before .if2 .left ∙ marks-counted marks), eq-eqb _ _ (size .before .before .if3 .left), eq-eqb _ _ (size .before .if4 .left), ne-eqb _ _ (rw (length-is size) at (c .if5 .taken)))
 
 check-values-requires : tie.Need-check-values-requires
 check-values-requires c κs =
@@ -75,7 +92,7 @@ returns-6 c =
     let marks = size .before .before .before .before in
     let count = marks .before in
     c .check-values .ensures
-    ∙ rw (← count .before .is-vector-count .ensures, count .if1 .left, eq-eqb _ _ (size .before .before .before .if2 .left ∙ marks-counted marks), eq-eqb _ _ (size .before .before .if3 .left), eq-eqb _ _ (size .before .if4 .left), eq-eqb _ _ (c .before .if5 .left ∙ size .library-length .ensures))
+    ∙ rw (← count .before .is-vector-count .ensures, count .if1 .left, eq-eqb _ _ (size .before .before .before .if2 .left ∙ marks-counted marks), eq-eqb _ _ (size .before .before .if3 .left), eq-eqb _ _ (size .before .if4 .left), eq-eqb _ _ (c .before .if5 .left ∙ length-is size))
 
 mul-if4 : tie.Need-mul-if4
 mul-if4 c =
@@ -95,7 +112,7 @@ check-shaped-spec =
     returns-3
     mul-if4
     returns-4
-    (λ c κs. record { shape-passes = c .before .before .before .before .before .before .before .pre; few = few (c .before .before .before .before) })
+    (λ c κs. search needs)
     returns-5
     check-values-requires
     returns-6)

@@ -7,6 +7,7 @@ use lib.ListN.{getD}
 use borrow.Author.Needs.{needs}
 use Rattle.whole.proofs.ReadBack.{given}
 use Rattle.layout.specs.Stretch.{shape}
+use Rattle.library.specs.Sizes.{EndsAt, ends-at}
 use Rattle.library.proofs.Filling.{Ending, ending-start, ending-next, ending-end}
 use Rattle.writing.proofs.check.fill_ends.Statement.{statement}
 use Rattle.writing.proofs.check.fill_ends.Tie as tie
@@ -26,6 +27,13 @@ few c =
     let start = c .before .before in
     omega (arith, shape (start .args .d) (start .args .b) (start .pre .0 .shape-passes) .few, c .loop-test .taken)
 
+-- the numbers of the ends
+ends-are : (c : tie.After-ends-of Inv-loop μ-loop) → let now = c .before .before in let args = now .before .args in EndsAt (args .d) (args .b) (now .loop .t) (c .ends-of .result .first) (c .ends-of .result .last)
+ends-are c =
+    let now = c .before .before in
+    let start = now .before in
+    ends-at (start .args .d) (start .args .b) (now .loop .t) (start .pre .0 .shape-passes) (c .before .loop-test .taken) (c .ends-of .ensures)
+
 loop-again : tie.Need-loop-again Inv-loop μ-loop
 loop-again c =
     let low = c .before in
@@ -33,7 +41,7 @@ loop-again c =
     let now = ends .before .before in
     let start = now .before in
     let args = start .args in
-    ending-next (args .d) (args .b) (mark (args .marks .now)) (args .lows .now) (args .highs .now) (now .loop .t) (start .pre .1) (start .pre .2) (ends .before .loop-test .taken) (ends .ends-of .ensures)
+    ending-next (args .d) (args .b) (mark (args .marks .now)) (args .lows .now) (args .highs .now) (now .loop .t) (start .pre .1) (start .pre .2) (ends .before .loop-test .taken) (ends-are ends)
     (given (low .at .ok) (low .at .ensures)) (given (c .at2 .ok) (c .at2 .ensures)) (now .loop .inv)
 
 returns : tie.Need-returns Inv-loop μ-loop
@@ -49,7 +57,8 @@ fill-ends-spec =
     Inv-loop
     μ-loop
     (λ c. ending-start (c .args .d) (c .args .b) (mark (c .args .marks .now)) (c .args .lows .now) (c .args .highs .now))
-    (λ c κs. (c .before .before .pre .0 .shape-passes, c .loop-test .taken))
+    (λ c. omega (arith, few c))
+    (λ c κs. search needs)
     (λ c κs. search needs)
     (λ c. omega (arith, few (c .before .before)))
     (λ c. omega (arith, c .before .before .before .before .pre .1, c .before .before .loop-test .taken, c .before .before .before .loop .inv .low .room))

@@ -83,7 +83,8 @@ write-marks-spec =
     Inv-loop
     μ-loop
     loop-holds
-    (λ c κs. omega (arith, c .before .before .before .pre .0))
+    (λ c. omega (arith, c .before .before .before .pre .0))
+    (λ c κs. search needs)
     (λ c. search needs)
     (λ c κs. omega (arith, room-left (c .before)))
     (λ c. omega (arith, place-is (c .before .before .before .before .before), c .before .before .before .before .before .before .before .before .before .pre .0))

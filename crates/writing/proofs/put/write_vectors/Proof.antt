@@ -6,6 +6,7 @@ use native.Mathlib.Nat.{mul-le-mul}
 use native.Mathlib.Omega.{arith}
 use lib.IntN.{ℤ, pos}
 use lib.ListN.{length, getD, take}
+use borrow.Author.Needs.{needs}
 use Rattle.limits.specs.Limits.{maxVectors}
 use Rattle.records.specs.Records.{vectorKind, recordLength}
 use Rattle.library.specs.Each.{each}
@@ -88,7 +89,9 @@ write-vectors-spec =
     Inv-loop
     μ-loop
     loop-holds
-    (λ c κs. omega (arith, c .before .before .before .before .pre .few-marks, c .before .before .before .before .pre .few))
+    (λ c. omega (arith, c .before .before .before .before .pre .few-marks))
+    (λ c. omega (arith, c .before .before .before .before .pre .few, c .loop-test .taken))
+    (λ c κs. search needs)
     (λ c. omega (arith, c .before .before .before .before .before .pre .few))
     (λ c. omega (arith, c .before .before .before .before .before .before .pre .settings-count, c .before .before .loop-test .taken))
     (λ c. omega (arith, from-small (c .before .before)))
