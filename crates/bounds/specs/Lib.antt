@@ -1,3 +1,4 @@
 pub mod Run
 pub mod Waiting
 pub mod Bounded
+pub mod Sums

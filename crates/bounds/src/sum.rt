@@ -1,20 +1,59 @@
 // The bounds of codes, as sums of a table's entries.
+use crate::cell::exact_lengths;
 use crate::waiting::begin;
 use crate::waiting::take;
+use refusal::Refusal;
+use refusal::Verdict;
 ghost use mathlib.Core.Path.{_≡_};
 ghost use Prim.Native.Nat.{suc, _+_, _*_, _%_, _^_, _≤_, _<_};
 ghost use lib.ListN.{length};
 ghost use Rattle.refusal.specs.declared.Verdict.the-variants.{Accepted};
-ghost use Rattle.refusal.specs.First.{first};
+ghost use Rattle.refusal.specs.First.{first, outcome};
 ghost use Rattle.limits.specs.Limits.{maxVectors};
 ghost use Rattle.layout.specs.Layout.{firstMarks};
 ghost use Rattle.layout.specs.Stretch.{shapeCauses};
 ghost use Rattle.distance.specs.Table.{boundSum};
 ghost use Rattle.distance.specs.Values.{valuesFrom};
 ghost use Rattle.bounds.specs.Run.{runSum};
+ghost use Rattle.bounds.specs.Sums.{sumCauses};
 
-// The bounds of the first codes, as many as there is room for.
-pub fn sum_bounds(d: usize, b: usize, table: &[u64], codes: &[u8], bounds: &mut [u64])
+// The bounds of n codes, by a query's table. Refused are numbers of dimensions, bits or codes out of their limits, and other lengths.
+pub fn sum_bounds(d: usize, b: usize, table: &[u64], codes: &[u8], bounds: &mut [u64]) -> Verdict
+    ensures { λ r. ⌜ r ≡ first (sumCauses d b (length (now (table .entry))) (length (now (codes .entry))) (length (now (bounds .entry)))) ⌝ }
+    ensures { λ _. ⌜ now (bounds .exit)
+        ≡ outcome (first (sumCauses d b (length (now (table .entry))) (length (now (codes .entry))) (length (now (bounds .entry)))))
+        (valuesFrom (boundSum d b (now (table .entry)) (now (codes .entry))) 0 (length (now (bounds .entry)))) (λ _. now (bounds .entry)) ⌝ }
+{
+    let verdict = check_sums(d, b, table.len(), codes.len(), bounds.len());
+    match verdict {
+        Verdict::Accepted => {
+            sum_all(d, b, table, codes, bounds);
+            Verdict::Accepted
+        }
+        Verdict::Refused(cause) => Verdict::Refused(cause),
+    }
+}
+
+// Whether there are such bounds, by the lengths of the table and of n codes.
+fn check_sums(d: usize, b: usize, table: usize, codes: usize, n: usize) -> Verdict
+    ensures { λ r. ⌜ r ≡ first (sumCauses d b table codes n) ⌝ }
+{
+    match layout::check_shape(d, b) {
+        Verdict::Accepted => {
+            if !limits::is_vector_count(n) {
+                return Verdict::Refused(Refusal::Count);
+            }
+            if !exact_lengths(d, b, n, d, table, codes) {
+                return Verdict::Refused(Refusal::Length);
+            }
+            Verdict::Accepted
+        }
+        Verdict::Refused(cause) => Verdict::Refused(cause),
+    }
+}
+
+// The same where nothing refuses.
+fn sum_all(d: usize, b: usize, table: &[u64], codes: &[u8], bounds: &mut [u64])
     requires { ⌜ (first (shapeCauses d b) ≡ Accepted) × (length (now table) ≡ firstMarks d b d) × (length (now bounds) ≤ maxVectors)
         × (length (now bounds) * b ≤ length (now codes) * 8) ⌝ }
     ensures { λ _. ⌜ now (bounds .exit) ≡ valuesFrom (boundSum d b (now (table .entry)) (now (codes .entry))) 0 (length (now (bounds .entry))) ⌝ }
@@ -28,7 +67,7 @@ pub fn sum_bounds(d: usize, b: usize, table: &[u64], codes: &[u8], bounds: &mut 
 
 // The bound of code i: the sum of the entries of the regions that it names, those of the dimensions with one bit more, and those of the
 // others.
-pub fn code_bound(d: usize, b: usize, table: &[u64], codes: &[u8], i: usize) -> u64
+pub(crate) fn code_bound(d: usize, b: usize, table: &[u64], codes: &[u8], i: usize) -> u64
     requires { ⌜ (first (shapeCauses d b) ≡ Accepted) × (length (now table) ≡ firstMarks d b d) × (i < maxVectors)
         × (suc i * b ≤ length (now codes) * 8) ⌝ }
     ensures { λ r. ⌜ r ≡ boundSum d b (now (table .entry)) (now (codes .entry)) i ⌝ }

@@ -1,2 +1,3 @@
+pub mod Answered
 pub mod Searching
 pub mod Buffers

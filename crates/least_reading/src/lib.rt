@@ -1,10 +1,12 @@
 // The search that reads least.
+mod reading;
+
+use crate::reading::read_all;
 use bounds::sum::sum_bounds;
 use distance::Bound;
 use distance::table::MAX_TABLE;
 use distance::table::fill_table;
 use limits::MAX_VECTORS;
-use reading_order::read_all;
 use refusal::Verdict;
 use search::entry::check_entry;
 use search::search::Searched;

@@ -7,14 +7,16 @@ use lib.IntN.{ℤ}
 use lib.ListN.{length}
 use lib.Seq.{length-take-le}
 use borrow.Author.Needs.{needs}
-use borrow.Author.Tests.{eq-eqb}
+use borrow.Author.Tests.{eq-eqb, le-leb}
 use Rattle.refusal.specs.declared.Verdict.the-variants.{Accepted}
 use Rattle.refusal.specs.First.{first, outcome, first-append, outcome-accepted}
+use Rattle.limits.specs.Limits.{maxVectors}
 use Rattle.layout.specs.Stretch.{shapeCauses}
 use Rattle.distance.specs.declared.Bound.the-variants.{Lower}
 use Rattle.distance.specs.Table.{maxTable, stepOf, tableOf, lengthCauses, tableCauses, boundSum}
 use Rattle.distance.specs.TableLaws.{bound-sum, table-le}
 use Rattle.distance.specs.Values.{valuesFrom}
+use Rattle.bounds.specs.Sums.{countedCauses, sumCauses}
 use Rattle.search.specs.Search.{Library, Room, lowIn}
 use Rattle.search.specs.Ready.{Ready}
 use Rattle.least_reading.specs.Buffers.{back-within, shared-is, values-agree}
@@ -33,6 +35,13 @@ module _ {l : Library} {query : List ℤ} {k : ℕ} {room : Room} (is : Ready l 
       ∙ outcome-accepted _ _ (is .shaped)
       ∙ rw (eq-eqb _ _ (is .lengths .of-query), eq-eqb _ _ exact, eq-eqb _ _ (same ∙ exact))
 
+  summed : (table n : ℕ) → table ≡ length (l .marks) → n ≡ l .n → first (sumCauses (l .d) (l .b) table (length (l .codes)) n) ≡ Accepted
+  unfolding first
+  summed table n same count =
+      first-append (shapeCauses (l .d) (l .b)) (countedCauses (l .d) (l .b) table (length (l .codes)) n)
+      ∙ outcome-accepted _ _ (is .shaped)
+      ∙ rw (count, le-leb 1 (l .n) (omega (arith, is .some, is .enough)), le-leb (l .n) maxVectors (is .count), eq-eqb _ _ (same ∙ is .lengths .of-marks), eq-eqb _ _ (is .lengths .of-codes))
+
   bounds : (old back shared : List ℕ) (size : ℕ)
       → back ≡ outcome (first (tableCauses (l .d) (l .b) (length (l .marks)) (length query) size)) (tableOf (stepOf Lower) (l .d) (l .b) (l .marks) query) (λ _. old)
       → size ≡ length (l .marks) → shared ≡ back → (n : ℕ) → n ≡ l .n → valuesFrom (boundSum (l .d) (l .b) shared (l .codes)) 0 n ≡ valuesFrom (lowIn l query) 0 (l .n)
@@ -50,18 +59,13 @@ table-hold c =
 table-within : tie.Need-array-share-prefix-table
 table-within c = back-within _ _ (c .before .fill-table .last .1 .1 .1 .1 .1 .0) (table-hold (c .before .before .before)) (c .before .fill-table .kept .1 .1 .1 .1 .1 .0)
 
-sum-bounds-requires : tie.Need-sum-bounds-requires
-sum-bounds-requires c κs =
-    let start = c .before .before .before .before .before .before .before in
-    let is = start .pre .0 in
-    (is .shaped, length-take-le _ _ (table-within (c .before .before)) ∙ is .lengths .of-marks, omega (arith, start .pre .1, is .count), rw (start .pre .1) (omega (arith, is .lengths .of-codes)))
-
 returns : tie.Need-returns
 returns c =
     let start = c .before .before .before .before .before .before .before .before .before .before in
     let filled = c .before .before .before .before .before .before in
     let hold = table-hold (filled .before .before) in
-    c .before .before .sum-bounds .ensures
+    c .before .before .sum-bounds .ensures .1
+    ∙ outcome-accepted _ _ (summed (start .pre .0) _ _ (length-take-le _ _ (table-within (c .before .before .before .before .before))) (start .pre .1))
     ∙ bounds (start .pre .0) _ (filled .fill-table .last .1 .1 .1 .1 .1 .0) _ _ (filled .fill-table .ensures .1) (length-take-le _ _ hold)
     (shared-is _ _ (filled .fill-table .last .1 .1 .1 .1 .1 .0) hold (filled .fill-table .kept .1 .1 .1 .1 .1 .0)) _ (start .pre .1)
 
@@ -74,6 +78,6 @@ lower-bounds-spec =
     (λ c κs. search needs)
     table-within
     (λ c. sym (length-take-le _ _ (table-within (c .before))))
-    sum-bounds-requires
+    (λ c κs. search needs)
     (λ c. search needs)
     returns)

@@ -20,7 +20,7 @@ use Rattle.search.specs.declared.search.Searched.the-variants.{Read, Refused}
 use Rattle.search.specs.Search.{Library, numbersIn, distanceIn, lowIn, inOwnCells, searched}
 use Rattle.search.specs.Theorems.{reads-are-the-order}
 use Rattle.search.specs.Ready.{roomOf, Ready, ready-room}
-use Rattle.reading_order.specs.Answered.{Reads}
+use Rattle.least_reading.specs.Answered.{Reads}
 use Rattle.least_reading.specs.Buffers.{back-within, shared-is, shared-enough, put-all}
 use Rattle.least_reading.specs.Searching.{Searches, cellCauses, TellsRead, tells-read, tells-refused, cells-accepted, cells-refused}
 use Rattle.least_reading.proofs.search_keyed.Statement.{statement}

@@ -17,9 +17,9 @@ use Rattle.selection.specs.Loop.{reached-first, goes-on-first}
 use Rattle.selection.specs.Gathered.{Gathers, gathers-start, gathers-next}
 use Rattle.search.specs.Search.{Library, Room, numbersIn, distanceIn, lowIn, inOwnCell, inOwnCells}
 use Rattle.search.specs.Ready.{library, Ready, place, ordered-below}
-use Rattle.reading_order.specs.Answered.{FirstReads, cells-snoc, measured, next-outside}
-use Rattle.reading_order.proofs.read_first.Statement.{statement}
-use Rattle.reading_order.proofs.read_first.Tie as tie
+use Rattle.least_reading.specs.Answered.{FirstReads, cells-snoc, measured, next-outside}
+use Rattle.least_reading.proofs.reading.read_first.Statement.{statement}
+use Rattle.least_reading.proofs.reading.read_first.Tie as tie
 
 record State (l : Library) (query : List ℤ) (k done : ℕ) (keys best : List ℕ) : Type 0 where
   within : done ≤ k

@@ -8,8 +8,8 @@ use borrow.Author.Tests.{lt-ltb}
 use Rattle.refusal.specs.First.{outcome-accepted}
 use Rattle.limits.specs.Limits.{maxVectors}
 use Rattle.cells.specs.CellCauses.{cellHolds}
-use Rattle.reading_order.proofs.in_own_cell.Statement.{statement}
-use Rattle.reading_order.proofs.in_own_cell.Tie as tie
+use Rattle.least_reading.proofs.reading.in_own_cell.Statement.{statement}
+use Rattle.least_reading.proofs.reading.in_own_cell.Tie as tie
 
 returns : tie.Need-returns
 unfolding cellHolds

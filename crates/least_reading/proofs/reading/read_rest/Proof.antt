@@ -24,9 +24,9 @@ use Rattle.search.specs.declared.search.Searched.the-variants.{Read, Refused}
 use Rattle.search.specs.Search.{Library, Room, numbersIn, distanceIn, lowIn, inOwnCell, searched}
 use Rattle.distance.specs.Values.{valuesFrom, values-length, value-at}
 use Rattle.search.specs.Ready.{library, Ready, Place, place, ordered-below}
-use Rattle.reading_order.specs.Answered.{Reads, HasRead, afterReads, measured, next-in-cell, next-outside}
-use Rattle.reading_order.proofs.read_rest.Statement.{statement}
-use Rattle.reading_order.proofs.read_rest.Tie as tie
+use Rattle.least_reading.specs.Answered.{Reads, HasRead, afterReads, measured, next-in-cell, next-outside}
+use Rattle.least_reading.proofs.reading.read_rest.Statement.{statement}
+use Rattle.least_reading.proofs.reading.read_rest.Tie as tie
 
 abbrev Inv-loop : tie.InvT-loop
 Inv-loop d b n k query marks codes vectors lows order keys₀ best₀ done₀ keys best done =

@@ -22,9 +22,9 @@ use Rattle.selection.specs.Gathered.{gathers-sorted}
 use Rattle.search.specs.declared.search.Searched.the-variants.{Refused}
 use Rattle.search.specs.Search.{Library, Room, numbersIn, distanceIn, lowIn}
 use Rattle.search.specs.Ready.{Ready, ready-room}
-use Rattle.reading_order.specs.Answered.{Reads, FirstReads, HasRead}
-use Rattle.reading_order.proofs.read_all.Statement.{statement}
-use Rattle.reading_order.proofs.read_all.Tie as tie
+use Rattle.least_reading.specs.Answered.{Reads, FirstReads, HasRead}
+use Rattle.least_reading.proofs.reading.read_all.Statement.{statement}
+use Rattle.least_reading.proofs.reading.read_all.Tie as tie
 
 module _ {l : Library} {query : List ℤ} {k : ℕ} {r : Bool} {keys best : List ℕ} (first-reads : FirstReads l query k r keys best) where
   sorted : {room : Room} → Ready l query k room → r ≡ true → {keys-then best-then : List ℕ}

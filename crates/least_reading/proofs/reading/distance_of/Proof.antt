@@ -5,8 +5,8 @@ use native.Mathlib.Omega.{arith}
 use lib.ListN.{take, drop}
 use borrow.Author.Needs.{needs}
 use Rattle.distance.specs.Distance.{distanceOf}
-use Rattle.reading_order.proofs.distance_of.Statement.{statement}
-use Rattle.reading_order.proofs.distance_of.Tie as tie
+use Rattle.least_reading.proofs.reading.distance_of.Statement.{statement}
+use Rattle.least_reading.proofs.reading.distance_of.Tie as tie
 
 returns : tie.Need-returns
 returns c =
