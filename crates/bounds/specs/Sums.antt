@@ -31,8 +31,7 @@ summable d b table codes n accepted =
     let bytes = eqb codes (codeLength b n) in
     let count = passed (not (isVectorCount n)) Count ((not (marks && bytes) ⇒ Length) ∷ []) (accepted-behind (shapeCauses d b) (countedCauses d b table codes n) accepted) in
     let lengths = and-eq-true-iff marks bytes .0 (not-false (marks && bytes) (passed (not (marks && bytes)) Length [] (count .rest) .fails)) in
-    let exact : codes ≡ codeLength b n = eqb-true codes (codeLength b n) (lengths .1) in
-    (
+    let exact : codes ≡ codeLength b n = eqb-true codes (codeLength b n) (lengths .1) in (
       accepted-front (shapeCauses d b) (countedCauses d b table codes n) accepted,
       eqb-true table (firstMarks d b d) (lengths .0),
       between 1 n maxVectors (not-false (isVectorCount n) (count .fails)) .below,

@@ -95,7 +95,14 @@ fn check_shaped(
 }
 
 // Whether the query, the marks and the codes are as many as they must be.
-pub(crate) fn exact_lengths(d: usize, b: usize, n: usize, query: usize, marks: usize, codes: usize) -> bool
+pub(crate) fn exact_lengths(
+    d: usize,
+    b: usize,
+    n: usize,
+    query: usize,
+    marks: usize,
+    codes: usize,
+) -> bool
     requires { ⌜ (first (shapeCauses d b) ≡ Accepted) × (n ≤ maxVectors) ⌝ }
     ensures { λ r. ⌜ r ≡ eqb query d && (eqb marks (firstMarks d b d) && eqb codes (codeLength b n)) ⌝ }
 {

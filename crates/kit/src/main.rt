@@ -2,9 +2,9 @@
 // was read.
 use libc::STDIN_FILENO;
 use libc::STDOUT_FILENO;
-use loading::MARKS_ROOM;
 use limits::MAX_DIMENSIONS;
 use limits::MAX_VECTORS;
+use loading::MARKS_ROOM;
 use matching::K_LENGTH;
 use matching::TEXT_ROOM;
 use records::END_LENGTH;

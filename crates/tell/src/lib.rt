@@ -1,7 +1,7 @@
 // What a call from C tells of an answer: its values, each in its place, and 0 or the refusal's number. A refusal leaves the place of a
 // component or a distance as it was, and 0 in that of a count.
-use distance::Distance;
 use bounds::cell::Bounds;
+use distance::Distance;
 use loading::Loaded;
 use partition::region::Lookup;
 use reading::Intake;
