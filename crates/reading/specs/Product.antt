@@ -3,7 +3,7 @@
 use mathlib.Core.Path.{_≡_, refl, sym, ap, _∙_, subst}
 use mathlib.Core.Bool.{Bool, true, false, cond, _&&_}
 use Prim.Native.Nat.{ℕ, zero, suc, _+_, _-_, _*_, _/_, _%_, _^_, _≤_, _<_}
-use native.Mathlib.Nat.{le-of-suc-le-suc, lt-of-not-le, lt-irrefl, lt-of-lt-of-le, le-of-mul-le-mul-right, mul-le-mul-right, one-mul, mul-one, mul-assoc, mul-comm, mul-right-comm, zero-mul, le-of-eq, le-trans}
+use native.Mathlib.Nat.{le-of-suc-le-suc, lt-of-not-le, lt-irrefl, lt-of-lt-of-le, le-of-mul-le-mul-right, mul-le-mul-right, one-mul, mul-one, mul-assoc, mul-right-comm, le-of-eq, le-trans}
 use native.Mathlib.Omega.{arith}
 use borrow.Author.Tests.{ltb-true, ltb-false}
 use lib.Dec.{T, ltb, leb, eqb, ltb→lt, leb→le, eqb→eq, lit<, lit≤}
@@ -15,7 +15,7 @@ use lib.Ieee.Fits.{and-l, and-r, down-pos, round-is}
 use lib.Ieee.Nearest.{closest}
 use lib.Ieee.Order.{round-mono}
 use lib.Ieee.Scale.{finite}
-use Rattle.reading.specs.Component.{unit, signed, rounded, rounded-of-value}
+use Rattle.reading.specs.Component.{unit, rounded, rounded-of-value}
 
 -- 256 as a float
 abbrev pub unitFloat : Float

@@ -13,7 +13,7 @@ use Rattle.codes.specs.Bits.{bitsAt}
 use Rattle.distance.proofs.Sum.{sum-more}
 use Rattle.bounds.specs.Run.{runSum}
 use Rattle.bounds.specs.Waiting.{Waits, Taken}
-use Rattle.bounds.proofs.Regions.{regions}
+use Rattle.cells.proofs.Runs.{regions}
 use Rattle.bounds.proofs.sum.sum_run.Statement.{statement}
 use Rattle.bounds.proofs.sum.sum_run.Tie as tie
 

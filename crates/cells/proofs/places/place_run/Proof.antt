@@ -9,7 +9,7 @@ use Rattle.order.proofs.Written.{written-one}
 use Rattle.codes.specs.Bits.{bitsAt}
 use Rattle.codes.specs.BitLaws.{bits-at-lt}
 use Rattle.cells.specs.Places.{runPlaces}
-use Rattle.cells.proofs.Powers.{regions}
+use Rattle.cells.proofs.Runs.{regions}
 use Rattle.cells.proofs.places.place_run.Statement.{statement}
 use Rattle.cells.proofs.places.place_run.Tie as tie
 

@@ -1,5 +1,5 @@
 -- `check_entry` meets its contract: the shape first. Assumes nothing.
-use mathlib.Core.Path.{_≡_, sym, _∙_}
+use mathlib.Core.Path.{sym, _∙_}
 use borrow.Author.Needs.{needs}
 use Rattle.refusal.specs.First.{outcome-accepted, outcome-refused, first-append}
 use Rattle.layout.specs.Stretch.{shapeCauses}
