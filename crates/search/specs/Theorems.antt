@@ -12,9 +12,9 @@ use lib.IntN.{ℤ}
 use lib.ListN.{length, take}
 use Rattle.order.specs.Members.{_∈_}
 use Rattle.order.specs.Counted.{counted, counted-distinct}
-use Rattle.selection.specs.Reading.{Reading, readingOrder}
-use Rattle.selection.specs.Settles.{Bounds, fixed}
-use Rattle.selection.specs.Theorems.{reads-in-order, reads-among, exact, stable, needed, settling-holds, least}
+use Rattle.selection.specs.Reading.{readingOrder}
+use Rattle.selection.specs.Settles.{Bounds, Agree, fixed}
+use Rattle.selection.specs.Theorems.{reads-in-order, reads-among, exact, stable, stable-answer, needed, settling-holds, least}
 use Rattle.cells.specs.Cells.{vectorAt}
 use Rattle.distance.specs.Distance.{distanceOf}
 use Rattle.search.specs.Search.{Library, numbersIn, distanceIn, lowIn, highIn, inOwnCells, scanned, searched, Room}
@@ -36,12 +36,16 @@ bounds-of l query k room accepts = cell-bounds l query ((passes l query k room a
 pub search-is-scan : (l : Library) (query : List ℤ) (k : ℕ) → OwnCodes l → (searched l query k) .best ≡ scanned l query k
 search-is-scan l query k own = exact k (lowIn l query) (distanceIn l query) (numbersIn l) (own-lower l query own)
 
+-- vectors of the same cells at the unread numbers leave the distances of those read
+same-distances : (l : Library) (query : List ℤ) (k : ℕ) (vectors : List ℤ) → SameCells l ((searched l query k) .reads) vectors
+    → Agree ((searched l query k) .reads) (distanceIn (withVectors l vectors) query) (distanceIn l query)
+same-distances l query k vectors same i m = ap (distanceOf (l .d) query) (same .kept i (read-below l query k m) m)
+
 -- ---- 2. Whatever vectors of the same cells stand at the unread numbers, the search gives the same numbers, distances and read list ..
 pub search-is-stable : (l : Library) (query : List ℤ) (k : ℕ) (vectors : List ℤ) → SameCells l ((searched l query k) .reads) vectors
     → searched (withVectors l vectors) query k ≡ searched l query k
 search-is-stable l query k vectors same =
-    stable k (lowIn l query) (distanceIn l query) (numbersIn l) (distanceIn (withVectors l vectors) query)
-    (λ i m. ap (distanceOf (l .d) query) (same .kept i (read-below l query k m) m))
+    stable k (lowIn l query) (distanceIn l query) (numbersIn l) (distanceIn (withVectors l vectors) query) (same-distances l query k vectors same)
 
 -- .. and is still not refused ..
 kept-cells : (l : Library) (vectors : List ℤ) (is : List ℕ) → ((i : ℕ) → i ∈ is → vectorAt (l .d) vectors i ≡ vectorAt (l .d) (l .vectors) i)
@@ -80,9 +84,8 @@ search-stays-accepted l query k room vectors same held =
 pub scan-is-stable : (l : Library) (query : List ℤ) (k : ℕ) (vectors : List ℤ) → OwnCodes l → SameCells l ((searched l query k) .reads) vectors
     → scanned (withVectors l vectors) query k ≡ scanned l query k
 scan-is-stable l query k vectors own same =
-    sym (search-is-scan (withVectors l vectors) query k (record { cells = same .cells; spare = own .spare }))
-    ∙ ap (λ (r : Reading). r .best) (search-is-stable l query k vectors same)
-    ∙ search-is-scan l query k own
+    stable-answer k (lowIn l query) (distanceIn l query) (numbersIn l) (distanceIn (withVectors l vectors) query) (own-lower l query own)
+    (own-lower (withVectors l vectors) query (record { cells = same .cells; spare = own .spare })) (same-distances l query k vectors same)
 
 -- ---- 3. Each number read whose cell's two distances differ is needed: another vector of its cell, put there alone, changes the answer.
 pub read-is-needed : (l : Library) (query : List ℤ) (k : ℕ) (room : Room) → OwnCodes l → Accepts l query k room

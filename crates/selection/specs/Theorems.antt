@@ -99,20 +99,17 @@ module _ (k : ℕ) (low distance : ℕ → ℕ) (numbers : List ℕ) where
   needed possible high bounds lower is-read differ =
       read-needed k low distance numbers lower is-read possible high bounds (reads-among k low distance numbers is-read) differ
 
--- ---- least: the numbers read settle the answer, and every set that settles it holds those of them with two bounds
+-- ---- least: every set that settles the answer holds the numbers read with two bounds
 
 module _ (k : ℕ) (possible : ℕ → ℕ → Type 0) (low high distance : ℕ → ℕ) (numbers : List ℕ) (bounds : Bounds possible low high numbers)
     (own : Within possible distance numbers) where
-  lower-than : (other : ℕ → ℕ) → Within possible other numbers → LowerBound low other numbers
-  lower-than other within i m = bounds .least i (other i) m (within i m)
-
-  pub reads-settle : Settles k possible distance numbers ((read k low distance numbers) .reads)
-  reads-settle other within agree = stable-answer k low distance numbers other (lower-than distance own) (lower-than other within) agree
+  lower : LowerBound low distance numbers
+  lower i m = bounds .least i (distance i) m (own i m)
 
   pub settling-holds : (set : List ℕ) → Settles k possible distance numbers set
       → (i : ℕ) → i ∈ (read k low distance numbers) .reads → low i ≢ high i → i ∈ set
   settling-holds set settles i is-read differ =
-      settles-needed own settles (needed k low distance numbers possible high bounds (lower-than distance own) is-read differ)
+      settles-needed own settles (needed k low distance numbers possible high bounds lower is-read differ)
 
   -- so it has no fewer members than there are read numbers with two bounds
   pub least : Distinct numbers → (set : List ℕ) → Settles k possible distance numbers set
