@@ -11,7 +11,7 @@ use lib.Seq.{take-all}
 use Rattle.limits.specs.Limits.{maxDimensionBits}
 use Rattle.layout.specs.Layout.{firstMarks}
 use Rattle.layout.specs.Stretch.{stretches, dimension-accepted}
-use Rattle.partition.specs.View.{stretch-marks}
+use Rattle.partition.specs.Parts.{stretch-marks}
 use Rattle.partition.proofs.Power.{shifted}
 use Rattle.distance.specs.Table.{maxTable, stepOf, tableFirst}
 use Rattle.distance.proofs.Entries.{next-entries}
