@@ -21,8 +21,9 @@ use Rattle.marking.specs.Made.{column, inOrder, madeDimension, madeFirst, madeM
 use Rattle.codes.specs.Bits.{lowBits, fromBits, bytesOf, byteBits}
 use Rattle.codes.specs.Codes.{joined, packed, codeRegion}
 use Rattle.approximation.specs.Vectors.{regionsFrom, vectorCodes}
+use Rattle.step.specs.Step.{shortest}
 use Rattle.distance.specs.Distance.{firstDistance}
-use Rattle.distance.specs.Bounds.{shortest, firstBound}
+use Rattle.distance.specs.Bounds.{firstBound}
 use Rattle.search.specs.Search.{Library, searched}
 
 -- one case: what is asked, and what document 01 says

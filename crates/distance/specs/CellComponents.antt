@@ -16,8 +16,8 @@ use Rattle.region.specs.Region.{inRegion}
 use Rattle.partition.specs.Marks.{dimensionMarks, goodFirst, goodMarks}
 use Rattle.codes.specs.Codes.{codeRegion}
 use Rattle.cells.specs.Cells.{InCell, inFirst}
-use Rattle.distance.specs.Order.{lt-pred, le-trans}
-use Rattle.distance.specs.Steps.{Inside}
+use Rattle.step.specs.Order.{lt-pred, le-trans}
+use Rattle.step.specs.Steps.{Inside}
 use Rattle.distance.specs.CellBounds.{in-region}
 
 -- the value before a mark is at most the greatest component
