@@ -11,7 +11,7 @@ use base.Logic.{SProp, ent, id⊢}
 use base.Fml.{Lft, Share, ftrue, flft}
 use prog.Memory.{Memory}
 use prog.Routine.{Routine}
-use prog.Wp.{Heap, Calls, Loops, WpFn, Tables}
+use prog.Wp.{Heap, Calls, Loops, WpFn}
 use ghost.Atoms.{Atoms}
 use contract.Monad.{Fun, fact}
 use contract.Running.{givenOf, tables, tablesOf}
@@ -28,7 +28,7 @@ use denote.Struct.Laws as LL
 use denote.Triple.Statement.{Triple}
 use denote.Triple.Call.{calls-at}
 use denote.Triple.Entry.{onEntry}
-use denote.Triple.Spec.{Meets, tripleOf}
+use denote.Triple.Spec.{tripleOf}
 use denote.Triple.Table.{entered, cited}
 use denote.Triple.Walked.{says, walkOf, ends-at}
 use denote.Triple.Clauses.{ensured}
@@ -90,17 +90,12 @@ module _ {M : Type 1} (𝓤 : URA M) (H : Heap 𝓤) (A : Atoms 𝓤) (W : Given
         move ! (13 ∷ 14 ∷ []) $ free1 ! $ move ! (11 ∷ 12 ∷ []) $ free1 ! $ move ! (9 ∷ 10 ∷ []) $ free1 ! $ move ! (7 ∷ 8 ∷ []) $ free1 ! $ move ! (5 ∷ 6 ∷ []) $ free1 ! $ move ! (3 ∷ 4 ∷ []) $ free1 ! $ free0 ! $
         by ! (exits p u′ (ap now e′ ∙ e .0))))))))))))))))
 
-dimension-marks-meets : {M : Type 1} (𝓤 : URA M) (H : Heap 𝓤) (A : Atoms 𝓤) (W : Given 𝓤 H A) (mem : Memory → SProp 𝓤) (run : Routine → Fun 𝓤) (𝓣 : Tables 𝓤 H)
-    → Triple 𝓤 (𝓣 .C #view·view-of) (ViewOf 𝓤 H A mem run) → Triple 𝓤 (𝓣 .C #view·marks-of) (MarksOf 𝓤 H A mem run)
-    → Meets 𝓤 H A dimension-marks.signature (WpFn 𝓤 H (𝓣 .C) (𝓣 .Λ) code.function) (dimension-marks.spec 𝓤 H A mem run)
-dimension-marks-meets 𝓤 H A W mem run 𝓣 known-view known-marks = dimension-meets 𝓤 H A W (dimension-marks.signature .result) (dimension-marks.clauses 𝓤 H A mem run) 𝓣 code.function
-    (λ κ q x g. walk 𝓤 H A W mem run κ q x (𝓣 .C) (𝓣 .Λ) (fmOf 𝓤 H (W .laws) 𝓣) known-view known-marks)
-
 pub dimension-marks-spec : {M : Type 1} → stated.statement M
 unfolding code.routine tablesOf
 dimension-marks-spec 𝓤 H 𝓜 𝓖 𝓡 =
     entered 𝓤 H (tripleOf 𝓤 H (𝓖 .A) dimension-marks.signature (dimension-marks.spec 𝓤 H (𝓖 .A) (𝓜 .mem) (𝓡 .run)))
     (tables 𝓤 H 𝓜 𝓡 code.env .C) (tables 𝓤 H 𝓜 𝓡 code.env .Λ) #view·dimension-marks code.function (code.unfolded 𝓤 H 𝓜 𝓡)
-    (dimension-marks-meets 𝓤 H (𝓖 .A) (givenOf 𝓤 H 𝓜 𝓖) (𝓜 .mem) (𝓡 .run) (tablesOf 𝓤 H 𝓜 (tables 𝓤 H 𝓜 𝓡 code.env))
+    (dimension-meets 𝓤 H (𝓖 .A) (givenOf 𝓤 H 𝓜 𝓖) (dimension-marks.signature .result) (dimension-marks.clauses 𝓤 H (𝓖 .A) (𝓜 .mem) (𝓡 .run)) (tablesOf 𝓤 H 𝓜 (tables 𝓤 H 𝓜 𝓡 code.env)) code.function
+    (λ κ q x g. walk 𝓤 H (𝓖 .A) (givenOf 𝓤 H 𝓜 𝓖) (𝓜 .mem) (𝓡 .run) κ q x (tables 𝓤 H 𝓜 𝓡 code.env .C) (tables 𝓤 H 𝓜 𝓡 code.env .Λ) (fmOf 𝓤 H (givenOf 𝓤 H 𝓜 𝓖 .laws) (tablesOf 𝓤 H 𝓜 (tables 𝓤 H 𝓜 𝓡 code.env)))
     (cited 𝓤 H (ViewOf 𝓤 H (𝓖 .A) (𝓜 .mem) (𝓡 .run)) 𝓜 𝓡 code.env #view·view-of view-of-def.routine code.calls-view·view-of (view-of-thm.met 𝓤 H 𝓜 𝓖 𝓡))
-    (cited 𝓤 H (MarksOf 𝓤 H (𝓖 .A) (𝓜 .mem) (𝓡 .run)) 𝓜 𝓡 code.env #view·marks-of marks-of-def.routine code.calls-view·marks-of (marks-of-thm.met 𝓤 H 𝓜 𝓖 𝓡)))
+    (cited 𝓤 H (MarksOf 𝓤 H (𝓖 .A) (𝓜 .mem) (𝓡 .run)) 𝓜 𝓡 code.env #view·marks-of marks-of-def.routine code.calls-view·marks-of (marks-of-thm.met 𝓤 H 𝓜 𝓖 𝓡))))
