@@ -15,9 +15,9 @@ use lib.Seq.{drop-cons, length-take-le}
 use Rattle.layout.specs.Layout.{firstMarks}
 use Rattle.layout.specs.Laws.{marks-within, first-next-marks}
 use Rattle.layout.specs.Stretch.{Shape}
+use Rattle.region.specs.Region.{regionOf, inMarks}
 use Rattle.partition.specs.Marks.{dimensionMarks}
-use Rattle.partition.specs.Region.{regionOf, inMarks}
-use Rattle.partition.specs.View.{marksAt, marks-at}
+use Rattle.partition.specs.Parts.{marksAt, marks-at}
 use Rattle.codes.specs.Codes.{nextColumn}
 use Rattle.approximation.specs.Vectors.{regionsFrom, insideFrom}
 use Rattle.codes.proofs.Columns.{Width, next-below}

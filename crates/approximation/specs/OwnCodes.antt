@@ -11,10 +11,10 @@ use lib.IntN.{ℤ, pos}
 use lib.ListN.{length, drop, getD, length-take, length-drop}
 use lib.Seq.{getD-take, getD-drop, length-take-le}
 use Rattle.layout.specs.Layout.{regionCount}
+use Rattle.region.specs.Region.{inRegion, regionOf, inMarks}
+use Rattle.region.specs.Within.{within, within-apart}
+use Rattle.region.specs.Regions.{Holds, region-of-holds}
 use Rattle.partition.specs.Marks.{dimensionMarks}
-use Rattle.partition.specs.Region.{inRegion, regionOf, inMarks}
-use Rattle.partition.specs.Within.{within, within-apart}
-use Rattle.partition.specs.Regions.{Holds, region-of-holds}
 use Rattle.codes.specs.Codes.{nextColumn, regionsFit, packed, codeRegion}
 use Rattle.codes.specs.PackLaws.{next-column, packed-spare, unpacked-packed, code-region}
 use Rattle.approximation.specs.Vectors.{regionsFrom, vectorRegions, insideFrom, vectorsInside, vectorCodes}

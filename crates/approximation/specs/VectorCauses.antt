@@ -16,7 +16,8 @@ use Rattle.limits.specs.Tests.{all-each}
 use Rattle.whole.specs.Components.{areComponents}
 use Rattle.layout.specs.Layout.{firstMarks}
 use Rattle.layout.specs.Stretch.{shapeCauses, Shape, shape}
-use Rattle.partition.specs.Marks.{dimensionMarks, goodDimension, goodFirst, goodMarks}
+use Rattle.region.specs.Dimension.{goodDimension}
+use Rattle.partition.specs.Marks.{dimensionMarks, goodFirst, goodMarks}
 use Rattle.partition.specs.MarksCauses.{shapedCauses, marksCauses}
 use Rattle.codes.specs.Pack.{sizeCauses}
 use Rattle.approximation.specs.Vectors.{vectorsInside}

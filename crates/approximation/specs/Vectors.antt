@@ -4,8 +4,8 @@ use mathlib.Core.Bool.{Bool, true, _&&_}
 use mathlib.Core.List.{List, [], _∷_}
 use Prim.Native.Nat.{ℕ, suc}
 use lib.IntN.{ℤ}
+use Rattle.region.specs.Region.{regionOf, inMarks}
 use Rattle.partition.specs.Marks.{dimensionMarks}
-use Rattle.partition.specs.Region.{regionOf, inMarks}
 use Rattle.codes.specs.Codes.{nextColumn, packed}
 
 -- the region of each component in its dimension, from column t on

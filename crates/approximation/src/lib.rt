@@ -5,11 +5,11 @@ use codes::next_column;
 use codes::pack;
 use limits::MAX_DIMENSIONS;
 use limits::MAX_VECTORS;
-use partition::region::in_marks;
-use partition::region::locate;
-use partition::view::marks_at;
 use refusal::Refusal;
 use refusal::Verdict;
+use region::in_marks;
+use region::locate;
+use view::marks_at;
 ghost use mathlib.Core.Path.{_≡_};
 ghost use mathlib.Core.Bool.{cond};
 ghost use Prim.Native.Nat.{_≤_};
@@ -108,7 +108,7 @@ fn check_located(d: usize, b: usize, vectors: &[i32], marks: &[i32]) -> Verdict
     if !whole::components::are_components(vectors) {
         return Verdict::Refused(Refusal::Component);
     }
-    match partition::marks::check_marks(d, b, marks) {
+    match partition::check_marks(d, b, marks) {
         Verdict::Accepted => {
             if !vectors_inside(d, b, vectors, marks) {
                 return Verdict::Refused(Refusal::Outside);

@@ -18,8 +18,7 @@ use Rattle.refusal.specs.First.{Row, _⇒_, first, first-here, outcome, outcome
 use Rattle.limits.specs.Limits.{maxVectors, isVectorCount}
 use Rattle.limits.specs.Tests.{between}
 use Rattle.order.specs.Pair.{Pair, numbersOf}
-use Rattle.order.specs.Pairs.{keysOf}
-use Rattle.selection.specs.Kept.{numbersOf-map}
+use Rattle.order.specs.Pairs.{keysOf, numbersOf-map}
 use Rattle.layout.specs.Layout.{firstMarks}
 use Rattle.codes.specs.Codes.{codeLength}
 use Rattle.search.specs.Search.{Library, searchCauses, exactLengths}

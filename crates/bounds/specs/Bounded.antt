@@ -21,7 +21,7 @@ use Rattle.layout.specs.Stretch.{shapeCauses}
 use Rattle.partition.specs.Marks.{goodMarks}
 use Rattle.codes.specs.Codes.{codeLength}
 use Rattle.cells.specs.Cells.{goodCodes}
-use Rattle.distance.specs.Table.{tableCauses, lengthCauses}
+use Rattle.table.specs.Table.{tableCauses, lengthCauses}
 use Rattle.bounds.specs.declared.cell.Bounds.{Bounds}
 use Rattle.bounds.specs.declared.cell.Bounds.the-variants.{Between, Refused}
 

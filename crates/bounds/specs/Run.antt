@@ -11,7 +11,7 @@ use Rattle.layout.specs.Laws.{all-bits}
 use Rattle.codes.specs.Bits.{bitsAt}
 use Rattle.codes.specs.BitLaws.{bits-at}
 use Rattle.codes.specs.Codes.{codeRegion}
-use Rattle.distance.specs.Table.{tableSum}
+use Rattle.table.specs.Table.{tableSum}
 
 -- the sum of the entries of t dimensions of w bits, whose region numbers begin at a bit of the codes, and whose entries at a place of
 -- the table

@@ -1,10 +1,10 @@
 // The bounds of one code's cell.
 use crate::sum::code_bound;
-use distance::Bound;
-use distance::table::MAX_TABLE;
-use distance::table::fill_table;
 use refusal::Refusal;
 use refusal::Verdict;
+use step::Bound;
+use table::MAX_TABLE;
+use table::fill_table;
 ghost use mathlib.Core.Path.{_≡_};
 ghost use mathlib.Core.Bool.{_&&_};
 ghost use Prim.Native.Nat.{_≤_};
@@ -17,7 +17,7 @@ ghost use Rattle.layout.specs.Layout.{firstMarks};
 ghost use Rattle.layout.specs.Stretch.{shapeCauses};
 ghost use Rattle.codes.specs.Codes.{codeLength};
 ghost use Rattle.distance.specs.Bounds.{firstBound, lowerOf, upperOf};
-ghost use Rattle.distance.specs.Table.{stepOf};
+ghost use Rattle.step.specs.Step.{stepOf};
 ghost use Rattle.bounds.specs.Bounded.{boundsCauses, shapedBoundsCauses};
 
 // The answer where a cell's bounds are asked for: its least distance and its greatest.

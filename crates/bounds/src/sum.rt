@@ -12,7 +12,7 @@ ghost use Rattle.refusal.specs.First.{first, outcome};
 ghost use Rattle.limits.specs.Limits.{maxVectors};
 ghost use Rattle.layout.specs.Layout.{firstMarks};
 ghost use Rattle.layout.specs.Stretch.{shapeCauses};
-ghost use Rattle.distance.specs.Table.{boundSum};
+ghost use Rattle.table.specs.Table.{boundSum};
 ghost use Rattle.distance.specs.Values.{valuesFrom};
 ghost use Rattle.bounds.specs.Run.{runSum};
 ghost use Rattle.bounds.specs.Sums.{sumCauses};

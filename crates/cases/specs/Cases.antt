@@ -15,14 +15,15 @@ use Rattle.order.specs.Pair.{Pair, below, insert, sort, keyed, ranked, numbersO
 use Rattle.order.specs.Rank.{ranking}
 use Rattle.selection.specs.Reading.{scan, unread, leastPair, goesOn, readNext, reading, read}
 use Rattle.layout.specs.Layout.{bitsOf, firstBits, firstMarks}
+use Rattle.region.specs.Region.{regionOf}
 use Rattle.partition.specs.Marks.{dimensionMarks}
-use Rattle.partition.specs.Region.{regionOf}
 use Rattle.marking.specs.Made.{column, inOrder, madeDimension, madeFirst, madeMarks}
 use Rattle.codes.specs.Bits.{lowBits, fromBits, bytesOf, byteBits}
 use Rattle.codes.specs.Codes.{joined, packed, codeRegion}
 use Rattle.approximation.specs.Vectors.{regionsFrom, vectorCodes}
+use Rattle.step.specs.Step.{shortest}
 use Rattle.distance.specs.Distance.{firstDistance}
-use Rattle.distance.specs.Bounds.{shortest, firstBound}
+use Rattle.distance.specs.Bounds.{firstBound}
 use Rattle.search.specs.Search.{Library, searched}
 
 -- one case: what is asked, and what document 01 says

@@ -13,8 +13,8 @@ use Rattle.refusal.specs.First.{first}
 use Rattle.limits.specs.Limits.{maxVectors}
 use Rattle.layout.specs.Layout.{firstMarks}
 use Rattle.layout.specs.Stretch.{shapeCauses}
+use Rattle.region.specs.Region.{inRegion}
 use Rattle.partition.specs.Marks.{dimensionMarks}
-use Rattle.partition.specs.Region.{inRegion}
 use Rattle.partition.specs.Parts.{part-at}
 use Rattle.codes.specs.Codes.{codeLength, codeRegion}
 use Rattle.codes.specs.PackLaws.{code-region-fits}

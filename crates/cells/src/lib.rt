@@ -96,7 +96,7 @@ fn check_shaped(d: usize, b: usize, n: usize, marks: &[i32], codes: &[u8]) -> Ve
     if !exact_lengths(d, b, n, marks.len(), codes.len()) {
         return Verdict::Refused(Refusal::Length);
     }
-    match partition::marks::check_marks(d, b, marks) {
+    match partition::check_marks(d, b, marks) {
         Verdict::Accepted => check_named(d, b, n, marks, codes),
         Verdict::Refused(_) => Verdict::Refused(Refusal::Mark),
     }

@@ -1,21 +1,12 @@
 -- A cell's least and greatest distance from a query, document 01's L and U: "sums over dimensions of the square of the shortest and longest
--- step from query to region". "Components are whole, so a region's last value is its upper mark minus 1." Assumes nothing.
-use mathlib.Core.Bool.{cond}
+-- step from query to region". Assumes nothing.
 use mathlib.Core.List.{List}
-use Prim.Native.Nat.{ℕ, zero, suc, _+_, max}
-use lib.IntN.{ℤ, pos, predℤ}
-use lib.Signed.{ltZ}
+use Prim.Native.Nat.{ℕ, zero, suc, _+_}
+use lib.IntN.{ℤ, pos}
 use lib.ListN.{getD}
 use Rattle.partition.specs.Marks.{dimensionMarks}
 use Rattle.codes.specs.Codes.{codeRegion}
-use Rattle.distance.specs.Distance.{gap, squared}
-
--- the shortest and the longest step from q to the region from low up to, and without, high
-unfoldable pub shortest : ℤ → ℤ → ℤ → ℕ
-shortest q low high = cond (ltZ q low) (gap low q) (cond (ltZ (predℤ high) q) (gap q (predℤ high)) 0)
-
-unfoldable pub longest : ℤ → ℤ → ℤ → ℕ
-longest q low high = max (gap q low) (gap q (predℤ high))
+use Rattle.step.specs.Step.{squared, shortest, longest}
 
 -- a step of a query to region r of one dimension's marks, squared
 abbrev pub stepTo : (ℤ → ℤ → ℤ → ℕ) → ℤ → List ℤ → ℕ → ℕ

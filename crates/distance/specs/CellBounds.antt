@@ -4,22 +4,20 @@ use mathlib.Core.Path.{_≡_, refl}
 use mathlib.Core.Bool.{true, and-eq-true-iff}
 use mathlib.Core.List.{List, [], _∷_, _++_}
 use Prim.Native.Nat.{ℕ, zero, suc, _≤_}
-use native.Mathlib.Nat.{mul-le-mul, le-refl}
+use native.Mathlib.Nat.{le-refl}
 use native.Mathlib.Omega.{arith}
 use lib.IntN.{ℤ, pos}
 use lib.Signed.{ltZ}
 use lib.ListN.{length, getD, length-append, List·getD-append}
 use lib.Seq.{getD-at}
+use Rattle.region.specs.Region.{inRegion}
 use Rattle.partition.specs.Marks.{dimensionMarks}
-use Rattle.partition.specs.Region.{inRegion}
 use Rattle.codes.specs.Codes.{codeRegion}
 use Rattle.cells.specs.Cells.{InCell, inFirst, hasValue, noneEmpty}
-use Rattle.distance.specs.Distance.{squared, firstDistance, distanceOf}
-use Rattle.distance.specs.Bounds.{shortest, longest, firstBound, lowerOf, upperOf}
-use Rattle.distance.specs.Steps.{Inside, shortest-le, le-longest, Reached, shortest-reached, longest-reached}
-
-pub squared-le : {a b : ℕ} → a ≤ b → squared a ≤ squared b
-squared-le h = mul-le-mul h h
+use Rattle.step.specs.Step.{shortest, longest, squared-le}
+use Rattle.step.specs.Steps.{Inside, shortest-le, le-longest, Reached, shortest-reached, longest-reached}
+use Rattle.distance.specs.Distance.{firstDistance, distanceOf}
+use Rattle.distance.specs.Bounds.{firstBound, lowerOf, upperOf}
 
 -- a value of a region lies between the region's marks, and the other way round
 pub in-region : (marks : List ℤ) (r : ℕ) (v : ℤ) → inRegion marks r v ≡ true → Inside (getD marks r (pos 0)) v (getD marks (suc r) (pos 0))

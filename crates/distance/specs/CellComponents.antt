@@ -11,12 +11,13 @@ use lib.ListN.{length, getD}
 use Rattle.limits.specs.Limits.{isComponent, isMark, greatestComponent, leastMark, greatestMark}
 use Rattle.limits.specs.Tests.{All, all-fails}
 use Rattle.whole.specs.Components.{areComponents, all-components}
-use Rattle.partition.specs.Marks.{dimensionMarks, notAbove, goodDimension, goodFirst, goodMarks}
-use Rattle.partition.specs.Region.{inRegion}
+use Rattle.region.specs.Dimension.{notAbove, goodDimension}
+use Rattle.region.specs.Region.{inRegion}
+use Rattle.partition.specs.Marks.{dimensionMarks, goodFirst, goodMarks}
 use Rattle.codes.specs.Codes.{codeRegion}
 use Rattle.cells.specs.Cells.{InCell, inFirst}
-use Rattle.distance.specs.Order.{lt-pred, le-trans}
-use Rattle.distance.specs.Steps.{Inside}
+use Rattle.step.specs.Order.{lt-pred, le-trans}
+use Rattle.step.specs.Steps.{Inside}
 use Rattle.distance.specs.CellBounds.{in-region}
 
 -- the value before a mark is at most the greatest component

@@ -1,17 +1,10 @@
 -- The distance of a vector from a query: "the sum of squared differences" (document 01, "Distance, bounds, reading order").
 -- Assumes nothing.
 use mathlib.Core.List.{List}
-use Prim.Native.Nat.{ℕ, zero, suc, _+_, _*_}
-use lib.IntN.{ℤ, pos, natAbs, _-ℤ_}
+use Prim.Native.Nat.{ℕ, zero, suc, _+_}
+use lib.IntN.{ℤ, pos}
 use lib.ListN.{getD}
-
--- how far two whole numbers are apart
-abbrev pub gap : ℤ → ℤ → ℕ
-gap a b = natAbs (a -ℤ b)
-
--- what one dimension's step adds to a distance
-abbrev pub squared : ℕ → ℕ
-squared step = step * step
+use Rattle.step.specs.Step.{gap, squared}
 
 -- over the first t dimensions
 unfoldable pub firstDistance : List ℤ → List ℤ → ℕ → ℕ

@@ -1,12 +1,7 @@
 pub mod Distance
 pub mod Measured
 pub mod Bounds
-pub mod Order
-pub mod Places
-pub mod Steps
 pub mod CellBounds
 pub mod CellComponents
 pub mod Small
-pub mod Table
-pub mod TableLaws
 pub mod Values

@@ -12,11 +12,11 @@ use Rattle.limits.specs.Limits.{maxDimensions, leastComponent, greatestComponen
 use Rattle.whole.specs.Components.{areComponents, component-at}
 use Rattle.partition.specs.Marks.{dimensionMarks, goodMarks}
 use Rattle.codes.specs.Codes.{codeRegion}
-use Rattle.distance.specs.Distance.{gap, squared, firstDistance, distanceOf}
-use Rattle.distance.specs.Bounds.{shortest, longest, firstBound, lowerOf, upperOf}
-use Rattle.distance.specs.Places.{gap-size, pred-size}
-use Rattle.distance.specs.Steps.{shortest-le-longest}
-use Rattle.distance.specs.CellBounds.{squared-le}
+use Rattle.step.specs.Step.{gap, squared, shortest, longest, squared-le}
+use Rattle.step.specs.Places.{gap-size, pred-size}
+use Rattle.step.specs.Steps.{shortest-le-longest}
+use Rattle.distance.specs.Distance.{firstDistance, distanceOf}
+use Rattle.distance.specs.Bounds.{firstBound, lowerOf, upperOf}
 use Rattle.distance.specs.CellComponents.{good-mark}
 
 -- ---- sizes

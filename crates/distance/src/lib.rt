@@ -1,7 +1,4 @@
-// Distances of vectors, and a query's table of squared steps.
-mod step;
-pub mod table;
-
+// Distances of vectors.
 use refusal::Refusal;
 ghost use mathlib.Core.Path.{_≡_};
 ghost use Prim.Native.Nat.{_%_, _^_};
@@ -9,12 +6,6 @@ ghost use lib.ListN.{length};
 ghost use Rattle.refusal.specs.First.{first, outcome};
 ghost use Rattle.distance.specs.Distance.{distanceOf};
 ghost use Rattle.distance.specs.Measured.{distanceCauses};
-
-// A cell's two bounds: its least distance and its greatest.
-pub enum Bound {
-    Lower,
-    Upper,
-}
 
 // The answer where a distance is asked for.
 pub enum Distance {
@@ -50,8 +41,8 @@ pub fn squared_distance(d: usize, query: &[i32], vector: &[i32]) -> u64
     let mut sum = 0;
     let mut t = 0;
     while t < d {
-        let gap = step::gap(whole::at(query, t), whole::at(vector, t));
-        sum = std::num::wrapping_add_u64(sum, step::squared(gap as u64));
+        let squared = step::squared_gap(whole::at(query, t), whole::at(vector, t));
+        sum = std::num::wrapping_add_u64(sum, squared);
         t += 1;
     }
     sum

@@ -15,8 +15,8 @@ use Rattle.order.specs.Counted.{counted-length}
 use Rattle.selection.specs.Reading.{Reading, readNext, goesOn, readingOrder}
 use Rattle.selection.specs.Loop.{Reached, after, after-next, reached-next}
 use Rattle.selection.specs.Steps.{next-read}
-use Rattle.selection.specs.Gathered.{Gathers}
-use Rattle.selection.specs.Holds.{Holds}
+use Rattle.best_pairs.specs.Gathered.{Gathers}
+use Rattle.best_pairs.specs.Holds.{Holds}
 use Rattle.cells.specs.Cells.{vectorAt, InCell}
 use Rattle.distance.specs.Small.{distance-small}
 use Rattle.distance.specs.CellComponents.{cell-components}

@@ -3,13 +3,13 @@ mod reading;
 
 use crate::reading::read_all;
 use bounds::sum::sum_bounds;
-use distance::Bound;
-use distance::table::MAX_TABLE;
-use distance::table::fill_table;
 use limits::MAX_VECTORS;
 use refusal::Verdict;
 use search::entry::check_entry;
 use search::search::Searched;
+use step::Bound;
+use table::MAX_TABLE;
+use table::fill_table;
 ghost use mathlib.Core.Path.{_≡_};
 ghost use mathlib.Core.List.{_++_};
 ghost use Prim.Native.Nat.{_≤_};

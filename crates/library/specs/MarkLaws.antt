@@ -14,9 +14,10 @@ use Rattle.limits.specs.Limits.{isMark}
 use Rattle.limits.specs.Tests.{ltZ-not}
 use Rattle.layout.specs.Layout.{bitsOf, markCount, firstMarks}
 use Rattle.layout.specs.Laws.{marks-within}
-use Rattle.partition.specs.Marks.{dimensionMarks, goodDimension, goodFirst, goodMarks}
-use Rattle.partition.specs.Region.{inMarks}
-use Rattle.partition.specs.Regions.{good-first, marks-rise, last-mark}
+use Rattle.region.specs.Dimension.{goodDimension}
+use Rattle.region.specs.Region.{inMarks}
+use Rattle.region.specs.Regions.{good-first, marks-rise, last-mark}
+use Rattle.partition.specs.Marks.{dimensionMarks, goodFirst, goodMarks}
 use Rattle.library.specs.Each.{every}
 use Rattle.library.specs.EachLaws.{every-at}
 

@@ -7,8 +7,8 @@ use Rattle.refusal.specs.declared.Refusal.the-variants.{Count}
 use Rattle.refusal.specs.First.{Row, _⇒_}
 use Rattle.limits.specs.Limits.{isVectorCount}
 use Rattle.layout.specs.Stretch.{shapeCauses}
+use Rattle.region.specs.Region.{inMarks}
 use Rattle.partition.specs.Marks.{dimensionMarks}
-use Rattle.partition.specs.Region.{inMarks}
 use Rattle.library.specs.Each.{every}
 
 -- 1, 2, 3: the counts of a library

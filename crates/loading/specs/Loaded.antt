@@ -23,8 +23,9 @@ use Rattle.whole.specs.Components.{areComponents, all-components}
 use Rattle.layout.specs.Layout.{markCount, firstMarks}
 use Rattle.layout.specs.Laws.{marks-within}
 use Rattle.layout.specs.Stretch.{shapeCauses, Shape, shape}
-use Rattle.partition.specs.Marks.{dimensionMarks, notAbove, goodDimension, goodMarks}
-use Rattle.partition.specs.Region.{inMarks}
+use Rattle.region.specs.Dimension.{notAbove, goodDimension}
+use Rattle.region.specs.Region.{inMarks}
+use Rattle.partition.specs.Marks.{dimensionMarks, goodMarks}
 use Rattle.records.specs.Records.{headKind, markKind, vectorKind, endKind, recordLength, kindOf, valueOf}
 use Rattle.records.specs.RowLaws.{both}
 use Rattle.records.specs.Frame.{frameCauses, framed}

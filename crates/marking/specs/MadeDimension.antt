@@ -17,9 +17,9 @@ use Rattle.limits.specs.Limits.{isComponent, isMark}
 use Rattle.limits.specs.Tests.{Between, between}
 use Rattle.whole.specs.Keys.{keyOf, key-le, key-lt, key-component, key-mark, component-small, mark-small}
 use Rattle.order.specs.Pair.{countFrom}
-use Rattle.partition.specs.Marks.{notAbove, goodDimension}
-use Rattle.partition.specs.Region.{firstMark, lastMark, inMarks}
-use Rattle.partition.specs.Regions.{within-marks, last-mark}
+use Rattle.region.specs.Dimension.{notAbove, goodDimension}
+use Rattle.region.specs.Region.{firstMark, lastMark, inMarks}
+use Rattle.region.specs.Regions.{within-marks, last-mark}
 use Rattle.marking.specs.Made.{madeDimension}
 use Rattle.marking.specs.InOrder.{counted-map, counted-map-length, Ordered}
 

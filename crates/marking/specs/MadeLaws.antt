@@ -13,8 +13,8 @@ use lib.Seq.{take-all, drop-at, take-append-le, drop-append-le}
 use Rattle.whole.specs.Components.{areComponents}
 use Rattle.layout.specs.Layout.{bitsOf, firstMarks, markCount}
 use Rattle.layout.specs.Laws.{marks-within}
+use Rattle.region.specs.Region.{inMarks}
 use Rattle.partition.specs.Marks.{dimensionMarks, goodFirst, goodMarks}
-use Rattle.partition.specs.Region.{inMarks}
 use Rattle.marking.specs.Made.{column, inOrder, madeDimension, madeFirst, madeMarks}
 use Rattle.marking.specs.InOrder.{column-ordered, column-placed}
 use Rattle.marking.specs.MadeDimension.{made-length, made-good, made-in}

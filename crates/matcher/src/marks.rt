@@ -5,11 +5,12 @@ ghost use lib.ListN.{length, getD};
 ghost use Rattle.refusal.specs.Refusal.{verdictNumber};
 ghost use Rattle.refusal.specs.First.{first, outcome};
 ghost use Rattle.layout.specs.Stretch.{dimensionCauses, stretchOf};
+ghost use Rattle.region.specs.Region.{regionOf};
+ghost use Rattle.region.specs.Lookup.{regionCauses};
 ghost use Rattle.partition.specs.Marks.{dimensionMarks};
 ghost use Rattle.partition.specs.MarksCauses.{marksCauses, partCauses};
-ghost use Rattle.partition.specs.Region.{regionOf};
-ghost use Rattle.partition.specs.Lookup.{regionCauses};
-ghost use Rattle.partition.specs.View.{seenMarks, valueCauses};
+ghost use Rattle.partition.specs.Parts.{seenMarks};
+ghost use Rattle.view.specs.View.{valueCauses};
 ghost use Rattle.marking.specs.Made.{madeMarks};
 ghost use Rattle.marking.specs.Making.{makeCauses};
 
@@ -37,7 +38,7 @@ pub extern "C" fn matcher_stretch(
 pub extern "C" fn matcher_check_marks(d: usize, b: usize, marks: &[i32]) -> u32
     ensures { λ r. ⌜ r ≡ verdictNumber (first (marksCauses d b (now (marks .entry)))) ⌝ }
 {
-    partition::marks::check_marks(d, b, marks).number()
+    partition::check_marks(d, b, marks).number()
 }
 
 // The same, and whether there is a dimension of this number, from 1.
@@ -45,7 +46,7 @@ pub extern "C" fn matcher_check_marks(d: usize, b: usize, marks: &[i32]) -> u32
 pub extern "C" fn matcher_check_part(d: usize, b: usize, marks: &[i32], j: usize) -> u32
     ensures { λ r. ⌜ r ≡ verdictNumber (first (partCauses d b (now (marks .entry)) j)) ⌝ }
 {
-    partition::marks::check_part(d, b, marks, j).number()
+    partition::check_part(d, b, marks, j).number()
 }
 
 // How many marks dimension j has, 0 where they are refused.
@@ -53,7 +54,7 @@ pub extern "C" fn matcher_check_part(d: usize, b: usize, marks: &[i32], j: usize
 pub extern "C" fn matcher_part_length(d: usize, b: usize, marks: &[i32], j: usize) -> usize
     ensures { λ r. ⌜ r ≡ length (seenMarks d b (now (marks .entry)) j) ⌝ }
 {
-    partition::view::dimension_marks(d, b, marks, j).len()
+    view::dimension_marks(d, b, marks, j).len()
 }
 
 // Dimension j's mark at an index, 0 past the last and where the marks are refused.
@@ -61,7 +62,7 @@ pub extern "C" fn matcher_part_length(d: usize, b: usize, marks: &[i32], j: usiz
 pub extern "C" fn matcher_part_at(d: usize, b: usize, marks: &[i32], j: usize, i: usize) -> i32
     ensures { λ r. ⌜ r ≡ getD (seenMarks d b (now (marks .entry)) j) i (pos 0) ⌝ }
 {
-    whole::at(partition::view::dimension_marks(d, b, marks, j), i)
+    whole::at(view::dimension_marks(d, b, marks, j), i)
 }
 
 // The region of a value in dimension j's marks.
@@ -78,7 +79,7 @@ pub extern "C" fn matcher_region_of(
     ensures { λ _. ⌜ now (region .exit)
         ≡ outcome (first (valueCauses d b (now (marks .entry)) j v)) (regionOf (dimensionMarks d b (now (marks .entry)) j) v) (λ _. 0) ⌝ }
 {
-    tell::region(partition::view::region_of(d, b, marks, j, v), region)
+    tell::region(view::region_of(d, b, marks, j, v), region)
 }
 
 // The region of a value in one dimension's marks, of which there is one more than regions.
@@ -87,7 +88,7 @@ pub extern "C" fn matcher_region(marks: &[i32], regions: usize, v: i32, region: 
     ensures { λ r. ⌜ r ≡ verdictNumber (first (regionCauses (now (marks .entry)) regions v)) ⌝ }
     ensures { λ _. ⌜ now (region .exit) ≡ outcome (first (regionCauses (now (marks .entry)) regions v)) (regionOf (now (marks .entry)) v) (λ _. 0) ⌝ }
 {
-    tell::region(partition::region::region(marks, regions, v), region)
+    tell::region(region::region(marks, regions, v), region)
 }
 
 // The marks of d dimensions, with b bits in all, made from n vectors.

@@ -34,8 +34,8 @@ use Rattle.library.specs.Library.{Library, markTotal, markPlace, vectorPlace, l
 use Rattle.library.specs.Tests.{inside}
 use Rattle.library.specs.Sizes.{mark-place, vector-place, library-length, marks-few}
 use Rattle.loading.specs.Load.{recordCauses, headCauses, markCauses, zeroBeyond, componentsCauses, vectorCauses, marksCauses, vectorsCauses, endCauses}
+use Rattle.region.specs.Region.{inMarks}
 use Rattle.partition.specs.Marks.{dimensionMarks}
-use Rattle.partition.specs.Region.{inMarks}
 use Rattle.query.specs.Query.{isReading, readingOf, readingCauses, recordsCauses as queryCauses, nextRecord}
 use Rattle.text.specs.Text.{refusedText}
 use Rattle.matching.specs.Match.{behind, kLength, kCauses, matchCauses, matchText}

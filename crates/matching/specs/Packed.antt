@@ -9,8 +9,8 @@ use lib.IntN.{ℤ, pos}
 use lib.ListN.{length, getD}
 use Rattle.refusal.specs.declared.Verdict.the-variants.{Accepted}
 use Rattle.refusal.specs.First.{first}
+use Rattle.region.specs.Region.{inMarks}
 use Rattle.partition.specs.Marks.{dimensionMarks}
-use Rattle.partition.specs.Region.{inMarks}
 use Rattle.codes.specs.PackLaws.{next-column}
 use Rattle.approximation.specs.Vectors.{insideFrom, vectorsInside, vectorCodes}
 use Rattle.cells.specs.Cells.{Own}

@@ -26,9 +26,9 @@ use Rattle.order.specs.Members.{_∈_}
 use Rattle.order.specs.Counted.{counted, counted-length}
 use Rattle.selection.specs.Theorems.{reads-among, reads-count, best-length, best-entries}
 use Rattle.cells.specs.Cells.{vectorAt}
-use Rattle.distance.specs.Distance.{gap, squared, firstDistance, distanceOf}
-use Rattle.distance.specs.Places.{gap-size}
-use Rattle.distance.specs.CellBounds.{squared-le}
+use Rattle.step.specs.Step.{gap, squared, squared-le}
+use Rattle.step.specs.Places.{gap-size}
+use Rattle.distance.specs.Distance.{firstDistance, distanceOf}
 use Rattle.search.specs.Search.{Library as Searchable, numbersIn, distanceIn, lowIn, searched}
 use Rattle.records.specs.Bytes.{AreBytes}
 use Rattle.records.specs.ByteLaws.{bytes-drop}

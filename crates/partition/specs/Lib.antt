@@ -1,10 +1,3 @@
 pub mod Marks
-pub mod Parts
 pub mod MarksCauses
-pub mod Region
-pub mod Within
-pub mod Regions
-pub mod Located
-pub mod RegionCount
-pub mod Lookup
-pub mod View
+pub mod Parts

@@ -20,8 +20,8 @@ use Rattle.whole.specs.Components.{component-at}
 use Rattle.layout.specs.Layout.{markCount, firstMarks}
 use Rattle.layout.specs.Laws.{marks-within}
 use Rattle.layout.specs.Stretch.{shapeCauses}
+use Rattle.region.specs.Region.{inMarks}
 use Rattle.partition.specs.Marks.{dimensionMarks}
-use Rattle.partition.specs.Region.{inMarks}
 use Rattle.records.specs.Records.{headKind, markKind, vectorKind, endKind, formats, isAmong, isKind, recordBytes, kindOf, valueOf}
 use Rattle.records.specs.RowLaws.{go-on}
 use Rattle.records.specs.Frame.{frameCauses, frame-passes, record-framed}

@@ -16,9 +16,9 @@ use Rattle.limits.specs.Tests.{between}
 use Rattle.whole.specs.Components.{areComponents, component-at, all-components}
 use Rattle.order.specs.Pair.{keyed, numbersOf, countFrom}
 use Rattle.order.specs.Rank.{keyAt, ranking}
-use Rattle.selection.specs.Reading.{scan}
-use Rattle.selection.specs.Selected.{keyed-numbers, keyed-keys, scan-keyed}
 use Rattle.order.specs.Pairs.{keysOf}
+use Rattle.selection.specs.Reading.{scan}
+use Rattle.least.specs.Selected.{keyed-numbers, keyed-keys, scan-keyed}
 use Rattle.cells.specs.Cells.{vectorAt}
 use Rattle.distance.specs.Small.{distance-small}
 use Rattle.distance.specs.Values.{valuesFrom, values-length}

@@ -118,7 +118,7 @@ fn scan_all(
 {
     let mut keys = [0u64; MAX_VECTORS];
     measure_all(d, query, vectors, &mut keys[..n]);
-    selection::least::select(&keys[..n], numbers, distances);
+    least::select(&keys[..n], numbers, distances);
 }
 
 // The distance of each vector from the query.

@@ -9,8 +9,3 @@ pub mod Stable
 pub mod Changed
 pub mod Needed
 pub mod Least
-pub mod Kept
-pub mod Place
-pub mod Holds
-pub mod Gathered
-pub mod Selected

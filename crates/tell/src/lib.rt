@@ -3,14 +3,14 @@
 use bounds::cell::Bounds;
 use distance::Distance;
 use loading::Loaded;
-use partition::region::Lookup;
 use reading::Intake;
 use reading::Reading;
+use region::Lookup;
 use search::search::Searched;
 ghost use mathlib.Core.Path.{_≡_};
 ghost use Rattle.refusal.specs.Refusal.{verdictNumber};
 ghost use Rattle.reading.specs.Intake.{intakeOf};
-ghost use Rattle.partition.specs.Lookup.{lookupNumber, lookupRegion};
+ghost use Rattle.region.specs.Lookup.{lookupNumber, lookupRegion};
 ghost use Rattle.distance.specs.Measured.{distanceNumber};
 ghost use Rattle.bounds.specs.Bounded.{boundsNumber, lowerOr, upperOr};
 ghost use Rattle.search.specs.Answer.{searchedNumber, searchedCount};

@@ -78,7 +78,7 @@ fn check_values(d: usize, b: usize, n: usize, marks: &[i32], components: &[i32])
     if !whole::components::are_components(components) {
         return Verdict::Refused(Refusal::Component);
     }
-    let Verdict::Accepted = partition::marks::check_marks(d, b, marks) else {
+    let Verdict::Accepted = partition::check_marks(d, b, marks) else {
         return Verdict::Refused(Refusal::Mark);
     };
     if !all_inside(d, b, n, marks, components) {

@@ -12,10 +12,10 @@ use lib.ListN.{length, getD, take, drop, set, length-set, drop-of-length-le}
 use mir.Syntax.{w32}
 use mir.ValLaws.{toZ-ofZ}
 use Rattle.order.proofs.Written.{written-one}
+use Rattle.region.specs.Region.{regionOf, inMarks}
+use Rattle.region.specs.Located.{Located, located-is}
 use Rattle.partition.specs.Marks.{dimensionMarks}
-use Rattle.partition.specs.Region.{regionOf, inMarks}
-use Rattle.partition.specs.Located.{Located, located-is}
-use Rattle.partition.specs.View.{marksAt}
+use Rattle.partition.specs.Parts.{marksAt}
 use Rattle.codes.specs.Codes.{nextColumn}
 use Rattle.approximation.specs.Vectors.{vectorRegions, regionsFrom, insideFrom}
 use Rattle.approximation.specs.VectorCauses.{Inside, good-each}

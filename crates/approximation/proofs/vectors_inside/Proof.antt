@@ -9,7 +9,7 @@ use lib.IntN.{pos}
 use lib.ListN.{length, getD, drop, drop-of-length-le}
 use mir.Syntax.{w32}
 use mir.ValLaws.{toZ-ofZ}
-use Rattle.partition.specs.Region.{inMarks}
+use Rattle.region.specs.Region.{inMarks}
 use Rattle.codes.specs.Codes.{nextColumn}
 use Rattle.approximation.specs.Vectors.{vectorsInside, insideFrom}
 use Rattle.codes.proofs.Columns.{Width, width, next-is}

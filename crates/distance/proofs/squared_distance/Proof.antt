@@ -1,14 +1,15 @@
 -- `squared_distance` meets its contract: the sum is that of the first t dimensions, modulo 2^64. Assumes nothing.
-use mathlib.Core.Path.{_≡_, refl, ap, _∙_}
-use Prim.Native.Nat.{ℕ, _-_, _%_, _^_, _≤_}
+use mathlib.Core.Path.{_≡_, refl}
+use Prim.Native.Nat.{_-_, _%_, _^_, _≤_}
 use native.Mathlib.Numerals.{add-one}
 use native.Mathlib.Omega.{arith}
 use borrow.Author.Needs.{needs}
 use lib.IntN.{pos}
 use lib.ListN.{getD}
-use Rattle.distance.specs.Distance.{gap, squared, firstDistance}
-use Rattle.distance.proofs.Read.{read-back}
-use Rattle.distance.proofs.Sum.{sum-more-mod}
+use Rattle.step.specs.Step.{gap, squared}
+use Rattle.step.proofs.Read.{read-back}
+use Rattle.distance.specs.Distance.{firstDistance}
+use Rattle.distance.proofs.Sum.{sum-more}
 use Rattle.distance.proofs.squared_distance.Statement.{statement}
 use Rattle.distance.proofs.squared_distance.Tie as tie
 
@@ -19,18 +20,18 @@ abbrev μ-loop : tie.MeasureT-loop
 μ-loop d query vector sum₀ t₀ sum t = d - t
 
 -- the dimension's gap, squared
-here : (c : tie.After-squared Inv-loop μ-loop) → let at = c .before .before .before .before .before in
-    c .squared .result ≡ squared (gap (getD (at .before .args .query .now) (at .loop .t) (pos 0)) (getD (at .before .args .vector .now) (at .loop .t) (pos 0))) % 2 ^ 64
+here : (c : tie.After-squared-gap Inv-loop μ-loop) → let at = c .before .before .before .before in
+    c .squared-gap .result ≡ squared (gap (getD (at .before .args .query .now) (at .loop .t) (pos 0)) (getD (at .before .args .vector .now) (at .loop .t) (pos 0)))
 here c =
-    let query = read-back (record { sfits = c .before .before .before .at .ok }) (c .before .before .before .at .ensures) in
-    let vector = read-back (record { sfits = c .before .before .at2 .ok }) (c .before .before .at2 .ensures) in
-    c .squared .ensures ∙ ap (λ (n : ℕ). squared n % 2 ^ 64) (rw (query, vector) at (c .before .gap .ensures))
+    let query = read-back (record { sfits = c .before .before .at .ok }) (c .before .before .at .ensures) in
+    let vector = read-back (record { sfits = c .before .at2 .ok }) (c .before .at2 .ensures) in
+    rw (query, vector) at (c .squared-gap .ensures)
 
 loop-again : tie.Need-loop-again Inv-loop μ-loop
 unfolding firstDistance
 loop-again c =
-    let at = c .before .before .before .before .before .before in
-    (omega arith, rw add-one (sum-more-mod (firstDistance (at .before .args .query .now) (at .before .args .vector .now) (at .loop .t)) _ (c .wrapping-add-u64 .ensures) (at .loop .inv .1) (here (c .before))))
+    let at = c .before .before .before .before .before in
+    (omega arith, rw add-one (sum-more (firstDistance (at .before .args .query .now) (at .before .args .vector .now) (at .loop .t)) _ (rw (here (c .before)) at (c .wrapping-add-u64 .ensures)) (at .loop .inv .1)))
 
 returns : tie.Need-returns Inv-loop μ-loop
 returns c =
@@ -47,8 +48,6 @@ squared-distance-spec =
     (λ c κs. search needs)
     (λ c κs. search needs)
     (λ c κs. search needs)
-    (λ c. search needs)
-    (λ c κs. omega (arith, c .gap .ok))
     (λ c κs. search needs)
     (λ c. omega arith)
     (λ c. omega arith)

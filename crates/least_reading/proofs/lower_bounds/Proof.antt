@@ -12,10 +12,11 @@ use Rattle.refusal.specs.declared.Verdict.the-variants.{Accepted}
 use Rattle.refusal.specs.First.{first, outcome, first-append, outcome-accepted}
 use Rattle.limits.specs.Limits.{maxVectors}
 use Rattle.layout.specs.Stretch.{shapeCauses}
-use Rattle.distance.specs.declared.Bound.the-variants.{Lower}
-use Rattle.distance.specs.Table.{maxTable, stepOf, tableOf, lengthCauses, tableCauses, boundSum}
-use Rattle.distance.specs.TableLaws.{bound-sum, table-le}
+use Rattle.step.specs.declared.Bound.the-variants.{Lower}
+use Rattle.step.specs.Step.{stepOf}
 use Rattle.distance.specs.Values.{valuesFrom}
+use Rattle.table.specs.Table.{maxTable, tableOf, lengthCauses, tableCauses, boundSum}
+use Rattle.table.specs.TableLaws.{bound-sum, table-le}
 use Rattle.bounds.specs.Sums.{countedCauses, sumCauses}
 use Rattle.search.specs.Search.{Library, Room, lowIn}
 use Rattle.search.specs.Ready.{Ready}

@@ -7,7 +7,7 @@ use lib.Seq.{length-take-le}
 use borrow.Author.Needs.{needs}
 use Rattle.marking.specs.Made.{column, inOrder, madeDimension}
 use Rattle.marking.specs.Making.{ColumnOf, MarksOf, Ranks}
-use Rattle.partition.proofs.Prefix.{back-within, shared-is, shared-length}
+use Rattle.order.proofs.Prefix.{back-within, shared-is, shared-length}
 use Rattle.marking.proofs.make_dimension.Statement.{statement}
 use Rattle.marking.proofs.make_dimension.Tie as tie
 

@@ -15,7 +15,7 @@ use Rattle.order.specs.Rank.{rankCauses, ranking}
 use Rattle.marking.specs.Made.{column}
 use Rattle.marking.specs.Making.{ColumnOf, Ranks}
 use Rattle.marking.specs.InOrder.{column-length}
-use Rattle.partition.proofs.Prefix.{back-within, shared-is}
+use Rattle.order.proofs.Prefix.{back-within, shared-is}
 use Rattle.marking.proofs.rank_column.Statement.{statement}
 use Rattle.marking.proofs.rank_column.Tie as tie
 

@@ -11,11 +11,11 @@ use Rattle.refusal.specs.declared.Verdict.the-variants.{Accepted}
 use Rattle.refusal.specs.First.{first, outcome-accepted}
 use Rattle.limits.specs.Limits.{maxVectors}
 use Rattle.order.specs.Rank.{keyAt, ranking}
-use Rattle.selection.specs.Selected.{leastCauses}
+use Rattle.order.proofs.Prefix.{back-within, shared-is, shared-length}
 use Rattle.distance.specs.Values.{valuesFrom}
 use Rattle.scan.specs.Scanning.{distancesOf}
 use Rattle.scan.specs.Scanned.{Vectors, scan-numbers, scan-keys}
-use Rattle.partition.proofs.Prefix.{back-within, shared-is, shared-length}
+use Rattle.least.specs.Selected.{leastCauses}
 use Rattle.scan.proofs.scan_all.Statement.{statement}
 use Rattle.scan.proofs.scan_all.Tie as tie
 

@@ -7,9 +7,9 @@ use lib.ListN.{length}
 use lib.Seq.{length-take-le}
 use borrow.Author.Needs.{needs}
 use Rattle.refusal.specs.First.{outcome-accepted}
-use Rattle.partition.proofs.Prefix.{back-within, shared-is}
-use Rattle.distance.specs.Table.{boundSum}
-use Rattle.distance.specs.TableLaws.{bound-sum, table-le}
+use Rattle.order.proofs.Prefix.{back-within, shared-is}
+use Rattle.table.specs.Table.{boundSum}
+use Rattle.table.specs.TableLaws.{bound-sum, table-le}
 use Rattle.bounds.specs.Bounded.{Bounded, bounded, table-accepted}
 use Rattle.bounds.proofs.cell.bound_of.Statement.{statement}
 use Rattle.bounds.proofs.cell.bound_of.Tie as tie

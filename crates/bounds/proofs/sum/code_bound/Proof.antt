@@ -5,10 +5,10 @@ use native.Mathlib.Nat.{suc-mul}
 use native.Mathlib.Omega.{arith}
 use borrow.Author.Needs.{needs}
 use lib.ListN.{length}
-use Rattle.distance.specs.Table.{boundSum}
-use Rattle.bounds.specs.Run.{two-bits, two-marks, two-runs}
 use Rattle.cells.proofs.Runs.{Sized, sized}
+use Rattle.bounds.specs.Run.{two-bits, two-marks, two-runs}
 use Rattle.distance.proofs.Sum.{sum-more-mod}
+use Rattle.table.specs.Table.{boundSum}
 use Rattle.bounds.proofs.sum.code_bound.Statement.{statement}
 use Rattle.bounds.proofs.sum.code_bound.Tie as tie
 

@@ -5,9 +5,9 @@ use native.Mathlib.Nat.{mul-le-mul, le-refl}
 use native.Mathlib.Omega.{arith}
 use lib.ListN.{length, length-set}
 use borrow.Author.Needs.{needs}
-use Rattle.distance.specs.Table.{boundSum}
 use Rattle.distance.specs.Values.{valuesFrom, values-length, value-at}
 use Rattle.distance.proofs.Filling.{Filling, filling-start, filling-next, filling-end}
+use Rattle.table.specs.Table.{boundSum}
 use Rattle.bounds.proofs.sum.sum_all.Statement.{statement}
 use Rattle.bounds.proofs.sum.sum_all.Tie as tie
 

@@ -18,7 +18,7 @@ use Rattle.order.specs.Rank.{rankCauses}
 use Rattle.order.specs.Ranking.{ranked-count}
 use Rattle.selection.specs.Reading.{readingOrder}
 use Rattle.selection.specs.Loop.{after, reached-first}
-use Rattle.selection.specs.Gathered.{gathers-sorted}
+use Rattle.best_pairs.specs.Gathered.{gathers-sorted}
 use Rattle.search.specs.declared.search.Searched.the-variants.{Refused}
 use Rattle.search.specs.Search.{Library, Room, numbersIn, distanceIn, lowIn}
 use Rattle.search.specs.Ready.{Ready, ready-room}

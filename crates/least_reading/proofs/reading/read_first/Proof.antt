@@ -14,7 +14,7 @@ use Rattle.order.specs.Counted.{counted-length}
 use Rattle.order.specs.Ranking.{ranked-count}
 use Rattle.selection.specs.Reading.{readingOrder}
 use Rattle.selection.specs.Loop.{reached-first, goes-on-first}
-use Rattle.selection.specs.Gathered.{Gathers, gathers-start, gathers-next}
+use Rattle.best_pairs.specs.Gathered.{Gathers, gathers-start, gathers-next}
 use Rattle.search.specs.Search.{Library, Room, numbersIn, distanceIn, lowIn, inOwnCell, inOwnCells}
 use Rattle.search.specs.Ready.{library, Ready, place, ordered-below}
 use Rattle.least_reading.specs.Answered.{FirstReads, cells-snoc, measured, next-outside}

@@ -18,8 +18,8 @@ use Rattle.order.specs.Counted.{counted-length}
 use Rattle.order.specs.Ranking.{ranked-count}
 use Rattle.selection.specs.Reading.{readingOrder, goesOn}
 use Rattle.selection.specs.Loop.{after, reached-next, reached-stop, reached-end, full-after}
-use Rattle.selection.specs.Kept.{Keeps}
-use Rattle.selection.specs.Holds.{holds-keys, holds-numbers, arrays-goes-on, arrays-next}
+use Rattle.best_pairs.specs.Kept.{Keeps}
+use Rattle.best_pairs.specs.Holds.{holds-keys, holds-numbers, arrays-goes-on, arrays-next}
 use Rattle.search.specs.declared.search.Searched.the-variants.{Read, Refused}
 use Rattle.search.specs.Search.{Library, Room, numbersIn, distanceIn, lowIn, inOwnCell, searched}
 use Rattle.distance.specs.Values.{valuesFrom, values-length, value-at}

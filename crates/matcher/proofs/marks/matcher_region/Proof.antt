@@ -5,7 +5,7 @@ use mir.Syntax.{w32}
 use mir.ValLaws.{toZ-ofZ}
 use Rattle.refusal.specs.declared.Verdict.{Verdict}
 use Rattle.refusal.specs.First.{first}
-use Rattle.partition.specs.Lookup.{regionCauses, lookedUp, lookupNumber, lookupRegion}
+use Rattle.region.specs.Lookup.{regionCauses, lookedUp, lookupNumber, lookupRegion}
 use Rattle.matcher.proofs.Told.{told-number, told-value}
 use Rattle.matcher.proofs.marks.matcher_region.Statement.{statement}
 use Rattle.matcher.proofs.marks.matcher_region.Tie as tie

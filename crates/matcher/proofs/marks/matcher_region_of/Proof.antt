@@ -8,12 +8,12 @@ use mir.Syntax.{w32}
 use mir.ValLaws.{toZ-ofZ}
 use Rattle.refusal.specs.declared.Verdict.{Verdict}
 use Rattle.refusal.specs.First.{first, outcome}
-use Rattle.partition.specs.declared.region.Lookup.{Lookup}
-use Rattle.partition.specs.declared.region.Lookup.the-variants.{Region, Refused}
+use Rattle.region.specs.declared.Lookup.{Lookup}
+use Rattle.region.specs.declared.Lookup.the-variants.{Region, Refused}
+use Rattle.region.specs.Region.{regionOf}
+use Rattle.region.specs.Lookup.{lookupNumber, lookupRegion}
 use Rattle.partition.specs.Marks.{dimensionMarks}
-use Rattle.partition.specs.Region.{regionOf}
-use Rattle.partition.specs.Lookup.{lookupNumber, lookupRegion}
-use Rattle.partition.specs.View.{valueCauses}
+use Rattle.view.specs.View.{valueCauses}
 use Rattle.matcher.proofs.Told.{told-number, told-value}
 use Rattle.matcher.proofs.marks.matcher_region_of.Statement.{statement}
 use Rattle.matcher.proofs.marks.matcher_region_of.Tie as tie

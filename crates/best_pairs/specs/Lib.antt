@@ -1,0 +1,4 @@
+pub mod Kept
+pub mod Place
+pub mod Holds
+pub mod Gathered

@@ -1,0 +1,4 @@
+pub mod Step
+pub mod Order
+pub mod Places
+pub mod Steps

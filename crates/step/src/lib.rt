@@ -1,0 +1,92 @@
+// One dimension's steps. Differences are those of keys.
+ghost use mathlib.Core.Path.{_≡_};
+ghost use Prim.Native.Nat.{_+_, _-_, _%_, _^_, _≤_};
+ghost use lib.IntN.{predℤ};
+ghost use Rattle.step.specs.Step as Step;
+ghost use Rattle.step.specs.Step.{shortest, longest, stepOf};
+
+// A cell's two bounds: its least distance and its greatest.
+pub enum Bound {
+    Lower,
+    Upper,
+}
+
+// The square of how far two numbers are apart.
+pub fn squared_gap(a: i32, b: i32) -> u64
+    ensures { λ r. ⌜ r ≡ Step.squared (Step.gap a b) ⌝ }
+{
+    let apart = gap(a, b) as u64;
+    apart * apart
+}
+
+// How far two numbers are apart.
+fn gap(a: i32, b: i32) -> u32
+    ensures { λ r. ⌜ r ≡ Step.gap a b ⌝ }
+{
+    if a < b {
+        return (whole::key(b) - whole::key(a)) as u32;
+    }
+    (whole::key(a) - whole::key(b)) as u32
+}
+
+// How far a number is from the last value before a mark.
+fn gap_to_last(q: i32, high: i32) -> u64
+    ensures { λ r. ⌜ (r ≡ Step.gap q (predℤ high)) × (r ≤ 2 ^ 32) ⌝ }
+{
+    difference(whole::key(q) + 1, whole::key(high))
+}
+
+fn difference(k: u64, l: u64) -> u64
+    ensures { λ r. ⌜ r ≡ (k - l) + (l - k) ⌝ }
+{
+    if k < l {
+        return l - k;
+    }
+    k - l
+}
+
+// What the step to the region from low up to, and without, high adds to a bound, modulo 2^64.
+pub fn squared_step(bound: Bound, q: i32, low: i32, high: i32) -> u64
+    ensures { λ r. ⌜ r ≡ Step.squared (stepOf bound q low high) % 2 ^ 64 ⌝ }
+{
+    match bound {
+        Bound::Lower => squared(shortest_step(q, low, high)),
+        Bound::Upper => squared(longest_step(q, low, high)),
+    }
+}
+
+// The shortest step to that region.
+fn shortest_step(q: i32, low: i32, high: i32) -> u64
+    ensures { λ r. ⌜ (r ≡ shortest q low high) × (r ≤ 2 ^ 32) ⌝ }
+{
+    if q < low {
+        return gap(low, q) as u64;
+    }
+    if high <= q {
+        return gap_to_last(q, high);
+    }
+    0
+}
+
+// The longest step to that region.
+fn longest_step(q: i32, low: i32, high: i32) -> u64
+    ensures { λ r. ⌜ (r ≡ longest q low high) × (r ≤ 2 ^ 32) ⌝ }
+{
+    let first = gap(q, low) as u64;
+    let last = gap_to_last(q, high);
+    if first < last {
+        return last;
+    }
+    first
+}
+
+// What a step adds to a distance, modulo 2^64.
+fn squared(step: u64) -> u64
+    requires { ⌜ step ≤ 2 ^ 32 ⌝ }
+    ensures { λ r. ⌜ r ≡ Step.squared step % 2 ^ 64 ⌝ }
+{
+    if step == 0x1_0000_0000 {
+        return 0;
+    }
+    step * step
+}

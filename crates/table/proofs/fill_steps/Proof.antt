@@ -1,0 +1,89 @@
+-- `fill_steps` meets its contract: the entries written so far, with those from r on, are the whole. Assumes nothing.
+use mathlib.Core.Path.{_≡_, refl, ap, _∙_}
+use mathlib.Core.List.{List, [], _∷_, _++_}
+use Prim.Native.Nat.{ℕ, suc, _+_, _-_, _%_, _^_, _≤_, _<_}
+use native.Mathlib.Nat.{sub-zero}
+use native.Mathlib.Numerals.{add-one}
+use native.Mathlib.Omega.{arith}
+use borrow.Author.Needs.{needs}
+use lib.IntN.{ℤ}
+use lib.ListN.{length, take, length-set}
+use mir.Syntax.{w32}
+use mir.Val.{toZ, ofZ}
+use mir.ValLaws.{toZ-ofZ}
+use Rattle.order.proofs.Written.{written-one, written-all}
+use Rattle.step.specs.Step.{stepOf}
+use Rattle.step.proofs.Read.{read-back}
+use Rattle.distance.specs.Bounds.{stepTo}
+use Rattle.table.specs.Table.{stepsFrom}
+use Rattle.table.proofs.fill_steps.Statement.{statement}
+use Rattle.table.proofs.fill_steps.Tie as tie
+
+abbrev Inv-loop : tie.InvT-loop
+Inv-loop bound q marks table₀ r₀ table r =
+    (r ≤ length table₀) × (length table ≡ length table₀) × (take r table ++ stepsFrom (stepOf bound) (toZ w32 q) marks r (length table₀ - r) ≡ stepsFrom (stepOf bound) (toZ w32 q) marks 0 (length table₀))
+
+abbrev μ-loop : tie.MeasureT-loop
+μ-loop bound q marks table₀ r₀ table r = length table₀ - r
+
+steps-one : (step : ℤ → ℤ → ℤ → ℕ) (q : ℤ) (marks : List ℤ) (r n : ℕ) → r < n → stepsFrom step q marks r (n - r) ≡ stepTo step q marks r % 2 ^ 64 ∷ stepsFrom step q marks (r + 1) (n - (r + 1))
+unfolding stepsFrom
+steps-one step q marks r n within =
+    let left : n - r ≡ suc (n - (r + 1)) = omega arith in
+    rw (left, add-one)
+
+steps-none : (step : ℤ → ℤ → ℤ → ℕ) (q : ℤ) (marks : List ℤ) (r n : ℕ) → n ≤ r → stepsFrom step q marks r (n - r) ≡ []
+unfolding stepsFrom
+steps-none step q marks r n past =
+    let left : n - r ≡ 0 = omega arith in
+    rw left
+
+-- the query's component, as the loop has it
+abbrev component : ℤ → ℤ
+component q = toZ w32 (ofZ w32 q)
+
+-- the entry of region r
+here : (c : tie.After-squared-step Inv-loop μ-loop) → let at = c .before .before .before .before in let args = at .before .before .args in
+    c .squared-step .result ≡ stepTo (stepOf (args .bound)) (component (args .q)) (args .marks .now) (at .loop .r) % 2 ^ 64
+here c =
+    let two = c .before in
+    let one = two .before in
+    let low = read-back (record { sfits = one .at .ok }) (one .at .ensures) in
+    let high = read-back (record { sfits = two .at2 .ok }) (two .at2 .ensures) in
+    rw (low, high, add-one) at (c .squared-step .ensures)
+
+loop-again : tie.Need-loop-again Inv-loop μ-loop
+loop-again c =
+    let at = c .before .before .before .before in
+    let args = at .before .before .args in
+    let room : at .loop .r < length (at .loop .table) = omega arith in
+    let rest = steps-one (stepOf (args .bound)) (component (args .q)) (args .marks .now) (at .loop .r) (length (args .table .now)) (omega arith) in
+    (omega arith, simp length-set (at .loop .inv .1), rw (here c) (written-one (at .loop .table) (at .loop .r) _ _ _ room (rw rest at (at .loop .inv .2))))
+
+returns : tie.Need-returns Inv-loop μ-loop
+returns c =
+    let at = c .before .loop in
+    let start = c .before .before .before in
+    let args = start .args in
+    let rest = steps-none (stepOf (args .bound)) (component (args .q)) (args .marks .now) (at .r) (length (args .table .now)) (omega arith) in
+    written-all (at .table) (at .r) _ (omega arith) (rw rest at (at .inv .2))
+    ∙ ap (λ (q : ℤ). stepsFrom (stepOf (args .bound)) q (args .marks .now) 0 (length (args .table .now))) (toZ-ofZ w32 (args .q) (start .fits .q))
+
+pub fill-steps-spec : {M : Type 1} → statement M
+fill-steps-spec =
+    tie.close
+    (tie.spec
+    Inv-loop
+    μ-loop
+    (λ c. (omega arith, refl, rw sub-zero))
+    (λ c κs. search needs)
+    (λ c. omega arith)
+    (λ c κs. search needs)
+    (λ c κs. search needs)
+    (λ c. omega arith)
+    (λ c. omega arith)
+    (λ c. omega arith)
+    (λ c. omega arith)
+    loop-again
+    (λ c. c .before .loop .inv .1)
+    returns)

@@ -1,0 +1,52 @@
+-- A query's squared steps to every region, worked out once a query (source document 003, section 3.3), so that a code's bound is a sum
+-- of entries. The table has the layout of the marks buffer: a region's entry stands where its lower mark stands. The entry
+-- at a dimension's last mark, where no region begins, is read by no code. Entries are modulo 2^64. Assumes nothing.
+use mathlib.Core.Bool.{not, _&&_}
+use mathlib.Core.List.{List, [], _∷_, _++_}
+use Prim.Native.Nat.{ℕ, zero, suc, _+_, _*_, _%_, _^_}
+use lib.Dec.{eqb}
+use lib.IntN.{ℤ, pos}
+use lib.ListN.{getD}
+use Rattle.refusal.specs.declared.Refusal.the-variants.{Length}
+use Rattle.refusal.specs.First.{Row, _⇒_}
+use Rattle.limits.specs.Limits.{maxDimensions, maxDimensionBits}
+use Rattle.layout.specs.Layout.{markCount, firstMarks}
+use Rattle.layout.specs.Stretch.{shapeCauses}
+use Rattle.partition.specs.Marks.{dimensionMarks}
+use Rattle.codes.specs.Codes.{codeRegion}
+use Rattle.distance.specs.Bounds.{stepTo}
+
+-- n entries from region r on, for one component of the query
+unfoldable pub stepsFrom : (ℤ → ℤ → ℤ → ℕ) → ℤ → List ℤ → ℕ → ℕ → List ℕ
+stepsFrom step q marks r zero = []
+stepsFrom step q marks r (suc n) = stepTo step q marks r % 2 ^ 64 ∷ stepsFrom step q marks (suc r) n
+
+-- the entries of the first t dimensions
+unfoldable pub tableFirst : (ℤ → ℤ → ℤ → ℕ) → ℕ → ℕ → List ℤ → List ℤ → ℕ → List ℕ
+tableFirst step d b marks query zero = []
+tableFirst step d b marks query (suc t) =
+    tableFirst step d b marks query t ++ stepsFrom step (getD query t (pos 0)) (dimensionMarks d b marks (suc t)) 0 (markCount d b (suc t))
+
+abbrev pub tableOf : (ℤ → ℤ → ℤ → ℕ) → ℕ → ℕ → List ℤ → List ℤ → List ℕ
+tableOf step d b marks query = tableFirst step d b marks query d
+
+-- the length of the longest table
+abbrev pub maxTable : ℕ
+maxTable = maxDimensions * (2 ^ maxDimensionBits + 1)
+
+-- the sum of the entries that code i names for the first t dimensions
+unfoldable pub tableSum : ℕ → ℕ → List ℕ → List ℕ → ℕ → ℕ → ℕ
+tableSum d b table codes i zero = 0
+tableSum d b table codes i (suc t) = tableSum d b table codes i t + getD table (firstMarks d b t + codeRegion d b codes i t) 0
+
+-- the same of all dimensions, modulo 2^64
+unfoldable pub boundSum : ℕ → ℕ → List ℕ → List ℕ → ℕ → ℕ
+boundSum d b table codes i = tableSum d b table codes i d % 2 ^ 64
+
+-- the causes for which a table is not filled, by the lengths of marks, query and table: 5 behind 1 and 2
+abbrev pub lengthCauses : ℕ → ℕ → ℕ → ℕ → ℕ → List Row
+lengthCauses d b marks query room =
+    (not (eqb query d && (eqb marks (firstMarks d b d) && eqb room (firstMarks d b d))) ⇒ Length) ∷ []
+
+abbrev pub tableCauses : ℕ → ℕ → ℕ → ℕ → ℕ → List Row
+tableCauses d b marks query room = shapeCauses d b ++ lengthCauses d b marks query room

@@ -1,0 +1,103 @@
+-- What stands in a query's table, and that a code's entries sum up to its bound. Assumes nothing.
+use mathlib.Core.Path.{_≡_, refl, sym, ap, _∙_}
+use mathlib.Core.Bool.{true}
+use mathlib.Core.List.{List}
+use mathlib.Core.Logic.{inl, inr}
+use Prim.Native.Nat.{ℕ, zero, suc, _+_, _%_, _^_, _≤_, _<_}
+use native.Mathlib.Nat.{zero-add, add-zero, add-mod, mod-mod, mod-eq-of-lt, le-refl, le-of-suc-le-suc, eq-or-lt-of-le}
+use native.Mathlib.Omega.{arith}
+use lib.IntN.{ℤ, pos}
+use lib.ListN.{length, getD, length-append, List·getD-append}
+use lib.Seq.{getD-append-add}
+use Rattle.refusal.specs.declared.Verdict.the-variants.{Accepted}
+use Rattle.refusal.specs.First.{first}
+use Rattle.limits.specs.Limits.{maxDimensions, maxDimensionBits}
+use Rattle.whole.specs.Components.{areComponents}
+use Rattle.layout.specs.Layout.{markCount, firstMarks}
+use Rattle.layout.specs.Laws.{marks-le, marks-within, first-next-marks}
+use Rattle.layout.specs.Stretch.{shapeCauses, shape}
+use Rattle.partition.specs.Marks.{dimensionMarks, goodMarks}
+use Rattle.codes.specs.Codes.{codeRegion}
+use Rattle.codes.specs.PackLaws.{code-region-fits}
+use Rattle.step.specs.declared.Bound.{Bound}
+use Rattle.step.specs.declared.Bound.the-variants.{Lower, Upper}
+use Rattle.step.specs.Step.{stepOf}
+use Rattle.distance.specs.Bounds.{stepTo, firstBound}
+use Rattle.distance.specs.Small.{lower-small, upper-small}
+use Rattle.table.specs.Table.{maxTable, stepsFrom, tableFirst, tableOf, tableSum, boundSum}
+
+pub length-steps : (step : ℤ → ℤ → ℤ → ℕ) (q : ℤ) (marks : List ℤ) (r n : ℕ) → length (stepsFrom step q marks r n) ≡ n
+unfolding stepsFrom
+length-steps step q marks r zero = refl
+length-steps step q marks r (suc n) = ap suc (length-steps step q marks (suc r) n)
+
+step-at : (step : ℤ → ℤ → ℤ → ℕ) (q : ℤ) (marks : List ℤ) (r n k : ℕ) → k < n → getD (stepsFrom step q marks r n) k 0 ≡ stepTo step q marks (r + k) % 2 ^ 64
+unfolding stepsFrom
+step-at step q marks r zero k h = absurd (omega arith)
+step-at step q marks r (suc n) zero h = rw (add-zero r)
+step-at step q marks r (suc n) (suc k) h =
+    let shift : r + suc k ≡ suc r + k = omega arith in
+    rw shift (step-at step q marks (suc r) n k (omega arith))
+
+module _ (step : ℤ → ℤ → ℤ → ℕ) (d b : ℕ) (marks query : List ℤ) where
+  pub length-table : (t : ℕ) → length (tableFirst step d b marks query t) ≡ firstMarks d b t
+  unfolding tableFirst firstMarks
+  length-table zero = refl
+  length-table (suc t) = simp (length-append, length-table t, length-steps)
+
+  -- the last dimension's entries
+  entry-last : (t k : ℕ) → k < markCount d b (suc t)
+      → getD (tableFirst step d b marks query (suc t)) (firstMarks d b t + k) 0 ≡ stepTo step (getD query t (pos 0)) (dimensionMarks d b marks (suc t)) k % 2 ^ 64
+  unfolding tableFirst
+  entry-last t k within =
+      let q = getD query t (pos 0) in
+      let part = dimensionMarks d b marks (suc t) in
+      ap (λ (n : ℕ). getD (tableFirst step d b marks query (suc t)) (n + k) 0) (sym (length-table t))
+      ∙ getD-append-add (tableFirst step d b marks query t) (stepsFrom step q part 0 (markCount d b (suc t))) k 0
+      ∙ step-at step q part 0 (markCount d b (suc t)) k within
+      ∙ rw (zero-add k)
+
+  -- dimension t + 1's entries stand from its stretch on, in the table of the first n dimensions
+  entry-at : (n t k : ℕ) → t < n → k < markCount d b (suc t)
+      → getD (tableFirst step d b marks query n) (firstMarks d b t + k) 0 ≡ stepTo step (getD query t (pos 0)) (dimensionMarks d b marks (suc t)) k % 2 ^ 64
+  unfolding tableFirst
+  entry-at zero t k h within = absurd (omega arith)
+  entry-at (suc n) t k h within =
+      elim (eq-or-lt-of-le (le-of-suc-le-suc h)) [
+        | inl e ↦ rw (← e) (entry-last t k within)
+        | inr l ↦ List·getD-append (tableFirst step d b marks query n) _ 0 (firstMarks d b t + k) (before l) ∙ entry-at n t k l within
+      ]
+    where
+      before : t < n → firstMarks d b t + k < length (tableFirst step d b marks query n)
+      before l = omega (arith, length-table n, marks-within d b n t l, first-next-marks d b t)
+
+  -- a code's entries sum up to its bound, modulo 2^64 for any numbers
+  module _ (codes : List ℕ) (i : ℕ) where
+    sum-first : (n t : ℕ) → t ≤ n → tableSum d b (tableFirst step d b marks query n) codes i t % 2 ^ 64 ≡ firstBound step d b marks codes query i t % 2 ^ 64
+    unfolding tableSum firstBound
+    sum-first n zero h = refl
+    sum-first n (suc t) h =
+        let r = codeRegion d b codes i t in
+        let q = getD query t (pos 0) in
+        let fits = code-region-fits d b codes i t in
+        let entry = entry-at n t r h (omega arith) in
+        rw (add-mod (tableSum d b (tableFirst step d b marks query n) codes i t) _ (2 ^ 64), entry, sum-first n t (omega arith), mod-mod (stepTo step q (dimensionMarks d b marks (suc t)) r) (2 ^ 64))
+        (sym (add-mod (firstBound step d b marks codes query i t) (stepTo step q (dimensionMarks d b marks (suc t)) r) (2 ^ 64)))
+
+-- and exactly for components and marks in range
+module _ (d b : ℕ) (marks query : List ℤ) (codes : List ℕ) (i : ℕ) where
+  pub bound-sum : (bound : Bound) → first (shapeCauses d b) ≡ Accepted → areComponents query ≡ true → goodMarks d b marks ≡ true
+      → boundSum d b (tableOf (stepOf bound) d b marks query) codes i ≡ firstBound (stepOf bound) d b marks codes query i d
+  unfolding boundSum
+  bound-sum bound shaped components good =
+      sum-first (stepOf bound) d b marks query codes i d d (le-refl d) ∙ mod-eq-of-lt (small bound (shape d b shaped .few))
+    where
+      small : (bound : Bound) → d ≤ maxDimensions → firstBound (stepOf bound) d b marks codes query i d < 2 ^ 64
+      small Lower few = lower-small query components d b marks good few codes i
+      small Upper few = upper-small query components d b marks good few codes i
+
+-- a table is no longer than the longest
+pub table-le : (d b : ℕ) → first (shapeCauses d b) ≡ Accepted → firstMarks d b d ≤ maxTable
+table-le d b shaped =
+    let told = shape d b shaped in
+    omega (arith, marks-le maxDimensionBits d b d (told .some) (told .bits), told .few)
