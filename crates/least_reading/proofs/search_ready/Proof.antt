@@ -28,7 +28,7 @@ use Rattle.search.specs.Theorems.{reads-are-the-order}
 use Rattle.search.specs.Ready.{library, ready-room}
 use Rattle.least_reading.specs.Answered.{Reads}
 use Rattle.least_reading.specs.Bounding.{bounding}
-use Rattle.least_reading.specs.Buffers.{back-within, shared-is, shared-length, put-all}
+use Rattle.least_reading.specs.Buffers.{back-within, shared-is, shared-enough, put-all}
 use Rattle.least_reading.specs.Searching.{Searches, cellCauses, tells-read, tells-refused, cells-accepted, cells-refused}
 use Rattle.least_reading.proofs.search_ready.Statement.{statement}
 use Rattle.least_reading.proofs.search_ready.Tie as tie
@@ -48,10 +48,6 @@ ranks low n lows old back room some few are is size =
 found-most : (r : Searched) (k : ℕ) → foundCount r k ≤ k
 found-most (Read count) k = omega arith
 found-most (Refused cause) k = omega arith
-
-put-fits : {count m room : ℕ} (n : ℕ) (array back : List ℕ) → count ≡ m → m ≤ n → n ≤ length array → length back ≡ length (take n array) → room ≡ n
-    → (count ≤ length (take n (back ++ drop n array))) × (count ≤ room)
-put-fits n array back of-count most within kept of-room = (omega (arith, of-count, shared-length n array back within kept), omega arith)
 
 put-same : {count m : ℕ} {new new' then : List ℕ} (old : List ℕ) → count ≡ m → new ≡ new' → then ≡ take count new ++ drop count old → then ≡ take m new' ++ drop m old
 put-same old of-count of-new is = rw (of-count, of-new) at is
@@ -169,14 +165,18 @@ put-numbers-requires c κs =
     let told = c .before .before .before in
     let read = told .before .before .before in
     let s = read .before .before .before .before .before .before .before .before .before .before .before .before .before .before .before .before in
-    put-fits (s .args .k) _ (read .read-all .last .1 .1 .1 .1 .1 .1 .1 .1 .1 .1 .1 .0) (told .found .ensures) (found-most (read .read-all .result) (s .args .k)) (best-hold (read .before .before)) (read .read-all .kept .1 .1 .1 .1 .1 .1 .1 .1 .1 .1 .1 .0) (s .pre .lengths .of-numbers)
+    let most = found-most (read .read-all .result) (s .args .k) in
+    let size = shared-enough _ _ (read .read-all .last .1 .1 .1 .1 .1 .1 .1 .1 .1 .1 .1 .0) (best-hold (read .before .before)) (read .read-all .kept .1 .1 .1 .1 .1 .1 .1 .1 .1 .1 .1 .0) in
+    (omega (arith, told .found .ensures, most, size), omega (arith, told .found .ensures, most, s .pre .lengths .of-numbers))
 
 put-keys-requires : tie.Need-put-keys-requires
 put-keys-requires c κs =
     let told = c .before .before .before .before .before .before .before .before in
     let read = told .before .before .before in
     let s = read .before .before .before .before .before .before .before .before .before .before .before .before .before .before .before .before in
-    put-fits (s .args .k) _ (read .read-all .last .1 .1 .1 .1 .1 .1 .1 .1 .1 .1 .0) (told .found .ensures) (found-most (read .read-all .result) (s .args .k)) (keys-hold (read .before .before .before)) (read .read-all .kept .1 .1 .1 .1 .1 .1 .1 .1 .1 .1 .0) (s .pre .lengths .of-distances)
+    let most = found-most (read .read-all .result) (s .args .k) in
+    let size = shared-enough _ _ (read .read-all .last .1 .1 .1 .1 .1 .1 .1 .1 .1 .1 .0) (keys-hold (read .before .before .before)) (read .read-all .kept .1 .1 .1 .1 .1 .1 .1 .1 .1 .1 .0) in
+    (omega (arith, told .found .ensures, most, size), omega (arith, told .found .ensures, most, s .pre .lengths .of-distances))
 
 put-numbers-requires-2 : tie.Need-put-numbers-requires-2
 put-numbers-requires-2 c κs =
@@ -184,8 +184,9 @@ put-numbers-requires-2 c κs =
     let read = counted .before .before .before .before in
     let ranked = read .before .before .before .before .before .before in
     let s = ranked .before .before .before .before .before .before .before .before .before .before in
-    put-fits (s .args .n) _ (ranked .rank .last .1 .0) (counted .read-count .ensures) (count-most (given s) (s .args .query .now) (s .args .k) (read .read-all .result) (read .read-all .ensures))
-    (order-hold (ranked .before .before)) (ranked .rank .kept .1 .0) (s .pre .lengths .of-reads)
+    let most = count-most (given s) (s .args .query .now) (s .args .k) (read .read-all .result) (read .read-all .ensures) in
+    let size = shared-enough _ _ (ranked .rank .last .1 .0) (order-hold (ranked .before .before)) (ranked .rank .kept .1 .0) in
+    (omega (arith, counted .read-count .ensures, most, size), omega (arith, counted .read-count .ensures, most, s .pre .lengths .of-reads))
 
 returns : tie.Need-returns
 returns c =
