@@ -20,11 +20,6 @@ use Rattle.search.specs.Search.{Library, searched}
 abbrev pub roomFor : ℕ → ℕ
 roomFor entries = cond (leb entries maxVectors) entries 0
 
--- how many entries an answer leaves to fill
-abbrev pub foundCount : Searched → ℕ → ℕ
-foundCount (Read count) k = k
-foundCount (Refused cause) k = 0
-
 -- the k pairs of an answer stand at the front of two arrays, and there are as many entries
 pub record Stands (entries k : ℕ) (pairs : List Pair) (numbers distances : List ℕ) : Type 0 where
   pub room : entries ≡ k

@@ -1,4 +1,4 @@
-// The scan and the search into arrays of the largest size, and how many entries these fill.
+// The scan and the search into arrays of the largest size, and how many entries a scan fills.
 use limits::MAX_VECTORS;
 use refusal::Verdict;
 use search::search::Searched;
@@ -10,7 +10,7 @@ ghost use Rattle.refusal.specs.First.{first, outcome};
 ghost use Rattle.search.specs.Search.{searchCauses};
 ghost use Rattle.scan.specs.Scanning.{scanAnswer, scanCauses};
 ghost use Rattle.search.specs.Ready.{library, roomOf};
-ghost use Rattle.arrays.specs.Arrays.{Stands, SearchesInto, roomFor, foundCount};
+ghost use Rattle.arrays.specs.Arrays.{Stands, SearchesInto, roomFor};
 
 // The full scan, for a number of entries. Where nothing refuses, the answer stands at the front of the arrays.
 pub fn scan(
@@ -149,15 +149,5 @@ pub fn accepted(verdict: Verdict, k: usize) -> usize
     match verdict {
         Verdict::Accepted => k,
         Verdict::Refused(_) => 0,
-    }
-}
-
-// How many entries the answer of a search for k leaves to fill.
-pub fn found(answer: Searched, k: usize) -> usize
-    ensures { λ r. ⌜ r ≡ foundCount answer k ⌝ }
-{
-    match answer {
-        Searched::Read(_) => k,
-        Searched::Refused(_) => 0,
     }
 }

@@ -6,7 +6,6 @@ use native.Mathlib.Numerals.{add-one}
 use native.Mathlib.Omega.{arith}
 use lib.ListN.{length, take, drop, getD, set, length-append, length-drop, drop-of-length-le}
 use lib.Seq.{length-take-le, take-at, take-all}
-use Rattle.distance.specs.Values.{valuesFrom}
 
 -- the first i elements of a buffer are another list's: one more of them, all of them
 put-one : (i : ℕ) (new old : List ℕ) → i < length new → i < length old → set (take i new ++ drop i old) i (getD new i 0) ≡ take (i + 1) new ++ drop (i + 1) old
@@ -46,9 +45,3 @@ module _ (n : ℕ) (array back : List ℕ) (within : n ≤ length array) (kept :
 
   pub shared-enough : n ≤ length (take n (back ++ drop n array))
   shared-enough = omega (arith, shared-length)
-
--- functions that agree have the same values
-pub values-agree : (f g : ℕ → ℕ) (i n : ℕ) → ((j : ℕ) → j < i + n → f j ≡ g j) → valuesFrom f i n ≡ valuesFrom g i n
-unfolding valuesFrom
-values-agree f g i zero agree = refl
-values-agree f g i (suc n) agree = rw (agree i (omega arith), values-agree f g (suc i) n (λ j h. agree j (omega arith)))

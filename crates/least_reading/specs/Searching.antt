@@ -33,25 +33,24 @@ pub entered : (l : Library) (query : List ℤ) (k : ℕ) (room : Room) → first
     → first (searchCauses l query k room) ≡ first (cellCauses l query k)
 entered l query k room accepted = first-append (entryCauses l query k room) (cellCauses l query k) ∙ outcome-accepted _ _ accepted
 
-pub not-entered : (l : Library) (query : List ℤ) (k : ℕ) (room : Room) {cause : Refusal} → first (entryCauses l query k room) ≡ verdict.Refused cause
-    → first (searchCauses l query k room) ≡ verdict.Refused cause
-not-entered l query k room refused = first-append (entryCauses l query k room) (cellCauses l query k) ∙ outcome-refused _ _ refused
-
 -- the outcome of an equal verdict
 pub searches-by : {v w : Verdict} {l : Library} {query : List ℤ} {k : ℕ} {r : Searched} {numbers distances reads numbers-then distances-then reads-then : List ℕ} → w ≡ v
     → Searches v l query k r numbers distances reads numbers-then distances-then reads-then
     → Searches w l query k r numbers distances reads numbers-then distances-then reads-then
 searches-by e s = rw e s
 
--- what a refusal leaves
-pub searches-refused : {v : Verdict} (l : Library) (query : List ℤ) (k : ℕ) (cause : Refusal) (numbers distances reads : List ℕ) → v ≡ verdict.Refused cause
-    → Searches v l query k (Refused cause) numbers distances reads numbers distances reads
-searches-refused l query k cause numbers distances reads is = record {
-  answer = sym (outcome-refused _ _ is);
-  numbers-are = sym (outcome-refused _ _ is);
-  distances-are = sym (outcome-refused _ _ is);
-  reads-are = sym (outcome-refused _ _ is);
-}
+-- what a refusal at the entry leaves
+pub searches-refused : (l : Library) (query : List ℤ) (k : ℕ) (room : Room) {v : Verdict} (cause : Refusal) (numbers distances reads : List ℕ)
+    → v ≡ first (entryCauses l query k room) → v ≡ verdict.Refused cause
+    → Searches (first (searchCauses l query k room)) l query k (Refused cause) numbers distances reads numbers distances reads
+searches-refused l query k room cause numbers distances reads told is =
+    let refused = first-append (entryCauses l query k room) (cellCauses l query k) ∙ outcome-refused _ _ (sym told ∙ is) in
+    record {
+      answer = sym (outcome-refused _ _ refused);
+      numbers-are = sym (outcome-refused _ _ refused);
+      distances-are = sym (outcome-refused _ _ refused);
+      reads-are = sym (outcome-refused _ _ refused);
+    }
 
 -- ---- what the answer of reading tells
 

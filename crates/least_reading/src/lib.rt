@@ -7,6 +7,8 @@ use limits::MAX_VECTORS;
 use refusal::Verdict;
 use search::entry::check_entry;
 use search::search::Searched;
+use search::search::found;
+use search::search::read_count;
 use step::Bound;
 use table::MAX_TABLE;
 use table::fill_table;
@@ -15,10 +17,11 @@ ghost use mathlib.Core.List.{_++_};
 ghost use Prim.Native.Nat.{_≤_};
 ghost use lib.ListN.{length, take, drop};
 ghost use Rattle.refusal.specs.First.{first};
-ghost use Rattle.selection.specs.Reading.{readingOrder};
-ghost use Rattle.search.specs.Search.{numbersIn, lowIn, searchCauses};
+ghost use Rattle.search.specs.Search.{searchCauses};
+ghost use Rattle.distance.specs.Bounds.{lowerOf};
 ghost use Rattle.distance.specs.Values.{valuesFrom};
 ghost use Rattle.search.specs.Ready.{library, roomOf, Ready};
+ghost use Rattle.least_reading.specs.Bounding.{Bounding};
 ghost use Rattle.least_reading.specs.Searching.{Searches, cellCauses};
 
 // The k nearest of n vectors, by number and distance, and the numbers of the vectors that were read, in reading order; the answer is how
@@ -73,7 +76,7 @@ pub fn search(
     }
 }
 
-// The search where nothing refuses at its entry.
+// The search where nothing refuses at its entry. It works in arrays of its own, and copies nothing out where a vector read refuses.
 fn search_ready(
     d: usize,
     b: usize,
@@ -95,159 +98,10 @@ fn search_ready(
         (now (numbers .exit)) (now (distances .exit)) (now (reads .exit)) ⌝ }
 {
     let mut lows = [0u64; MAX_VECTORS];
-    lower_bounds(d, b, n, k, query, marks, codes, vectors, &mut lows[..n]);
-    search_bounded(
-        d,
-        b,
-        n,
-        k,
-        query,
-        marks,
-        codes,
-        vectors,
-        &lows[..n],
-        numbers,
-        distances,
-        reads,
-    )
-}
-
-// The lower bounds of the codes' cells.
-fn lower_bounds(
-    d: usize,
-    b: usize,
-    n: usize,
-    k: usize,
-    query: &[i32],
-    marks: &[i32],
-    codes: &[u8],
-    vectors: &[i32],
-    lows: &mut [u64],
-)
-    requires { ⌜ (Ready (library d b n (now marks) (now codes) (now vectors)) (now query) k (roomOf k k n)) × (length (now lows) ≡ n) ⌝ }
-    ensures { λ _. ⌜ now (lows .exit)
-        ≡ valuesFrom (lowIn (library d b n (now (marks .entry)) (now (codes .entry)) (now (vectors .entry))) (now (query .entry))) 0 n ⌝ }
-{
-    let size = marks.len();
-    let mut table = [0u64; MAX_TABLE];
-    fill_table(Bound::Lower, d, b, marks, query, &mut table[..size]);
-    sum_bounds(d, b, &table[..size], codes, lows);
-}
-
-// The search with the lower bounds.
-fn search_bounded(
-    d: usize,
-    b: usize,
-    n: usize,
-    k: usize,
-    query: &[i32],
-    marks: &[i32],
-    codes: &[u8],
-    vectors: &[i32],
-    lows: &[u64],
-    numbers: &mut [u32],
-    distances: &mut [u64],
-    reads: &mut [u32],
-) -> Searched
-    requires { ⌜ Ready (library d b n (now marks) (now codes) (now vectors)) (now query) k
-        (roomOf (length (now numbers)) (length (now distances)) (length (now reads))) ⌝ }
-    requires { ⌜ now lows ≡ valuesFrom (lowIn (library d b n (now marks) (now codes) (now vectors)) (now query)) 0 n ⌝ }
-    ensures { λ r. ⌜ Searches (first (cellCauses (library d b n (now (marks .entry)) (now (codes .entry)) (now (vectors .entry))) (now (query .entry)) k))
-        (library d b n (now (marks .entry)) (now (codes .entry)) (now (vectors .entry))) (now (query .entry)) k r
-        (now (numbers .entry)) (now (distances .entry)) (now (reads .entry))
-        (now (numbers .exit)) (now (distances .exit)) (now (reads .exit)) ⌝ }
-{
+    lower_bounds(d, b, query, marks, codes, &mut lows[..n]);
     let mut order = [0u32; MAX_VECTORS];
-    ranking::rank(lows, &mut order[..n]);
-    search_ordered(
-        d,
-        b,
-        n,
-        k,
-        query,
-        marks,
-        codes,
-        vectors,
-        lows,
-        &order[..n],
-        numbers,
-        distances,
-        reads,
-    )
-}
-
-// The search with the reading order.
-fn search_ordered(
-    d: usize,
-    b: usize,
-    n: usize,
-    k: usize,
-    query: &[i32],
-    marks: &[i32],
-    codes: &[u8],
-    vectors: &[i32],
-    lows: &[u64],
-    order: &[u32],
-    numbers: &mut [u32],
-    distances: &mut [u64],
-    reads: &mut [u32],
-) -> Searched
-    requires { ⌜ Ready (library d b n (now marks) (now codes) (now vectors)) (now query) k
-        (roomOf (length (now numbers)) (length (now distances)) (length (now reads))) ⌝ }
-    requires { ⌜ now lows ≡ valuesFrom (lowIn (library d b n (now marks) (now codes) (now vectors)) (now query)) 0 n ⌝ }
-    requires { let l = library d b n (now marks) (now codes) (now vectors) in
-        ⌜ now order ≡ readingOrder (lowIn l (now query)) (numbersIn l) ⌝ }
-    ensures { λ r. ⌜ Searches (first (cellCauses (library d b n (now (marks .entry)) (now (codes .entry)) (now (vectors .entry))) (now (query .entry)) k))
-        (library d b n (now (marks .entry)) (now (codes .entry)) (now (vectors .entry))) (now (query .entry)) k r
-        (now (numbers .entry)) (now (distances .entry)) (now (reads .entry))
-        (now (numbers .exit)) (now (distances .exit)) (now (reads .exit)) ⌝ }
-{
+    ranking::rank(&lows[..n], &mut order[..n]);
     let mut keys = [0u64; MAX_VECTORS];
-    search_keyed(
-        d,
-        b,
-        n,
-        k,
-        query,
-        marks,
-        codes,
-        vectors,
-        lows,
-        order,
-        &mut keys[..k],
-        numbers,
-        distances,
-        reads,
-    )
-}
-
-// The same, with a place for the keys of the best.
-fn search_keyed(
-    d: usize,
-    b: usize,
-    n: usize,
-    k: usize,
-    query: &[i32],
-    marks: &[i32],
-    codes: &[u8],
-    vectors: &[i32],
-    lows: &[u64],
-    order: &[u32],
-    keys: &mut [u64],
-    numbers: &mut [u32],
-    distances: &mut [u64],
-    reads: &mut [u32],
-) -> Searched
-    requires { ⌜ (Ready (library d b n (now marks) (now codes) (now vectors)) (now query) k
-        (roomOf (length (now numbers)) (length (now distances)) (length (now reads)))) × (length (now keys) ≡ k) ⌝ }
-    requires { ⌜ now lows ≡ valuesFrom (lowIn (library d b n (now marks) (now codes) (now vectors)) (now query)) 0 n ⌝ }
-    requires { let l = library d b n (now marks) (now codes) (now vectors) in
-        ⌜ now order ≡ readingOrder (lowIn l (now query)) (numbersIn l) ⌝ }
-    ensures { λ r. ⌜ Searches (first (cellCauses (library d b n (now (marks .entry)) (now (codes .entry)) (now (vectors .entry))) (now (query .entry)) k))
-        (library d b n (now (marks .entry)) (now (codes .entry)) (now (vectors .entry))) (now (query .entry)) k r
-        (now (numbers .entry)) (now (distances .entry)) (now (reads .entry))
-        (now (numbers .exit)) (now (distances .exit)) (now (reads .exit)) ⌝ }
-{
     let mut best = [0u32; MAX_VECTORS];
     let answer = read_all(
         d,
@@ -258,20 +112,28 @@ fn search_keyed(
         marks,
         codes,
         vectors,
-        lows,
-        order,
-        keys,
+        &lows[..n],
+        &order[..n],
+        &mut keys[..k],
         &mut best[..k],
     );
-    match answer {
-        Searched::Read(count) => {
-            put_numbers(&best[..k], k, numbers);
-            put_keys(keys, distances);
-            put_numbers(order, count, reads);
-            Searched::Read(count)
-        }
-        Searched::Refused(cause) => Searched::Refused(cause),
-    }
+    let kept = found(answer, k);
+    let count = read_count(answer);
+    put_numbers(&best[..k], kept, numbers);
+    put_keys(&keys[..k], kept, distances);
+    put_numbers(&order[..n], count, reads);
+    answer
+}
+
+// The lower bounds of the codes' cells.
+fn lower_bounds(d: usize, b: usize, query: &[i32], marks: &[i32], codes: &[u8], lows: &mut [u64])
+    requires { ⌜ Bounding d b (length (now lows)) (now query) (now marks) (now codes) ⌝ }
+    ensures { λ _. ⌜ now (lows .exit) ≡ valuesFrom (lowerOf d b (now (marks .entry)) (now (codes .entry)) (now (query .entry))) 0 (length (now (lows .entry))) ⌝ }
+{
+    let size = marks.len();
+    let mut table = [0u64; MAX_TABLE];
+    fill_table(Bound::Lower, d, b, marks, query, &mut table[..size]);
+    sum_bounds(d, b, &table[..size], codes, lows);
 }
 
 // Writes the first numbers over the first of a buffer.
@@ -286,13 +148,13 @@ fn put_numbers(numbers: &[u32], count: usize, out: &mut [u32])
     }
 }
 
-// Writes keys over as many.
-fn put_keys(keys: &[u64], out: &mut [u64])
-    requires { ⌜ length (now keys) ≡ length (now out) ⌝ }
-    ensures { λ _. ⌜ now (out .exit) ≡ now (keys .entry) ⌝ }
+// Writes the first keys over the first of a buffer.
+fn put_keys(keys: &[u64], count: usize, out: &mut [u64])
+    requires { ⌜ (count ≤ length (now keys)) × (count ≤ length (now out)) ⌝ }
+    ensures { λ _. ⌜ now (out .exit) ≡ take count (now (keys .entry)) ++ drop count (now (out .entry)) ⌝ }
 {
     let mut i = 0;
-    while i < out.len() {
+    while i < count {
         out[i] = keys[i];
         i += 1;
     }

@@ -3,14 +3,13 @@ use crate::found::find;
 use limits::MAX_DIMENSION_BITS;
 use limits::MAX_DIMENSIONS;
 use limits::MAX_VECTORS;
-use search::search::Searched;
+use search::search::read_count;
 use text::put_answer;
 ghost use mathlib.Core.Path.{_≡_};
 ghost use Rattle.refusal.specs.declared.Verdict.the-variants.{Accepted};
 ghost use Rattle.refusal.specs.First.{first};
 ghost use Rattle.codes.specs.Codes.{codeLength};
 ghost use Rattle.approximation.specs.VectorCauses.{packVectorsCauses};
-ghost use Rattle.search.specs.Answer.{searchedCount};
 ghost use Rattle.search.specs.Search.{searched, searchCauses};
 ghost use Rattle.search.specs.Ready.{library, roomOf};
 ghost use Rattle.library.specs.Library.{libraryWith};
@@ -77,14 +76,4 @@ fn answer_coded(
     let answer = found.answer;
     let entries = found.entries;
     put_answer(k, read_count(answer), settings, entries, text)
-}
-
-// How many vectors a search read, 0 where it refused.
-fn read_count(answer: Searched) -> usize
-    ensures { λ r. ⌜ r ≡ searchedCount answer ⌝ }
-{
-    match answer {
-        Searched::Read(count) => count,
-        Searched::Refused(_) => 0,
-    }
 }

@@ -83,7 +83,7 @@ pub fn search(
         &mut distances,
         reads,
     );
-    let count = arrays::found(answer, k);
+    let count = search::search::found(answer, k);
     fill::fill(entries, &numbers, &distances, count);
     answer
 }

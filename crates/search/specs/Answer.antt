@@ -13,3 +13,8 @@ searchedNumber (Refused cause) = numberOf cause
 abbrev pub searchedCount : Searched → ℕ
 searchedCount (Read count) = count
 searchedCount (Refused cause) = 0
+
+-- how many of k vectors were found, 0 where it is refused
+abbrev pub foundCount : Searched → ℕ → ℕ
+foundCount (Read count) k = k
+foundCount (Refused cause) k = 0

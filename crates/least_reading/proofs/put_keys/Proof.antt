@@ -1,18 +1,18 @@
 -- `put_keys` meets its contract: the first i are written, and the rest is as it was. Assumes nothing.
-use mathlib.Core.Path.{_≡_, refl, _∙_}
+use mathlib.Core.Path.{_≡_, refl, ap, _∙_}
 use mathlib.Core.List.{_++_}
-use Prim.Native.Nat.{_+_, _-_, _≤_}
+use Prim.Native.Nat.{ℕ, _+_, _-_, _≤_}
 use native.Mathlib.Omega.{arith}
 use lib.ListN.{length, take, drop}
-use Rattle.least_reading.specs.Buffers.{put-next, put-all}
+use Rattle.least_reading.specs.Buffers.{put-next}
 use Rattle.least_reading.proofs.put_keys.Statement.{statement}
 use Rattle.least_reading.proofs.put_keys.Tie as tie
 
 abbrev Inv-loop : tie.InvT-loop
-Inv-loop keys out₀ i₀ out i = (i ≤ length out₀) × (length out ≡ length out₀) × (out ≡ take i keys ++ drop i out₀)
+Inv-loop keys count out₀ i₀ out i = (i ≤ count) × (length out ≡ length out₀) × (out ≡ take i keys ++ drop i out₀)
 
 abbrev μ-loop : tie.MeasureT-loop
-μ-loop keys out₀ i₀ out i = length out₀ - i
+μ-loop keys count out₀ i₀ out i = count - i
 
 loop-again : tie.Need-loop-again Inv-loop μ-loop
 loop-again c =
@@ -25,7 +25,8 @@ returns : tie.Need-returns Inv-loop μ-loop
 returns c =
     let at = c .before .loop in
     let a = c .before .before .args in
-    at .inv .2 ∙ put-all (at .i) (a .keys .now) (a .out .now) (omega (arith, c .before .before .pre)) (omega arith)
+    let all : at .i ≡ a .count = omega arith in
+    at .inv .2 ∙ ap (λ (n : ℕ). take n (a .keys .now) ++ drop n (a .out .now)) all
 
 pub put-keys-spec : {M : Type 1} → statement M
 put-keys-spec =

@@ -52,7 +52,8 @@ use Rattle.search.specs.Search.{Library, searched, searchCauses}
 use Rattle.search.specs.Ready.{library}
 use Rattle.nearest.specs.declared.Entry.{Entry}
 use Rattle.nearest.specs.Entries.{entriesOf, entryRoom, filled}
-use Rattle.arrays.specs.Arrays.{SearchesInto, foundCount}
+use Rattle.arrays.specs.Arrays.{SearchesInto}
+use Rattle.search.specs.Answer.{foundCount}
 use Rattle.nearest.specs.Finding.{Finds}
 use Rattle.nearest.specs.Filled.{outcome-filled, outcome-room, found-outcome}
 use Rattle.nearest.proofs.Local.{zeros, blank, blank-typed, lies, lent-mut, back-mut, lent-shr, room-again}
@@ -61,10 +62,10 @@ use Rattle.arrays.proofs.search as core
 use Rattle.arrays.proofs.search.Symbol as core-def
 use Rattle.arrays.proofs.search.Symbol.{name as #core}
 use Rattle.arrays.proofs.search.Met as core-thm
-use Rattle.arrays.proofs.found as count
-use Rattle.arrays.proofs.found.Symbol as count-def
-use Rattle.arrays.proofs.found.Symbol.{name as #count}
-use Rattle.arrays.proofs.found.Met as count-thm
+use Rattle.search.proofs.search.found as count
+use Rattle.search.proofs.search.found.Symbol as count-def
+use Rattle.search.proofs.search.found.Symbol.{name as #count}
+use Rattle.search.proofs.search.found.Met as count-thm
 use Rattle.nearest.proofs.fill.fill as fill
 use Rattle.nearest.proofs.fill.fill.Symbol as fill-def
 use Rattle.nearest.proofs.fill.fill.Symbol.{name as #fill}
@@ -272,5 +273,5 @@ search-spec 𝓤 H 𝓜 𝓖 𝓡 =
     (tables 𝓤 H 𝓜 𝓡 code.env .C) (tables 𝓤 H 𝓜 𝓡 code.env .Λ) #nearest·search code.function (code.unfolded 𝓤 H 𝓜 𝓡)
     (meets 𝓤 H (𝓖 .A) (givenOf 𝓤 H 𝓜 𝓖) (𝓜 .mem) (𝓡 .run) (tablesOf 𝓤 H 𝓜 (tables 𝓤 H 𝓜 𝓡 code.env))
     (cited 𝓤 H (Core 𝓤 H (𝓖 .A) (𝓜 .mem) (𝓡 .run)) 𝓜 𝓡 code.env #core core-def.routine code.calls-arrays·search (core-thm.met 𝓤 H 𝓜 𝓖 𝓡))
-    (cited 𝓤 H (Count 𝓤 H (𝓖 .A) (𝓜 .mem) (𝓡 .run)) 𝓜 𝓡 code.env #count count-def.routine code.calls-arrays·found (count-thm.met 𝓤 H 𝓜 𝓖 𝓡))
+    (cited 𝓤 H (Count 𝓤 H (𝓖 .A) (𝓜 .mem) (𝓡 .run)) 𝓜 𝓡 code.env #count count-def.routine code.calls-search·search·found (count-thm.met 𝓤 H 𝓜 𝓖 𝓡))
     (cited 𝓤 H (Fill 𝓤 H (𝓖 .A) (𝓜 .mem) (𝓡 .run)) 𝓜 𝓡 code.env #fill fill-def.routine code.calls-nearest·fill·fill (fill-thm.met 𝓤 H 𝓜 𝓖 𝓡)))

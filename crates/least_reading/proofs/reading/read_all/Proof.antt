@@ -62,12 +62,12 @@ pub read-all-spec : {M : Type 1} → statement M
 read-all-spec =
     tie.close
     (tie.spec
-    (λ c κs. search needs)
-    (λ c. search needs)
-    (λ c. search needs)
+    (λ c κs. (c .before .before .before .before .before .before .before .pre .0, c .before .before .before .before .before .before .before .pre .1 .1))
+    (λ c. c .before .before .before .before .before .read-first .kept .1 .1 .1 .1 .1 .1 .1 .1 .1 .0)
+    (λ c. c .before .before .before .before .before .read-first .kept .1 .1 .1 .1 .1 .1 .1 .1 .1 .1 .0)
     returns
-    (λ c κs. search needs)
+    (λ c κs. tt)
     read-rest-requires
     (λ c. search needs)
     (λ c. search needs)
-    (λ c. search needs))
+    (λ c. c .before .before .before .before .read-rest .ensures))

@@ -1,6 +1,6 @@
 -- `read_first` meets its contract: the first `done` of the reading order lie in their cells and stand in the two lists. Assumes nothing.
 use mathlib.Core.Path.{_≡_, refl, sym, ap, _∙_}
-use mathlib.Core.Bool.{true, false, true≢false, false≢true}
+use mathlib.Core.Bool.{Bool, true, false, true≢false, false≢true}
 use mathlib.Core.List.{List}
 use Prim.Native.Nat.{ℕ, _+_, _-_, _%_, _^_, _≤_, _<_}
 use native.Mathlib.Numerals.{add-one}
@@ -51,8 +51,8 @@ module _ {l : Library} {query : List ℤ} {k : ℕ} {room : Room} (is : Ready l 
       long : length (readingOrder (lowIn l query) (numbersIn l)) ≡ l .n
       long = ranked-count (lowIn l query) (numbersIn l) ∙ counted-length 0 (l .n)
 
-      fails : inOwnCell l number ≡ false → FirstReads l query k false keys best
-      fails out =
+      fails : {r : Bool} → r ≡ inOwnCell l number → r ≡ false → FirstReads l query k false keys best
+      fails told out =
           let enough : k ≤ length (numbersIn l) = omega (arith, is .enough, counted-length 0 (l .n)) in
           record {
             inside = λ none. absurd (false≢true none);
@@ -61,12 +61,13 @@ module _ {l : Library} {query : List ℤ} {k : ℕ} {room : Room} (is : Ready l 
                 next-outside l query k done (omega (arith, is .enough))
                 (reached-first k (lowIn l query) (distanceIn l query) (numbersIn l) done (at .within) enough)
                 (goes-on-first k (lowIn l query) (distanceIn l query) (numbersIn l) done more (omega arith) _)
-                (sym (ap (inOwnCell l) its) ∙ out);
+                (sym (ap (inOwnCell l) its) ∙ sym told ∙ out);
           }
 
-      turn : inOwnCell l number ≡ true → (distance : ℕ) → distance ≡ distanceIn l query number % 2 ^ 64
+      turn : {r : Bool} → r ≡ inOwnCell l number → r ≡ true → (distance : ℕ) → distance ≡ distanceIn l query number % 2 ^ 64
           → State l query k (done + 1) (set keys done distance) (set best done number)
-      turn cell distance is-distance =
+      turn told is-inside distance is-distance =
+          let cell : inOwnCell l number ≡ true = sym told ∙ is-inside in
           let order = readingOrder (lowIn l query) (numbersIn l) in
           let short : done < length order = omega (arith, long, is .enough) in
           let one = take-suc order done 0 short in
@@ -116,7 +117,7 @@ returns : tie.Need-returns Inv-loop μ-loop
 returns c =
     let next = c .before .before in
     fails (next .before .before .before .before .before .before .before .pre .0) (next .before .before .loop .inv) (next .before .loop-test .taken) _ (its-number next)
-    (sym (c .before .in-own-cell .ensures) ∙ not-true _ (c .if1 .taken))
+    (c .before .in-own-cell .ensures) (not-true _ (c .if1 .taken))
 
 distance-of-requires : tie.Need-distance-of-requires Inv-loop μ-loop
 distance-of-requires c κs =
@@ -128,7 +129,7 @@ loop-again c =
     let asked = c .before .before in
     let next = asked .before in
     turn (next .before .before .before .before .before .before .before .pre .0) (next .before .before .loop .inv) (next .before .loop-test .taken) _ (its-number next)
-    (sym (asked .in-own-cell .ensures) ∙ not-false _ (c .before .if1 .left)) _ (c .distance-of .ensures)
+    (asked .in-own-cell .ensures) (not-false _ (c .before .if1 .left)) _ (c .distance-of .ensures)
 
 returns-2 : tie.Need-returns-2 Inv-loop μ-loop
 returns-2 c = finish (c .before .before .before .before .before .before .pre .0) (c .before .loop .inv) (omega arith)

@@ -67,19 +67,20 @@ module _ {l : Library} {query : List ℤ} {k : ℕ} {room : Room} (is : Ready l 
     stop stops = finish (reached-stop _ _ _ _ _ (at .reached) inside stops)
 
     module _ (goes : goesOn k (afterReads l query k done .best) (pairOf (lowIn l query) (getD (readingOrder (lowIn l query) (numbersIn l)) done 0)) ≡ true) where
-      outside : inOwnCell l number ≡ false → Reads l query k (Refused Cell) keys best
-      outside out =
-          let some-out = next-outside l query k done more (at .reached) goes (sym (ap (inOwnCell l) its) ∙ out) in
+      outside : {r : Bool} → r ≡ inOwnCell l number → r ≡ false → Reads l query k (Refused Cell) keys best
+      outside told out =
+          let some-out = next-outside l query k done more (at .reached) goes (sym (ap (inOwnCell l) its) ∙ sym told ∙ out) in
           record {
             answer = rw some-out;
             keys-are = λ none. cc;
             numbers-are = λ none. cc;
           }
 
-      turn : k ≤ done → inOwnCell l number ≡ true → (distance : ℕ) → distance ≡ distanceIn l query number % 2 ^ 64
+      turn : k ≤ done → {inside : Bool} → inside ≡ inOwnCell l number → inside ≡ true → (distance : ℕ) → distance ≡ distanceIn l query number % 2 ^ 64
           → {keys-then best-then : List ℕ} {r : ℕ} → Keeps keys best k (pair distance number) r keys-then best-then
           → HasRead l query k (done + 1) keys-then best-then
-      turn full cell distance is-distance {keys-then} {best-then} {r} keeps =
+      turn full told is-inside distance is-distance {keys-then} {best-then} {r} keeps =
+          let cell : inOwnCell l number ≡ true = sym told ∙ is-inside in
           let holds = arrays-next _ _ _ _ _ (at .holds) (pair distance number) its (is-distance ∙ measured is number below cell) inside keeps in
           let same : r ≡ k = holds .counted ∙ full-after k (lowIn l query) (distanceIn l query) (numbersIn l) (suc done) (omega arith) inside in
           rw add-one
@@ -145,7 +146,7 @@ returns-2 c =
     let asked = c .before in
     let next = asked .before .before .before .before .before .before in
     outside (entry next .pre .0) (next .before .before .loop .inv .1) (next .before .loop-test .taken) _ (its-number next)
-    (test (asked .before .before) ∙ not-false _ (asked .before .if1 .left)) (sym (asked .in-own-cell .ensures) ∙ not-true _ (c .if2 .taken))
+    (test (asked .before .before) ∙ not-false _ (asked .before .if1 .left)) (asked .in-own-cell .ensures) (not-true _ (c .if2 .taken))
 
 loop-again : tie.Need-loop-again Inv-loop μ-loop
 loop-again c =
@@ -156,7 +157,7 @@ loop-again c =
     let at = next .before .before .loop .inv in (
       omega arith,
       turn (entry next .pre .0) (at .1) (next .before .loop-test .taken) _ (its-number next)
-          (test (asked .before .before) ∙ not-false _ (asked .before .if1 .left)) (at .0) (sym (asked .in-own-cell .ensures) ∙ not-false _ (measure .before .if2 .left))
+          (test (asked .before .before) ∙ not-false _ (asked .before .if1 .left)) (at .0) (asked .in-own-cell .ensures) (not-false _ (measure .before .if2 .left))
           _ (measure .distance-of .ensures) (kept .keep .ensures),
     )
 

@@ -201,9 +201,9 @@ module _ {M : Type 1} (𝓤 : URA M) (H : Heap 𝓤) (A : Atoms 𝓤) (W : Given
         fsplit ! $ drop ! $ fsplit ! $ move ! (1 ∷ []) $ drop ! $ move ! (1 ∷ []) $ split ! $ split ! $ move ! (1 ∷ []) $ drop ! $ move ! (1 ∷ []) $
         peeks ! u32 (Is u32) (shows 𝓤 H A u32) m (u₂ ∷ []) (λ is₂. land ! (from ! (stop !)) (init ! 45 refl (uint-lawful 𝓤 H A W w32 .typed m _ is₂ .0)) $
         returns ! (look ! 45 refl) $
-        forget ! 11 refl $ forget ! 13 refl $ forget ! 15 refl $ forget ! 17 refl $ forget ! 19 refl $ forget ! 21 refl $ forget ! 23 refl $ forget ! 25 refl $ forget ! 27 refl $ forget ! 29 refl $ forget ! 31 refl $ forget ! 33 refl $ forget ! 35 refl $ forget ! 37 refl $ forget ! 39 refl $ forget ! 41 refl $ forget ! 43 refl $ forget ! 45 refl $
-        move ! (45 ∷ 46 ∷ []) $ free1 ! $ move ! (43 ∷ 44 ∷ []) $ free1 ! $ move ! (41 ∷ 42 ∷ []) $ free1 ! $ move ! (39 ∷ 40 ∷ []) $ free1 ! $ move ! (37 ∷ 38 ∷ []) $ free1 ! $ move ! (35 ∷ 36 ∷ []) $ free1 ! $ move ! (33 ∷ 34 ∷ []) $ free1 ! $ move ! (31 ∷ 32 ∷ []) $ free1 ! $ move ! (29 ∷ 30 ∷ []) $ free1 ! $ move ! (27 ∷ 28 ∷ []) $ free1 ! $ move ! (25 ∷ 26 ∷ []) $ free1 ! $ move ! (23 ∷ 24 ∷ []) $ free1 ! $ move ! (21 ∷ 22 ∷ []) $ free1 ! $ move ! (19 ∷ 20 ∷ []) $ free1 ! $ move ! (17 ∷ 18 ∷ []) $ free1 ! $ move ! (15 ∷ 16 ∷ []) $ free1 ! $ move ! (13 ∷ 14 ∷ []) $ free1 ! $ move ! (11 ∷ 12 ∷ []) $ free1 ! $ free0 ! $
-        keep ! (10 ∷ 9 ∷ 2 ∷ 0 ∷ 8 ∷ 7 ∷ 6 ∷ 5 ∷ 4 ∷ 3 ∷ 1 ∷ []) $
+        -- what the exit takes is one item while the locals are freed
+        group ! 11 $ forget ! 35 refl $ move ! (35 ∷ 36 ∷ []) $ free1 ! $ forget ! 33 refl $ move ! (33 ∷ 34 ∷ []) $ free1 ! $ forget ! 31 refl $ move ! (31 ∷ 32 ∷ []) $ free1 ! $ forget ! 29 refl $ move ! (29 ∷ 30 ∷ []) $ free1 ! $ forget ! 27 refl $ move ! (27 ∷ 28 ∷ []) $ free1 ! $ forget ! 25 refl $ move ! (25 ∷ 26 ∷ []) $ free1 ! $ forget ! 23 refl $ move ! (23 ∷ 24 ∷ []) $ free1 ! $ forget ! 21 refl $ move ! (21 ∷ 22 ∷ []) $ free1 ! $ forget ! 19 refl $ move ! (19 ∷ 20 ∷ []) $ free1 ! $ forget ! 17 refl $ move ! (17 ∷ 18 ∷ []) $ free1 ! $ forget ! 15 refl $ move ! (15 ∷ 16 ∷ []) $ free1 ! $ forget ! 13 refl $ move ! (13 ∷ 14 ∷ []) $ free1 ! $ forget ! 11 refl $ move ! (11 ∷ 12 ∷ []) $ free1 ! $ forget ! 9 refl $ move ! (9 ∷ 10 ∷ []) $ free1 ! $ forget ! 7 refl $ move ! (7 ∷ 8 ∷ []) $ free1 ! $ forget ! 5 refl $ move ! (5 ∷ 6 ∷ []) $ free1 ! $ forget ! 3 refl $ move ! (3 ∷ 4 ∷ []) $ free1 ! $ forget ! 1 refl $ move ! (1 ∷ 2 ∷ []) $ free1 ! $ free0 ! $ split ! $ move ! (1 ∷ []) $ split ! $ move ! (1 ∷ []) $ split ! $ move ! (1 ∷ []) $ split ! $ move ! (1 ∷ []) $ split ! $ move ! (1 ∷ []) $ split ! $ move ! (1 ∷ []) $ split ! $ move ! (1 ∷ []) $ split ! $ move ! (1 ∷ []) $ split ! $ move ! (1 ∷ []) $ split ! $
+        keep ! (1 ∷ 0 ∷ 8 ∷ 10 ∷ 2 ∷ 3 ∷ 4 ∷ 5 ∷ 6 ∷ 7 ∷ 9 ∷ []) $
         by ! (exits m u₂ (ws .1 .1 .1 .1 .1 .1 .1 .1 .0) (ws .1 .1 .1 .1 .1 .1 .1 .1 .1 .0) (vs .1 .0) size-reads size (told r m (ws .1 .1 .1 .1 .1 .1 .1 .1 .0) (ws .1 .1 .1 .1 .1 .1 .1 .1 .1 .0) (vs .1 .0) e e₂))))))))))))))))))))))))))))))))
 
 module _ {M : Type 1} (𝓤 : URA M) (H : Heap 𝓤) (A : Atoms 𝓤) (W : Given 𝓤 H A) (mem : Memory → SProp 𝓤) (run : Routine → Fun 𝓤) (𝓣 : Tables 𝓤 H) (known-core : Triple 𝓤 (𝓣 .C #core) (Core 𝓤 H A mem run)) (known-number : Triple 𝓤 (𝓣 .C #number) (Number 𝓤 H A mem run)) where
