@@ -1,3 +1,4 @@
 pub mod Answered
 pub mod Searching
 pub mod Buffers
+pub mod Celled
