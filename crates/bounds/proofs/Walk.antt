@@ -69,8 +69,8 @@ module _ {codes : List ℕ} {w first-bit first-start count bits waiting next sta
         let more : suc t * (2 ^ w + 1) ≤ count * (2 ^ w + 1) = mul-le-mul less (le-refl (2 ^ w + 1)) in
         omega (arith, at .start-is, suc-mul t (2 ^ w + 1))
 
-    pub stride : start + (1 * 2 ^ w % 2 ^ 64 - 1 + 2) ≤ room
-    stride = rw (regions w few .exact) (omega (arith, inside, pow-pos w))
+    pub stride : start + (1 * 2 ^ w % 2 ^ 64 + 1) ≤ room
+    stride = rw (regions w few .exact) (omega (arith, inside))
 
     -- and so is that of the region
     pub index : (x : ℕ) → start + bitAnd x (1 * 2 ^ w % 2 ^ 64 - 1) + 1 < room
@@ -82,11 +82,10 @@ module _ {codes : List ℕ} {w first-bit first-start count bits waiting next sta
     pub region : bitAnd (bits' / 2 ^ waiting') (1 * 2 ^ w % 2 ^ 64 - 1) ≡ bitsAt codes (first-bit + t * w) w
     region = rw (regions w few .exact, and-mask (bits' / 2 ^ waiting') w, took .region, place)
 
-    pub goes-on : Walk codes w first-bit first-start count bits' waiting' next' (start + (1 * 2 ^ w % 2 ^ 64 - 1 + 2)) (t + 1)
+    pub goes-on : Walk codes w first-bit first-start count bits' waiting' next' (start + (1 * 2 ^ w % 2 ^ 64 + 1)) (t + 1)
     goes-on =
-        let stride : 1 * 2 ^ w % 2 ^ 64 - 1 + 2 ≡ 2 ^ w + 1 = rw (regions w few .exact) (omega (arith, pow-pos w)) in
         let bit : first-bit + suc t * w ≡ next * 8 - waiting + w = rw (suc-mul t w, place) (omega arith) in
-        rw (add-one t, stride)
+        rw (add-one t, regions w few .exact)
         (record {
           within = less;
           waits = rw bit (took .rest);

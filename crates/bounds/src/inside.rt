@@ -88,7 +88,8 @@ fn run_inside(
     if count == 0 {
         return true;
     }
-    let mask = (1usize << w) - 1;
+    let regions = 1usize << w;
+    let mask = regions - 1;
     let mut waiting = begin(codes, first_bit);
     let mut start = first_start;
     let mut t = 0;
@@ -98,7 +99,7 @@ fn run_inside(
         if !is_between(marks, start + region, vector[t]) {
             return false;
         }
-        start += mask + 2;
+        start += regions + 1;
         t += 1;
     }
     true

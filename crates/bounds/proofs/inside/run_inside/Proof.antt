@@ -28,11 +28,11 @@ record Running (marks : List ℤ) (codes : List ℕ) (w first-bit first-start : 
   so-far : runInside marks codes w first-bit first-start vector t ≡ true
 
 abbrev Inv-loop : tie.InvT-loop
-Inv-loop marks codes w first-bit first-start vector count mask waiting₀ start₀ t₀ waiting start t =
+Inv-loop marks codes w first-bit first-start vector count regions mask waiting₀ start₀ t₀ waiting start t =
     Running marks codes w first-bit first-start vector count (waiting .bits) (waiting .count) (waiting .next) start t
 
 abbrev μ-loop : tie.MeasureT-loop
-μ-loop marks codes w first-bit first-start vector count mask waiting₀ start₀ t₀ waiting start t = count - t
+μ-loop marks codes w first-bit first-start vector count regions mask waiting₀ start₀ t₀ waiting start t = count - t
 
 loop-holds : tie.Need-loop-holds Inv-loop μ-loop
 unfolding runInside
@@ -94,7 +94,7 @@ loop-again c =
     }
 
 next-start : (c : tie.Else2 Inv-loop μ-loop) → let at = c .before .before .before .before .before .before in let start = at .before .before .before .before in
-    at .loop .start + (1 * 2 ^ start .args .w % 2 ^ 64 - 1 + 2) ≤ length (start .args .marks .now)
+    at .loop .start + (1 * 2 ^ start .args .w % 2 ^ 64 + 1) ≤ length (start .args .marks .now)
 next-start c =
     let at = c .before .before .before .before .before .before in
     let start = at .before .before .before .before in

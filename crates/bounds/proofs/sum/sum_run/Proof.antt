@@ -22,11 +22,11 @@ record Running (table codes : List ℕ) (w first-bit first-start count bits wait
   so-far : sum ≡ runSum table codes w first-bit first-start t % 2 ^ 64
 
 abbrev Inv-loop : tie.InvT-loop
-Inv-loop table codes w first-bit first-start count mask waiting₀ start₀ sum₀ t₀ waiting start sum t =
+Inv-loop table codes w first-bit first-start count regions mask waiting₀ start₀ sum₀ t₀ waiting start sum t =
     Running table codes w first-bit first-start count (waiting .bits) (waiting .count) (waiting .next) start sum t
 
 abbrev μ-loop : tie.MeasureT-loop
-μ-loop table codes w first-bit first-start count mask waiting₀ start₀ sum₀ t₀ waiting start sum t = count - t
+μ-loop table codes w first-bit first-start count regions mask waiting₀ start₀ sum₀ t₀ waiting start sum t = count - t
 
 loop-holds : tie.Need-loop-holds Inv-loop μ-loop
 unfolding runSum
@@ -38,7 +38,7 @@ next : {table codes : List ℕ} {w first-bit first-start count bits waiting next
     → Running table codes w first-bit first-start count bits waiting next start sum t → w ≤ 7 → t < count
     → Taken codes w (next * 8 - waiting) bits' waiting' next'
     → sum' ≡ (sum + getD table (start + bitAnd (bits' / 2 ^ waiting') (1 * 2 ^ w % 2 ^ 64 - 1)) 0) % 2 ^ 64
-    → Running table codes w first-bit first-start count bits' waiting' next' (start + (1 * 2 ^ w % 2 ^ 64 - 1 + 2)) sum' (t + 1)
+    → Running table codes w first-bit first-start count bits' waiting' next' (start + (1 * 2 ^ w % 2 ^ 64 + 1)) sum' (t + 1)
 unfolding runSum
 next {table} {codes} {w} {first-bit} {first-start} {t = t} at few less took is =
     let walk = at .walk in
@@ -70,7 +70,7 @@ entry c =
     index (at .loop .inv .walk) (start .pre .0) (omega arith) (start .pre .2) (c .before .take .result .bits / 2 ^ c .before .take .result .count)
 
 next-start : (c : tie.After-wrapping-add-u64 Inv-loop μ-loop) → let at = c .before .before .before .before .before in let start = at .before .before .before .before .before in
-    at .loop .start + (1 * 2 ^ start .args .w % 2 ^ 64 - 1 + 2) ≤ length (start .args .table .now)
+    at .loop .start + (1 * 2 ^ start .args .w % 2 ^ 64 + 1) ≤ length (start .args .table .now)
 next-start c =
     let at = c .before .before .before .before .before in
     let start = at .before .before .before .before .before in
