@@ -14,13 +14,18 @@ use Rattle.codes.specs.BitLaws.{Bytes, binary-drop, binary-bytes, length-low, f
 -- the last `count` of `bits` are those of the codes from a place up to byte `next`
 pub record Waits (codes : List ℕ) (from bits count next : ℕ) : Type 0 where
   pub place : from + count ≡ next * 8
-  pub few : count ≤ 8
+  pub few : count ≤ 56
+  pub begun : 1 ≤ next
   pub are : bits % 2 ^ count ≡ fromBits count (drop from (byteBits codes))
 
 -- the first w of the waiting bits, from a place on, were taken
 pub record Taken (codes : List ℕ) (w from bits count next : ℕ) : Type 0 where
   pub region : bits / 2 ^ count % 2 ^ w ≡ bitsAt codes from w
   pub rest : Waits codes (from + w) bits count next
+
+-- the byte at an index and the next three, as one number
+abbrev pub fourBytes : List ℕ → ℕ → ℕ
+fourBytes codes i = ((getD codes i 0 * 256 + getD codes (i + 1) 0) * 256 + getD codes (i + 2) 0) * 256 + getD codes (i + 3) 0
 
 -- ---- laws
 
@@ -40,7 +45,8 @@ module _ (codes : List ℕ) (from : ℕ) where
       let few : 8 - from % 8 ≤ 8 = omega arith in
       record {
         place = omega arith;
-        few = few;
+        few = omega arith;
+        begun = omega arith;
         are = rw (is, bits-at codes from (8 - from % 8) few) (mod-eq-of-lt (bits-lt (8 - from % 8)));
       }
 
@@ -54,16 +60,27 @@ byte-bits (x ∷ codes) bytes (suc i) =
     (byte-bits codes (λ j. bytes (suc j)) i)
 
 -- a byte more
-more : {codes : List ℕ} {from bits count next : ℕ} → Waits codes from bits count next
-    → Bytes codes → (bits % 256 * 256 + getD codes next 0) % 2 ^ (count + 8) ≡ fromBits (count + 8) (drop from (byteBits codes))
-more {codes} {from} {bits} {count} {next} is bytes =
-    let byte = getD codes next 0 in
-    let small : byte < 2 ^ 8 = bytes next in
-    let wide : 8 - count + count ≡ 8 = omega (arith, is .few) in
-    let kept : bits % 256 % 2 ^ count ≡ bits % 2 ^ count = rw wide at (mod-mod-pow bits (8 - count) count) in
-    mod-pow-add (bits % 256 * 2 ^ 8 + byte) count 8
-    ∙ rw (high (bits % 256) 8 small, low (bits % 256) 8 small, kept, is .are, from-split count 8 (drop from (byteBits codes)), drop-drop, is .place)
-    (rw (byte-bits codes bytes next))
+module _ (codes : List ℕ) (bytes : Bytes codes) (from : ℕ) where
+  more : (bits count next : ℕ) → from + count ≡ next * 8 → bits % 2 ^ count ≡ fromBits count (drop from (byteBits codes))
+      → (bits * 256 + getD codes next 0) % 2 ^ (count + 8) ≡ fromBits (count + 8) (drop from (byteBits codes))
+  more bits count next place are =
+      let small : getD codes next 0 < 2 ^ 8 = bytes next in
+      mod-pow-add (bits * 2 ^ 8 + getD codes next 0) count 8
+      ∙ rw (high bits 8 small, low bits 8 small, are, from-split count 8 (drop from (byteBits codes)), drop-drop, place)
+      (rw (byte-bits codes bytes next))
+
+  -- four more
+  four-more : (bits count next : ℕ) → from + count ≡ next * 8 → bits % 2 ^ count ≡ fromBits count (drop from (byteBits codes))
+      → (bits * 4294967296 + fourBytes codes next) % 2 ^ (count + 32) ≡ fromBits (count + 32) (drop from (byteBits codes))
+  four-more bits count next place are =
+      let one = more bits count next place are in
+      let two = more _ (count + 8) (next + 1) (omega arith) one in
+      let three = more _ (count + 8 + 8) (next + 2) (omega arith) two in
+      let four = more _ (count + 8 + 8 + 8) (next + 3) (omega arith) three in
+      let joined : (((bits * 256 + getD codes next 0) * 256 + getD codes (next + 1) 0) * 256 + getD codes (next + 2) 0) * 256 + getD codes (next + 3) 0
+      ≡ bits * 4294967296 + fourBytes codes next = omega arith in
+      let all : count + 8 + 8 + 8 + 8 ≡ count + 32 = omega arith in
+      rw (joined, all) at four
 
 -- bits are taken off the front
 taken : (codes : List ℕ) (w from bits left : ℕ) → w ≤ 8 → bits % 2 ^ (w + left) ≡ fromBits (w + left) (drop from (byteBits codes))
@@ -77,16 +94,34 @@ taken codes w from bits left few are =
       sym (mod-mod-pow bits w left) ∙ rw (whole, low first left small),
     )
 
--- both are what is taken, from what waits or with a byte more
+-- that is what is taken, from what waits, with a byte more, or with seven
 module _ {codes : List ℕ} {from bits count next : ℕ} (is : Waits codes from bits count next) (w : ℕ) (few : w ≤ 7) where
-  pub takes : w ≤ count → Taken codes w from bits (count - w) next
-  takes enough =
-      let all : w + (count - w) ≡ count = omega arith in
-      let both = taken codes w from bits (count - w) (omega arith) (rw all (is .are)) in
-      record { region = both .0; rest = record { place = omega (arith, is .place); few = omega (arith, is .few); are = both .1 } }
+  off : (bits' total next' : ℕ) → bits' % 2 ^ total ≡ fromBits total (drop from (byteBits codes)) → from + total ≡ next' * 8 → w ≤ total → total - w ≤ 56 → 1 ≤ next'
+      → Taken codes w from bits' (total - w) next'
+  off bits' total next' are place enough small begun =
+      let all : w + (total - w) ≡ total = omega arith in
+      let both = taken codes w from bits' (total - w) (omega arith) (rw all are) in
+      record { region = both .0; rest = record { place = omega arith; few = small; begun = begun; are = both .1 } }
 
-  pub takes-more : {bits' : ℕ} → Bytes codes → count < w → bits' ≡ bits % 256 * 256 + getD codes next 0 → Taken codes w from bits' (count + 8 - w) (next + 1)
-  takes-more {bits'} bytes short are =
-      let all : w + (count + 8 - w) ≡ count + 8 = omega arith in
-      let both = taken codes w from bits' (count + 8 - w) (omega arith) (rw (all, are) (more is bytes)) in
-      record { region = both .0; rest = record { place = omega (arith, is .place); few = omega (arith, is .few); are = both .1 } }
+  pub takes : w ≤ count → Taken codes w from bits (count - w) next
+  takes enough = off bits count next (is .are) (is .place) enough (omega (arith, is .few)) (is .begun)
+
+  module _ (bytes : Bytes codes) (short : count < w) where
+    pub takes-more : Taken codes w from (bits % 256 * 256 + getD codes next 0) (count + 8 - w) (next + 1)
+    takes-more =
+        let wide : 8 - count + count ≡ 8 = omega arith in
+        let kept : bits % 256 % 2 ^ count ≡ fromBits count (drop from (byteBits codes)) = rw wide at (mod-mod-pow bits (8 - count) count) ∙ is .are in
+        off _ (count + 8) (next + 1) (more codes bytes from (bits % 256) count next (is .place) kept) (omega (arith, is .place)) (omega arith) (omega arith) (omega arith)
+
+    -- the eight bytes begin with the one whose last bits wait
+    pub takes-seven : Taken codes w from (fourBytes codes (next - 1) * 4294967296 + fourBytes codes (next + 3)) (count + 56 - w) (next + 7)
+    takes-seven =
+        let byte = (next - 1) * 8 in
+        let front = fourBytes codes (next - 1) in
+        let none : 0 % 2 ^ 0 ≡ fromBits 0 (drop byte (byteBits codes)) = unfold fromBits in refl in
+        let half : front % 2 ^ 32 ≡ fromBits 32 (drop byte (byteBits codes)) = rw (zero-mul 4294967296, zero-add front) at (four-more codes bytes byte 0 0 (next - 1) (omega arith) none) in
+        let whole = four-more codes bytes byte front 32 (next + 3) (omega (arith, is .begun)) half in
+        let all : 8 - count + (count + 56) ≡ 64 = omega arith in
+        let start : byte + (8 - count) ≡ from = omega (arith, is .place, is .begun) in
+        let read = taken codes (8 - count) byte (front * 4294967296 + fourBytes codes (next + 3)) (count + 56) (omega arith) (rw all whole) .1 in
+        off _ (count + 56) (next + 7) (rw start at read) (omega (arith, is .place)) (omega arith) (omega arith) (omega arith)

@@ -98,7 +98,8 @@ fn sum_run(
     if count == 0 {
         return 0;
     }
-    let mask = (1usize << w) - 1;
+    let regions = 1usize << w;
+    let mask = regions - 1;
     let mut waiting = begin(codes, first_bit);
     let mut start = first_start;
     let mut sum = 0;
@@ -107,7 +108,7 @@ fn sum_run(
         waiting = take(codes, waiting, w);
         let region = (waiting.bits >> waiting.count) & mask;
         sum = std::num::wrapping_add_u64(sum, table[start + region]);
-        start += mask + 2;
+        start += regions + 1;
         t += 1;
     }
     sum

@@ -1,22 +1,18 @@
--- The test whether a vector lies in a code's cell, and the causes for which codes are refused. Assumes nothing.
-use mathlib.Core.Bool.{Bool, false, not, _&&_}
+-- The causes for which codes are refused. Assumes nothing.
+use mathlib.Core.Bool.{not, _&&_}
 use mathlib.Core.List.{List, [], _∷_, _++_}
 use Prim.Native.Nat.{ℕ}
-use lib.Dec.{eqb, ltb}
+use lib.Dec.{eqb}
 use lib.IntN.{ℤ}
 use lib.ListN.{length}
 use Rattle.refusal.specs.declared.Refusal.the-variants.{Count, Length, Mark, Code}
-use Rattle.refusal.specs.First.{Row, _⇒_, first, outcome}
-use Rattle.limits.specs.Limits.{maxVectors, isVectorCount}
+use Rattle.refusal.specs.First.{Row, _⇒_}
+use Rattle.limits.specs.Limits.{isVectorCount}
 use Rattle.layout.specs.Layout.{firstMarks}
 use Rattle.layout.specs.Stretch.{shapeCauses}
 use Rattle.partition.specs.Marks.{goodMarks}
 use Rattle.codes.specs.Codes.{codeLength}
-use Rattle.cells.specs.Cells.{inFirst, goodCodes}
-
--- whether the d components of a vector lie in the regions that code i names, i a vector's number; false where there is no such cell
-unfoldable pub cellHolds : ℕ → ℕ → List ℤ → List ℕ → ℕ → List ℤ → Bool
-cellHolds d b marks codes i vector = outcome (first (shapeCauses d b)) (ltb i maxVectors && inFirst d b marks codes i vector d) (λ _. false)
+use Rattle.cells.specs.Cells.{goodCodes}
 
 -- 9
 abbrev pub namedCauses : ℕ → ℕ → ℕ → List ℤ → List ℕ → List Row

@@ -18,7 +18,7 @@ use Rattle.partition.specs.Marks.{dimensionMarks}
 use Rattle.partition.specs.Parts.{part-at}
 use Rattle.codes.specs.Codes.{codeLength, codeRegion}
 use Rattle.codes.specs.PackLaws.{code-region-fits}
-use Rattle.cells.specs.Cells.{inFirst, hasValue, noneEmpty}
+use Rattle.cells.specs.Cells.{hasValue, noneEmpty}
 use Rattle.cells.specs.Places.{markPlace, markPlaces, place-at}
 
 -- what is known where only the codes are left to test
@@ -42,7 +42,7 @@ module _ (d b : ℕ) (marks : List ℤ) (codes : List ℕ) (i t : ℕ) where
       ∙ ap (λ (n : ℕ). getD marks n (pos 0)) next
 
   -- a value of the region, and whether there is one
-  region-test : (v : ℤ) → inRegion (dimensionMarks d b marks (suc t)) (codeRegion d b codes i t) v ≡ between marks (markPlace d b codes i t) v
+  pub region-test : (v : ℤ) → inRegion (dimensionMarks d b marks (suc t)) (codeRegion d b codes i t) v ≡ between marks (markPlace d b codes i t) v
   unfolding inRegion between
   region-test v = ap₂ (λ (low high : ℤ). leZ low v && ltZ v high) lower-at upper-at
 
@@ -51,26 +51,15 @@ module _ (d b : ℕ) (marks : List ℤ) (codes : List ℕ) (i t : ℕ) where
   unfolding hasValue
   value-test = ap₂ ltZ lower-at upper-at
 
--- ---- the tests at places
-
--- whether each of the first t components lies between the mark at its place and the next
-unfoldable pub allBetween : List ℤ → List ℕ → List ℤ → ℕ → Bool
-allBetween marks places vector zero = true
-allBetween marks places vector (suc t) = allBetween marks places vector t && between marks (getD places t 0) (getD vector t (pos 0))
+-- ---- the test at places
 
 -- whether the mark at each of the first t places is below the next
 unfoldable pub riseAt : List ℤ → List ℕ → ℕ → Bool
 riseAt marks places zero = true
 riseAt marks places (suc t) = riseAt marks places t && ltZ (getD marks (getD places t 0) (pos 0)) (getD marks (getD places t 0 + 1) (pos 0))
 
--- at a code's places they are the tests of its cell
+-- at a code's places they are the tests of its regions
 module _ (d b : ℕ) (marks : List ℤ) (codes : List ℕ) (i : ℕ) where
-  pub between-in : (vector : List ℤ) (t : ℕ) → t ≤ d → allBetween marks (markPlaces d b codes i) vector t ≡ inFirst d b marks codes i vector t
-  unfolding allBetween inFirst
-  between-in vector zero within = refl
-  between-in vector (suc t) within =
-      rw (between-in vector t (omega arith), place-at d b codes i 0 d t within, zero-add t, region-test d b marks codes i t (getD vector t (pos 0)))
-
   pub rise-none : (t : ℕ) → t ≤ d → riseAt marks (markPlaces d b codes i) t ≡ noneEmpty d b marks codes i t
   unfolding riseAt noneEmpty
   rise-none zero within = refl

@@ -6,75 +6,24 @@ use crate::places::mark_places;
 use crate::rising::all_rise;
 use codes::bits::bits_at;
 use limits::MAX_DIMENSIONS;
-use limits::MAX_VECTORS;
 use refusal::Refusal;
 use refusal::Verdict;
-use whole::compare::at_most;
 use whole::compare::is_below;
 ghost use mathlib.Core.Path.{_≡_};
 ghost use mathlib.Core.Bool.{_&&_};
 ghost use Prim.Native.Nat.{_≤_, _<_};
-ghost use lib.IntN.{pos};
 ghost use lib.Dec.{eqb};
-ghost use lib.ListN.{length, getD};
+ghost use lib.ListN.{length};
 ghost use Rattle.refusal.specs.declared.Verdict.the-variants.{Accepted};
 ghost use Rattle.refusal.specs.First.{first};
 ghost use Rattle.limits.specs.Limits.{maxVectors};
 ghost use Rattle.layout.specs.Layout.{firstMarks};
 ghost use Rattle.layout.specs.Stretch.{shapeCauses};
 ghost use Rattle.codes.specs.Codes.{codeLength};
-ghost use Rattle.cells.specs.Cells.{inFirst, noneEmpty, noEmptyCodes};
-ghost use Rattle.cells.specs.CellCauses.{cellHolds, namedCauses, shapedCodeCauses, codeCauses};
+ghost use Rattle.cells.specs.Cells.{noneEmpty, noEmptyCodes};
+ghost use Rattle.cells.specs.CellCauses.{namedCauses, shapedCodeCauses, codeCauses};
 ghost use Rattle.cells.specs.Places.{Small};
-ghost use Rattle.cells.specs.CellLaws.{between, allBetween, riseAt, Named};
-
-// Whether a vector lies in code i's cell.
-pub fn in_cell(d: usize, b: usize, marks: &[i32], codes: &[u8], i: usize, vector: &[i32]) -> bool
-    ensures { λ r. ⌜ r ≡ cellHolds d b (now (marks .entry)) (now (codes .entry)) i (now (vector .entry)) ⌝ }
-{
-    match layout::check_shape(d, b) {
-        Verdict::Accepted => {
-            if MAX_VECTORS <= i {
-                return false;
-            }
-            all_in_regions(d, b, marks, codes, i, vector)
-        }
-        Verdict::Refused(_) => false,
-    }
-}
-
-// Whether each of the d components lies in the region that the code names for its dimension.
-fn all_in_regions(d: usize, b: usize, marks: &[i32], codes: &[u8], i: usize, vector: &[i32]) -> bool
-    requires { ⌜ (first (shapeCauses d b) ≡ Accepted) × (i < maxVectors) ⌝ }
-    ensures { λ r. ⌜ r ≡ inFirst d b (now (marks .entry)) (now (codes .entry)) i (now (vector .entry)) d ⌝ }
-{
-    let mut places = [0usize; MAX_DIMENSIONS];
-    mark_places(d, b, codes, i, &mut places);
-    all_between(marks, &places[..d], vector)
-}
-
-// Whether each component lies between the mark at its place, which may be equal, and the next one.
-fn all_between(marks: &[i32], places: &[usize], vector: &[i32]) -> bool
-    requires { ⌜ Small (now places) ⌝ }
-    ensures { λ r. ⌜ r ≡ allBetween (now (marks .entry)) (now (places .entry)) (now (vector .entry)) (length (now (places .entry))) ⌝ }
-{
-    let mut t = 0;
-    while t < places.len() {
-        if !is_between(marks, places[t], vector, t) {
-            return false;
-        }
-        t += 1;
-    }
-    true
-}
-
-// Whether component t does.
-fn is_between(marks: &[i32], at: usize, vector: &[i32], t: usize) -> bool
-    requires { ⌜ at ≤ 4096 ⌝ }
-    ensures { λ r. ⌜ r ≡ between (now (marks .entry)) at (getD (now (vector .entry)) t (pos 0)) ⌝ }
-{
-    at_most(marks, at, vector, t) && is_below(vector, t, marks, at + 1)
-}
+ghost use Rattle.cells.specs.CellLaws.{riseAt, Named};
 
 // Whether no code names an empty region and no spare bit is set, for codes and marks of the right lengths.
 pub fn check_codes(d: usize, b: usize, n: usize, marks: &[i32], codes: &[u8]) -> Verdict

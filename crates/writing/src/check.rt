@@ -10,6 +10,7 @@ ghost use mathlib.Core.Bool.{true};
 ghost use mathlib.Core.List.{[], _++_};
 ghost use Prim.Native.Nat.{_+_, _*_, _≤_};
 ghost use lib.IntN.{pos};
+ghost use lib.Dec.{eqb};
 ghost use lib.ListN.{length, getD, drop};
 ghost use Rattle.refusal.specs.declared.Verdict.the-variants.{Accepted};
 ghost use Rattle.refusal.specs.First.{first};
@@ -18,7 +19,7 @@ ghost use Rattle.layout.specs.Stretch.{shapeCauses};
 ghost use Rattle.library.specs.Each.{tabulate, every};
 ghost use Rattle.library.specs.Library.{libraryWith};
 ghost use Rattle.library.specs.Tests.{inside};
-ghost use Rattle.library.specs.Ends.{Table, between, firstMark, lastMark};
+ghost use Rattle.library.specs.Ends.{Table, lies, between, firstMark, lastMark};
 ghost use Rattle.writing.specs.Sized.{Dimensioned, Sized};
 ghost use Rattle.writing.specs.Write.{valueCauses, shapedCauses, writeCauses};
 
@@ -128,20 +129,26 @@ fn all_between(d: usize, n: usize, lows: &[i32], highs: &[i32], components: &[i3
     true
 }
 
-// Whether the d components from an index on do, each. It goes on behind one that does not: so the tests are made several at a time.
+// Whether the d components from an index on do, each. The answers are gathered in a number, so that the loop has no branch.
 fn is_between(d: usize, lows: &[i32], highs: &[i32], components: &[i32], from: usize) -> bool
     requires { ⌜ (Table d (now lows) (now highs)) × (from + d ≤ length (now components)) ⌝ }
     ensures { λ r. ⌜ r ≡ between d (now (lows .entry)) (now (highs .entry)) (λ t. getD (now (components .entry)) (from + t) (pos 0)) ⌝ }
 {
-    let mut all = true;
+    let mut outside = 0;
     let mut t = 0;
     while t < d {
-        if lies(lows[t], components[from + t], highs[t]) {
-            t += 1;
-        } else {
-            all = false;
-            t += 1;
-        }
+        outside |= lies_outside(lows[t], components[from + t], highs[t]);
+        t += 1;
     }
-    all
+    outside == 0
+}
+
+// 0 where a number lies between two others, else 1.
+fn lies_outside(low: i32, z: i32, high: i32) -> u32
+    ensures { λ r. ⌜ eqb r 0 ≡ lies low z high ⌝ }
+{
+    if lies(low, z, high) {
+        return 0;
+    }
+    1
 }

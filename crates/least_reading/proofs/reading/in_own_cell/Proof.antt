@@ -7,7 +7,7 @@ use borrow.Author.Needs.{needs}
 use borrow.Author.Tests.{lt-ltb}
 use Rattle.refusal.specs.First.{outcome-accepted}
 use Rattle.limits.specs.Limits.{maxVectors}
-use Rattle.cells.specs.CellCauses.{cellHolds}
+use Rattle.bounds.specs.Inside.{cellHolds}
 use Rattle.least_reading.proofs.reading.in_own_cell.Statement.{statement}
 use Rattle.least_reading.proofs.reading.in_own_cell.Tie as tie
 
@@ -20,11 +20,11 @@ returns c =
     let count : o + a .d - o ≡ a .d = omega arith in
     c .in-cell .ensures
     ∙ ap (λ (m : ℕ). cellHolds (a .d) (a .b) (a .marks .now) (a .codes .now) (a .number) (take m (drop o (a .vectors .now)))) count
-    ∙ outcome-accepted _ _ (start .pre .0)
-    ∙ rw (lt-ltb (a .number) maxVectors (start .pre .1))
+    ∙ outcome-accepted _ _ (start .pre .shaped)
+    ∙ rw (lt-ltb (a .number) maxVectors (start .pre .few), start .pre .place .size, start .pre .lengths)
 
 small : (c : tie.After-shared-slice-known) → let a = c .before .args in a .number * a .d + a .d < 2 ^ 64
-small c = c .before .pre .2 .small
+small c = c .before .pre .place .small
 
 pub in-own-cell-spec : {M : Type 1} → statement M
 in-own-cell-spec =
@@ -35,6 +35,6 @@ in-own-cell-spec =
     (λ c. omega (arith, small c))
     (λ c. omega (arith, small c))
     (λ c. omega (arith, small c))
-    (λ c. omega (arith, c .before .pre .2 .ends))
+    (λ c. omega (arith, c .before .pre .place .ends))
     (λ c κs. search needs)
     returns)

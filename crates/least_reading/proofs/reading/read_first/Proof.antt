@@ -18,6 +18,7 @@ use Rattle.best_pairs.specs.Gathered.{Gathers, gathers-start, gathers-next}
 use Rattle.search.specs.Search.{Library, Room, numbersIn, distanceIn, lowIn, inOwnCell, inOwnCells}
 use Rattle.search.specs.Ready.{library, Ready, place, ordered-below}
 use Rattle.least_reading.specs.Answered.{FirstReads, cells-snoc, measured, next-outside}
+use Rattle.least_reading.specs.Celled.{celled}
 use Rattle.least_reading.proofs.reading.read_first.Statement.{statement}
 use Rattle.least_reading.proofs.reading.read_first.Tie as tie
 
@@ -110,8 +111,7 @@ read-number c =
 
 in-own-cell-requires : tie.Need-in-own-cell-requires Inv-loop μ-loop
 in-own-cell-requires c κs =
-    let is = c .before .before .before .before .before .before .before .pre .0 in
-    (is .shaped, omega (arith, is-below c, is .count), place is _ (is-below c))
+    celled (c .before .before .before .before .before .before .before .pre .0) _ (is-below c)
 
 returns : tie.Need-returns Inv-loop μ-loop
 returns c =

@@ -25,6 +25,7 @@ use Rattle.search.specs.Search.{Library, Room, numbersIn, distanceIn, lowIn, in
 use Rattle.distance.specs.Values.{valuesFrom, values-length, value-at}
 use Rattle.search.specs.Ready.{library, Ready, Place, place, ordered-below}
 use Rattle.least_reading.specs.Answered.{Reads, HasRead, afterReads, measured, next-in-cell, next-outside}
+use Rattle.least_reading.specs.Celled.{celled}
 use Rattle.least_reading.proofs.reading.read_rest.Statement.{statement}
 use Rattle.least_reading.proofs.reading.read_rest.Tie as tie
 
@@ -138,8 +139,7 @@ returns c =
 in-own-cell-requires : tie.Need-in-own-cell-requires Inv-loop μ-loop
 in-own-cell-requires c κs =
     let next = c .before .before .before .before .before in
-    let is = entry next .pre .0 in
-    (is .shaped, omega (arith, is-below next, is .count), its-place next)
+    celled (entry next .pre .0) _ (is-below next)
 
 returns-2 : tie.Need-returns-2 Inv-loop μ-loop
 returns-2 c =
