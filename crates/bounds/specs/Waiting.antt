@@ -14,7 +14,7 @@ use Rattle.codes.specs.BitLaws.{Bytes, binary-drop, binary-bytes, length-low, f
 -- the last `count` of `bits` are those of the codes from a place up to byte `next`
 pub record Waits (codes : List ℕ) (from bits count next : ℕ) : Type 0 where
   pub place : from + count ≡ next * 8
-  pub few : count ≤ 56
+  pub few : count ≤ 62
   pub begun : 1 ≤ next
   pub are : bits % 2 ^ count ≡ fromBits count (drop from (byteBits codes))
 
@@ -94,28 +94,29 @@ taken codes w from bits left few are =
       sym (mod-mod-pow bits w left) ∙ rw (whole, low first left small),
     )
 
--- that is what is taken, from what waits, with a byte more, or with seven
+-- what waits without the first w, with a byte more, and with seven
 module _ {codes : List ℕ} {from bits count next : ℕ} (is : Waits codes from bits count next) (w : ℕ) (few : w ≤ 7) where
-  off : (bits' total next' : ℕ) → bits' % 2 ^ total ≡ fromBits total (drop from (byteBits codes)) → from + total ≡ next' * 8 → w ≤ total → total - w ≤ 56 → 1 ≤ next'
-      → Taken codes w from bits' (total - w) next'
-  off bits' total next' are place enough small begun =
-      let all : w + (total - w) ≡ total = omega arith in
-      let both = taken codes w from bits' (total - w) (omega arith) (rw all are) in
-      record { region = both .0; rest = record { place = omega arith; few = small; begun = begun; are = both .1 } }
-
   pub takes : w ≤ count → Taken codes w from bits (count - w) next
-  takes enough = off bits count next (is .are) (is .place) enough (omega (arith, is .few)) (is .begun)
+  takes enough =
+      let all : w + (count - w) ≡ count = omega arith in
+      let both = taken codes w from bits (count - w) (omega arith) (rw all (is .are)) in
+      record { region = both .0; rest = record { place = omega (arith, is .place); few = omega (arith, is .few); begun = is .begun; are = both .1 } }
 
   module _ (bytes : Bytes codes) (short : count < w) where
-    pub takes-more : Taken codes w from (bits % 256 * 256 + getD codes next 0) (count + 8 - w) (next + 1)
-    takes-more =
+    pub one-more : Waits codes from (bits % 256 * 256 + getD codes next 0) (count + 8) (next + 1)
+    one-more =
         let wide : 8 - count + count ≡ 8 = omega arith in
         let kept : bits % 256 % 2 ^ count ≡ fromBits count (drop from (byteBits codes)) = rw wide at (mod-mod-pow bits (8 - count) count) ∙ is .are in
-        off _ (count + 8) (next + 1) (more codes bytes from (bits % 256) count next (is .place) kept) (omega (arith, is .place)) (omega arith) (omega arith) (omega arith)
+        record {
+          place = omega (arith, is .place);
+          few = omega arith;
+          begun = omega arith;
+          are = more codes bytes from (bits % 256) count next (is .place) kept;
+        }
 
     -- the eight bytes begin with the one whose last bits wait
-    pub takes-seven : Taken codes w from (fourBytes codes (next - 1) * 4294967296 + fourBytes codes (next + 3)) (count + 56 - w) (next + 7)
-    takes-seven =
+    pub seven-more : Waits codes from (fourBytes codes (next - 1) * 4294967296 + fourBytes codes (next + 3)) (count + 56) (next + 7)
+    seven-more =
         let byte = (next - 1) * 8 in
         let front = fourBytes codes (next - 1) in
         let none : 0 % 2 ^ 0 ≡ fromBits 0 (drop byte (byteBits codes)) = unfold fromBits in refl in
@@ -124,4 +125,4 @@ module _ {codes : List ℕ} {from bits count next : ℕ} (is : Waits codes from 
         let all : 8 - count + (count + 56) ≡ 64 = omega arith in
         let start : byte + (8 - count) ≡ from = omega (arith, is .place, is .begun) in
         let read = taken codes (8 - count) byte (front * 4294967296 + fourBytes codes (next + 3)) (count + 56) (omega arith) (rw all whole) .1 in
-        off _ (count + 56) (next + 7) (rw start at read) (omega (arith, is .place)) (omega arith) (omega arith) (omega arith)
+        record { place = omega (arith, is .place); few = omega arith; begun = omega arith; are = rw start at read }

@@ -24,34 +24,44 @@ pub fn begin(codes: &[u8], from: usize) -> Waiting
     }
 }
 
-// The same without the first w, which then stand in front of the last `count` of `bits`. Where too few wait, seven bytes more are read,
-// together with the one before them, or a single byte where so many are not left.
+// The same without the first w, which then stand in front of the last `count` of `bits`.
 pub fn take(codes: &[u8], waiting: Waiting, w: usize) -> Waiting
     requires { ⌜ (Waits (now codes) (waiting .next * 8 - waiting .count) (waiting .bits) (waiting .count) (waiting .next))
         × (w ≤ 7) × (waiting .next * 8 - waiting .count + w ≤ length (now codes) * 8) ⌝ }
     ensures { λ r. ⌜ Taken (now (codes .entry)) w (waiting .next * 8 - waiting .count) (r .bits) (r .count) (r .next) ⌝ }
 {
+    let enough = fill(codes, waiting, w);
+    Waiting {
+        bits: enough.bits,
+        count: enough.count - w,
+        next: enough.next,
+    }
+}
+
+// The same with w bits or more. Where too few wait, seven bytes more are read, together with the one before them, or a single byte where
+// so many are not left.
+fn fill(codes: &[u8], waiting: Waiting, w: usize) -> Waiting
+    requires { ⌜ (Waits (now codes) (waiting .next * 8 - waiting .count) (waiting .bits) (waiting .count) (waiting .next))
+        × (w ≤ 7) × (waiting .next * 8 - waiting .count + w ≤ length (now codes) * 8) ⌝ }
+    ensures { λ r. ⌜ (Waits (now (codes .entry)) (waiting .next * 8 - waiting .count) (r .bits) (r .count) (r .next)) × (w ≤ r .count) ⌝ }
+{
     let count = waiting.count;
     let next = waiting.next;
     if w <= count {
-        return Waiting {
-            bits: waiting.bits,
-            count: count - w,
-            next,
-        };
+        return waiting;
     }
     if 7 <= codes.len() - next {
         let front = four_bytes(codes, next - 1);
         let back = four_bytes(codes, next + 3);
         return Waiting {
             bits: front * 0x1_0000_0000 + back,
-            count: count + 56 - w,
+            count: count + 56,
             next: next + 7,
         };
     }
     Waiting {
         bits: waiting.bits % 256 * 256 + codes[next] as usize,
-        count: count + 8 - w,
+        count: count + 8,
         next: next + 1,
     }
 }
