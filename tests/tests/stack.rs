@@ -8,9 +8,9 @@ use tests::{
     matches::Match,
 };
 
-/// "A call uses at most 40 KiB of stack, matcher_match at most 160 KiB."
+/// "A call uses at most 48 KiB of stack, matcher_match at most 160 KiB."
 fn most(name: &str) -> usize {
-    1024 * if name == "matcher_match" { 160 } else { 40 }
+    1024 * if name == "matcher_match" { 160 } else { 48 }
 }
 
 /// Every call, on the longest input there can be.
