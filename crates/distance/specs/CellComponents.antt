@@ -16,7 +16,8 @@ use Rattle.region.specs.Region.{inRegion}
 use Rattle.partition.specs.Marks.{dimensionMarks, goodFirst, goodMarks}
 use Rattle.codes.specs.Codes.{codeRegion}
 use Rattle.cells.specs.Cells.{InCell, inFirst}
-use Rattle.step.specs.Order.{lt-pred, le-trans}
+use Rattle.region.specs.Within.{leZ-trans}
+use Rattle.step.specs.Order.{lt-pred}
 use Rattle.step.specs.Steps.{Inside}
 use Rattle.distance.specs.CellBounds.{in-region}
 
@@ -30,7 +31,7 @@ pub inside-component : {low v high : ℤ} → isMark low ≡ true → isMark hig
 inside-component {low} {v} {high} lows highs inside =
     let least = and-eq-true-iff (leZ leastMark low) (leZ low greatestMark) .0 lows .0 in
     let greatest = and-eq-true-iff (leZ leastMark high) (leZ high greatestMark) .0 highs .1 in
-    and-eq-true-iff _ _ .1 (le-trans leastMark low v least (inside .above), le-trans v (predℤ high) greatestComponent (sym (lt-pred v high) ∙ inside .below) (last-component high greatest))
+    and-eq-true-iff _ _ .1 (leZ-trans leastMark low v least (inside .above), leZ-trans v (predℤ high) greatestComponent (sym (lt-pred v high) ∙ inside .below) (last-component high greatest))
 
 -- where all of them hold, each does
 each : {first one : ℕ → Bool} → All first one → (n t : ℕ) → t < n → first n ≡ true → one t ≡ true

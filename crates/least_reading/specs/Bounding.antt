@@ -32,6 +32,7 @@ unfolding valuesFrom
 values-agree f g i zero agree = refl
 values-agree f g i (suc n) agree = rw (agree i (omega arith), values-agree f g (suc i) n (λ j h. agree j (omega arith)))
 
+-- a query, marks that are good, and n codes, of the right lengths
 pub record Bounding (d b n : ℕ) (query marks : List ℤ) (codes : List ℕ) : Type 0 where
   pub shaped : first (shapeCauses d b) ≡ Accepted
   pub count : isVectorCount n ≡ true

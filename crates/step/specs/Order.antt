@@ -1,17 +1,13 @@
 -- Tests of order on whole numbers. Assumes nothing.
-use mathlib.Core.Path.{_≡_, refl, sym, ap, _∙_, subst}
-use mathlib.Core.Bool.{Bool, true, false, not}
+use mathlib.Core.Path.{_≡_, refl, sym, ap, _∙_}
+use mathlib.Core.Bool.{true, not}
 use Prim.Native.Nat.{zero, suc}
 use native.Mathlib.Omega.{arith}
 use borrow.Author.Tests.{ltb-true, le-leb}
-use lib.Dec.{T, leb·zero, leb·suc-zero, leb·suc-suc}
+use lib.Dec.{leb·zero, leb·suc-zero, leb·suc-suc}
 use lib.IntN.{ℤ, pos, negsuc, predℤ}
-use lib.Signed.{leZ, ltZ, leZ-yes, ltZ-yes, <ℤ-≤ℤ-trans, clashℤ}
+use lib.Signed.{leZ, ltZ}
 use Rattle.limits.specs.Tests.{leZ-not, ltZ-not}
-
-pub le-self : (a : ℤ) → leZ a a ≡ true
-le-self (pos a) = le-leb a a (omega arith)
-le-self (negsuc a) = le-leb a a (omega arith)
 
 pub lt-le : (a b : ℤ) → ltZ a b ≡ true → leZ a b ≡ true
 lt-le (pos a) (pos b) h = le-leb a b (omega (arith, ltb-true a b h))
@@ -31,12 +27,3 @@ lt-pred (negsuc a) (negsuc b) = refl
 -- and the one before a is below b exactly if a is at most b
 pub pred-lt : (a b : ℤ) → ltZ (predℤ a) b ≡ leZ a b
 pred-lt a b = ltZ-not (predℤ a) b ∙ ap not (sym (lt-pred b a)) ∙ sym (leZ-not b a)
-
-pub le-trans : (a b c : ℤ) → leZ a b ≡ true → leZ b c ≡ true → leZ a c ≡ true
-le-trans a b c ab bc = go (ltZ c a) refl
-  where
-    go : (t : Bool) → ltZ c a ≡ t → leZ a c ≡ true
-    go true e =
-        clashℤ {a = c} {b = b} (<ℤ-≤ℤ-trans {b = a} (ltZ-yes (subst T (sym e) tt)) (leZ-yes (subst T (sym ab) tt)))
-        (leZ-yes (subst T (sym bc) tt))
-    go false e = leZ-not c a ∙ ap not e

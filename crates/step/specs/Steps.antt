@@ -10,7 +10,8 @@ use lib.IntN.{ℤ, predℤ}
 use lib.Signed.{leZ, ltZ}
 use Rattle.limits.specs.Tests.{leZ-not}
 use Rattle.step.specs.Step.{gap, shortest, longest}
-use Rattle.step.specs.Order.{le-self, lt-le, lt-pred}
+use Rattle.region.specs.Within.{leZ-refl}
+use Rattle.step.specs.Order.{lt-le, lt-pred}
 use Rattle.step.specs.Places.{gap-between, gap-turned}
 
 -- ---- the bounds of a step
@@ -64,11 +65,11 @@ pub record Reached (step : ℤ → ℤ → ℤ → ℕ) (q low high : ℤ) : Typ
 module _ (q low high : ℤ) (some : ltZ low high ≡ true) where
   -- the region's first value and its last
   first-inside : Inside low low high
-  first-inside = record { above = le-self low; below = some }
+  first-inside = record { above = leZ-refl low; below = some }
 
   last-inside : Inside low (predℤ high) high
   last-inside =
-      record { above = sym (lt-pred low high) ∙ some; below = lt-pred (predℤ high) high ∙ le-self (predℤ high) }
+      record { above = sym (lt-pred low high) ∙ some; below = lt-pred (predℤ high) high ∙ leZ-refl (predℤ high) }
 
   pub shortest-reached : Reached shortest q low high
   shortest-reached = go (ltZ q low) (ltZ (predℤ high) q) refl refl
@@ -80,7 +81,7 @@ module _ (q low high : ℤ) (some : ltZ low high ≡ true) where
           record {
             v = q;
             inside = record { above = leZ-not q low ∙ ap not b; below = lt-pred q high ∙ leZ-not (predℤ high) q ∙ ap not a };
-            is = unfold shortest in rw (b, a) (omega (arith, gap-between q q q (le-self q) (le-self q)));
+            is = unfold shortest in rw (b, a) (omega (arith, gap-between q q q (leZ-refl q) (leZ-refl q)));
           }
 
   pub longest-reached : Reached longest q low high
