@@ -4,11 +4,12 @@ use mathlib.Core.Path.{_≡_, refl, sym, ap, _∙_}
 use mathlib.Core.Bool.{true, and-eq-true-iff}
 use mathlib.Core.Logic.{_≢_, inl, inr}
 use mathlib.Core.List.{List}
-use Prim.Native.Nat.{ℕ, zero, suc, _<_}
+use Prim.Native.Nat.{ℕ, zero, suc, _*_, _<_}
 use native.Mathlib.Nat.{eq-or-lt-of-le, le-of-suc-le-suc}
 use native.Mathlib.Decide.{ℕ-discrete}
 use native.Mathlib.Omega.{arith}
 use lib.IntN.{ℤ}
+use lib.ListN.{length}
 use Rattle.order.specs.Members.{_∈_}
 use Rattle.order.specs.Counted.{counted, counts}
 use Rattle.selection.specs.Reading.{scan}
@@ -22,7 +23,7 @@ use Rattle.distance.specs.Distance.{distanceOf}
 use Rattle.distance.specs.Bounds.{firstBound}
 use Rattle.distance.specs.CellBounds.{lower-le, CellReached, lower-reached, upper-reached}
 use Rattle.search.specs.Search.{Library, numbersIn, distanceIn, lowIn, highIn, scanned}
-use Rattle.search.specs.Settled.{withVectors, CellOf, OwnCodes, SettlesAnswer, NeededVector}
+use Rattle.search.specs.Settled.{withVectors, CellOf, OwnCodes, SettlesAnswer}
 use Rattle.scan.specs.Ranked.{scan-agree}
 use Rattle.search.specs.Rows.{Row, in-a-row}
 
@@ -92,7 +93,7 @@ pub settles-distances : (l : Library) (query : List ℤ) (k : ℕ) (set : List �
 settles-distances l query k set own settles other within agree =
     let row = in-a-row (l .d) (l .n) (Stands l query set other) (λ i h. stands i h (member? i set)) in
     sym (answered l query k other (row .vectors) (λ i h. (row .each i h) .is))
-    ∙ settles (row .vectors) (record { size = row .size; cells = λ i h. (row .each i h) .cell; kept = λ i h m. (row .each i h) .kept m })
+    ∙ settles (row .vectors) (record { size = row .size; cells = λ i h out. (row .each i h) .cell; kept = λ i h m. (row .each i h) .kept m })
     ∙ exact k (lowIn l query) (distanceIn l query) (numbersIn l) (own-lower l query own)
   where
     stands : (i : ℕ) → i < l .n → Dec (i ∈ set) → Row (l .d) (Stands l query set other) i
@@ -115,8 +116,16 @@ record Put (l : Library) (query : List ℤ) (i v j : ℕ) (vector : List ℤ) : 
   there : j ≡ i → CellOf l i vector
   elsewhere : j ≢ i → vector ≡ vectorAt (l .d) (l .vectors) j
 
+-- vectors that differ at number i alone, by one of its cell, and have another scan
+pub record OtherScan (l : Library) (query : List ℤ) (k i : ℕ) : Type 0 where
+  pub vectors : List ℤ
+  pub size : length vectors ≡ l .n * l .d
+  pub cell : CellOf l i (vectorAt (l .d) vectors i)
+  pub elsewhere : (j : ℕ) → j < l .n → j ≢ i → vectorAt (l .d) vectors j ≡ vectorAt (l .d) (l .vectors) j
+  pub changes : scanned (withVectors l vectors) query k ≢ scanned l query k
+
 pub needed-vector : (l : Library) (query : List ℤ) (k i : ℕ) → OwnCodes l → i < l .n
-    → Needed k (Possible l query) (distanceIn l query) (numbersIn l) i → NeededVector l query k i
+    → Needed k (Possible l query) (distanceIn l query) (numbersIn l) i → OtherScan l query k i
 needed-vector l query k i own within needed =
     let v = needed .value in
     let row = in-a-row (l .d) (l .n) (λ j. Put l query i v j) (λ j h. put j h (ℕ-discrete j i)) in

@@ -8,7 +8,8 @@ use lib.IntN.{ℤ}
 use lib.ListN.{length}
 use Rattle.order.specs.Members.{_∈_}
 use Rattle.cells.specs.Cells.{vectorAt, InCell, Own}
-use Rattle.search.specs.Search.{Library, scanned, searched}
+use Rattle.search.specs.Search.{Library, Room, scanned, searched}
+use Rattle.search.specs.Accepted.{Accepts}
 
 -- the library with other vectors, all else kept
 abbrev pub withVectors : Library → List ℤ → Library
@@ -22,10 +23,10 @@ CellOf l i vector = InCell (l .d) (l .b) (l .marks) (l .codes) i vector
 abbrev pub OwnCodes : Library → Type 0
 OwnCodes l = Own (l .d) (l .b) (l .n) (l .marks) (l .codes) (l .vectors)
 
--- the library's own vectors at the numbers of a set, and vectors of their own cells at all the others
+-- the library's own vectors at the numbers of a set, and vectors of their own cells "at all the other numbers"
 pub record SameCells (l : Library) (set : List ℕ) (vectors : List ℤ) : Type 0 where
   pub size : length vectors ≡ l .n * l .d
-  pub cells : (i : ℕ) → i < l .n → CellOf l i (vectorAt (l .d) vectors i)
+  pub cells : (i : ℕ) → i < l .n → ¬ (i ∈ set) → CellOf l i (vectorAt (l .d) vectors i)
   pub kept : (i : ℕ) → i < l .n → i ∈ set → vectorAt (l .d) vectors i ≡ vectorAt (l .d) (l .vectors) i
 
 -- "A set of pattern numbers settles the answer if, whatever vectors of their own cells stand at all the other numbers, with all else that
@@ -34,10 +35,11 @@ abbrev pub SettlesAnswer : Library → List ℤ → ℕ → List ℕ → Type 0
 SettlesAnswer l query k set =
     (vectors : List ℤ) → SameCells l set vectors → scanned (withVectors l vectors) query k ≡ (searched l query k) .best
 
--- another vector of its cell at number i alone changes the answer
-pub record NeededVector (l : Library) (query : List ℤ) (k i : ℕ) : Type 0 where
+-- number i is needed: another vector of its cell, put there alone, is taken by the search too, and changes a number or a distance
+pub record NeededVector (l : Library) (query : List ℤ) (k : ℕ) (room : Room) (i : ℕ) : Type 0 where
   pub vectors : List ℤ
   pub size : length vectors ≡ l .n * l .d
   pub cell : CellOf l i (vectorAt (l .d) vectors i)
   pub elsewhere : (j : ℕ) → j < l .n → j ≢ i → vectorAt (l .d) vectors j ≡ vectorAt (l .d) (l .vectors) j
-  pub changes : scanned (withVectors l vectors) query k ≢ scanned l query k
+  pub accepted : Accepts (withVectors l vectors) query k room
+  pub changes : (searched (withVectors l vectors) query k) .best ≢ (searched l query k) .best

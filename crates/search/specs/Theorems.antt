@@ -6,7 +6,9 @@
 use mathlib.Core.Path.{_≡_, refl, sym, ap, _∙_}
 use mathlib.Core.Logic.{_≢_}
 use mathlib.Core.List.{List, [], _∷_, List·Memᴰ·head, List·Memᴰ·tail}
-use Prim.Native.Nat.{ℕ, _+_, _≤_, _<_}
+use mathlib.Core.Bool.{true}
+use Prim.Native.Nat.{ℕ, _+_, _*_, _≤_, _<_}
+use native.Mathlib.Decide.{ℕ-discrete}
 use native.Mathlib.Omega.{arith}
 use lib.IntN.{ℤ}
 use lib.ListN.{length, take}
@@ -14,13 +16,14 @@ use Rattle.order.specs.Members.{_∈_}
 use Rattle.order.specs.Counted.{counted, counted-distinct}
 use Rattle.selection.specs.Reading.{readingOrder}
 use Rattle.selection.specs.Settles.{Bounds, Agree, fixed}
+use Rattle.selection.specs.Least.{member?}
 use Rattle.selection.specs.Theorems.{reads-in-order, reads-among, exact, stable, stable-answer, needed, settling-holds, least}
 use Rattle.cells.specs.Cells.{vectorAt}
 use Rattle.distance.specs.Distance.{distanceOf}
 use Rattle.search.specs.Search.{Library, numbersIn, distanceIn, lowIn, highIn, inOwnCells, scanned, searched, Room}
 use Rattle.search.specs.Accepted.{Accepts, passes, accepts, lengths-told, lengths-exact}
-use Rattle.search.specs.Settled.{withVectors, OwnCodes, SameCells, SettlesAnswer, NeededVector}
-use Rattle.search.specs.Instance.{Possible, own-lower, own-possible, cell-bounds, settles-distances, needed-vector}
+use Rattle.search.specs.Settled.{withVectors, CellOf, OwnCodes, SameCells, SettlesAnswer, NeededVector}
+use Rattle.search.specs.Instance.{Possible, OtherScan, own-lower, own-possible, cell-bounds, settles-distances, needed-vector}
 
 -- a number read is one of the library's
 read-below : (l : Library) (query : List ℤ) (k : ℕ) {i : ℕ} → i ∈ (searched l query k) .reads → i < l .n
@@ -47,16 +50,11 @@ pub search-is-stable : (l : Library) (query : List ℤ) (k : ℕ) (vectors : Lis
 search-is-stable l query k vectors same =
     stable k (lowIn l query) (distanceIn l query) (numbersIn l) (distanceIn (withVectors l vectors) query) (same-distances l query k vectors same)
 
--- .. and is still not refused ..
-kept-cells : (l : Library) (vectors : List ℤ) (is : List ℕ) → ((i : ℕ) → i ∈ is → vectorAt (l .d) vectors i ≡ vectorAt (l .d) (l .vectors) i)
-    → inOwnCells (withVectors l vectors) is ≡ inOwnCells l is
-unfolding inOwnCells
-kept-cells l vectors [] kept = refl
-kept-cells l vectors (i ∷ is) kept = rw (kept i (List·Memᴰ·head refl), kept-cells l vectors is (λ j m. kept j (List·Memᴰ·tail m)))
-
-pub search-stays-accepted : (l : Library) (query : List ℤ) (k : ℕ) (room : Room) (vectors : List ℤ) → SameCells l ((searched l query k) .reads) vectors
+-- other vectors in as many places are taken by the search, if each that it then reads lies in its cell
+accepts-others : (l : Library) (query : List ℤ) (k : ℕ) (room : Room) (vectors : List ℤ) → length vectors ≡ l .n * l .d
+    → inOwnCells (withVectors l vectors) ((searched (withVectors l vectors) query k) .reads) ≡ true
     → Accepts l query k room → Accepts (withVectors l vectors) query k room
-search-stays-accepted l query k room vectors same held =
+accepts-others l query k room vectors size cells held =
     let p = passes l query k room held in
     let n = lengths-told l query k room (p .lengths) in
     accepts (withVectors l vectors) query k room
@@ -69,7 +67,7 @@ search-stays-accepted l query k room vectors same held =
         of-query = n .of-query;
         of-marks = n .of-marks;
         of-codes = n .of-codes;
-        of-vectors = same .size;
+        of-vectors = size;
         of-numbers = n .of-numbers;
         of-distances = n .of-distances;
         of-reads = n .of-reads;
@@ -77,23 +75,77 @@ search-stays-accepted l query k room vectors same held =
       components = p .components;
       marks = p .marks;
       codes = p .codes;
-      cells = rw (search-is-stable l query k vectors same, kept-cells l vectors ((searched l query k) .reads) (λ i m. same .kept i (read-below l query k m) m)) (p .cells);
+      cells = cells;
     })
+
+-- .. and is still not refused ..
+kept-cells : (l : Library) (vectors : List ℤ) (is : List ℕ) → ((i : ℕ) → i ∈ is → vectorAt (l .d) vectors i ≡ vectorAt (l .d) (l .vectors) i)
+    → inOwnCells (withVectors l vectors) is ≡ inOwnCells l is
+unfolding inOwnCells
+kept-cells l vectors [] kept = refl
+kept-cells l vectors (i ∷ is) kept = rw (kept i (List·Memᴰ·head refl), kept-cells l vectors is (λ j m. kept j (List·Memᴰ·tail m)))
+
+pub search-stays-accepted : (l : Library) (query : List ℤ) (k : ℕ) (room : Room) (vectors : List ℤ) → SameCells l ((searched l query k) .reads) vectors
+    → Accepts l query k room → Accepts (withVectors l vectors) query k room
+search-stays-accepted l query k room vectors same held =
+    let reads = (searched l query k) .reads in
+    let kept = kept-cells l vectors reads (λ i m. same .kept i (read-below l query k m) m) in
+    accepts-others l query k room vectors (same .size)
+    (rw (search-is-stable l query k vectors same, kept) ((passes l query k room held) .cells)) held
 
 -- .. and so does the scan its answer.
 pub scan-is-stable : (l : Library) (query : List ℤ) (k : ℕ) (vectors : List ℤ) → OwnCodes l → SameCells l ((searched l query k) .reads) vectors
     → scanned (withVectors l vectors) query k ≡ scanned l query k
 scan-is-stable l query k vectors own same =
     stable-answer k (lowIn l query) (distanceIn l query) (numbersIn l) (distanceIn (withVectors l vectors) query) (own-lower l query own)
-    (own-lower (withVectors l vectors) query (record { cells = same .cells; spare = own .spare })) (same-distances l query k vectors same)
+    (own-lower (withVectors l vectors) query (record { cells = λ i h. cell i h (member? i reads); spare = own .spare }))
+    (same-distances l query k vectors same)
+  where
+    reads : List ℕ
+    reads = (searched l query k) .reads
 
--- ---- 3. Each number read whose cell's two distances differ is needed: another vector of its cell, put there alone, changes the answer.
+    cell : (i : ℕ) → i < l .n → Dec (i ∈ reads) → CellOf l i (vectorAt (l .d) vectors i)
+    cell i h (yes m) = rw (same .kept i h m) (own .cells i h)
+    cell i h (no out) = same .cells i h out
+
+-- ---- 3. Each number read whose cell's two distances differ is needed: the search takes another vector of its cell, put there alone, and
+-- gives another number or distance.
+
+-- where the codes are the vectors' own, no vector that is read lies outside its cell
+own-cells : (l : Library) (is : List ℕ) → OwnCodes l → ((i : ℕ) → i ∈ is → i < l .n) → inOwnCells l is ≡ true
+unfolding inOwnCells
+own-cells l [] own below = refl
+own-cells l (i ∷ is) own below =
+    rw ((own .cells i (below i (List·Memᴰ·head refl))) .inside, own-cells l is own (λ j m. below j (List·Memᴰ·tail m)))
+
 pub read-is-needed : (l : Library) (query : List ℤ) (k : ℕ) (room : Room) → OwnCodes l → Accepts l query k room
-    → (i : ℕ) → i ∈ (searched l query k) .reads → lowIn l query i ≢ highIn l query i → NeededVector l query k i
-read-is-needed l query k room own accepts i is-read differ =
-    needed-vector l query k i own (read-below l query k is-read)
-    (needed k (lowIn l query) (distanceIn l query) (numbersIn l) (Possible l query) (highIn l query) (bounds-of l query k room accepts)
-    (own-lower l query own) is-read differ)
+    → (i : ℕ) → i ∈ (searched l query k) .reads → lowIn l query i ≢ highIn l query i → NeededVector l query k room i
+read-is-needed l query k room own accepts i is-read differ = record {
+  vectors = other .vectors;
+  size = other .size;
+  cell = other .cell;
+  elsewhere = other .elsewhere;
+  accepted =
+      accepts-others l query k room (other .vectors) (other .size)
+      (own-cells with-other ((searched with-other query k) .reads) own-other (λ j m. read-below with-other query k m)) accepts;
+  changes = λ same. other .changes (sym (search-is-scan with-other query k own-other) ∙ same ∙ search-is-scan l query k own);
+}
+  where
+    other : OtherScan l query k i
+    other =
+        needed-vector l query k i own (read-below l query k is-read)
+        (needed k (lowIn l query) (distanceIn l query) (numbersIn l) (Possible l query) (highIn l query) (bounds-of l query k room accepts)
+        (own-lower l query own) is-read differ)
+
+    with-other : Library
+    with-other = withVectors l (other .vectors)
+
+    cell : (j : ℕ) → j < l .n → Dec (j ≡ i) → CellOf l j (vectorAt (l .d) (other .vectors) j)
+    cell j h (yes e) = rw e (other .cell)
+    cell j h (no different) = rw (other .elsewhere j h different) (own .cells j h)
+
+    own-other : OwnCodes with-other
+    own-other = record { cells = λ j h. cell j h (ℕ-discrete j i); spare = own .spare }
 
 -- ---- 4. The numbers read settle the answer; every set that settles it holds each read number whose cell's two distances differ ..
 pub reads-settle-answer : (l : Library) (query : List ℤ) (k : ℕ) → OwnCodes l → SettlesAnswer l query k ((searched l query k) .reads)
