@@ -3,28 +3,36 @@ use mathlib.Core.Path.{_≡_, refl}
 use mathlib.Core.List.{List, [], _∷_}
 use Prim.Native.Nat.{ℕ}
 use lib.IntN.{ℤ, pos, negsuc}
+use lib.ListN.{length}
 use lib.Ieee.{Float, binary32, ofBits, odd, ofFields, isNan}
 use Rattle.refusal.specs.First.{first}
+use Rattle.refusal.specs.declared.Verdict.the-variants.{Accepted}
 use Rattle.reading.specs.declared.Reading.{Reading}
 use Rattle.reading.specs.declared.Reading.the-variants.{Fresh, Held}
 use Rattle.reading.specs.declared.Intake.the-variants.{Component}
 use Rattle.reading.specs.Component.{rounded}
 use Rattle.reading.specs.Intake.{valueIntake, intakeOf, intakeNumber}
 use Rattle.whole.specs.Keys.{keyOf}
+use Rattle.whole.specs.Components.{areComponents}
 use Rattle.order.specs.Pair.{Pair, below, insert, sort, keyed, ranked, numbersOf, countFrom}
 use Rattle.order.specs.Rank.{ranking}
 use Rattle.selection.specs.Reading.{scan, unread, leastPair, goesOn, readNext, reading, read}
 use Rattle.layout.specs.Layout.{bitsOf, firstBits, firstMarks}
-use Rattle.region.specs.Region.{regionOf}
-use Rattle.partition.specs.Marks.{dimensionMarks}
+use Rattle.region.specs.Dimension.{notAbove, goodDimension}
+use Rattle.region.specs.Region.{regionOf, inRegion, inMarks}
+use Rattle.partition.specs.Marks.{dimensionMarks, goodFirst}
+use Rattle.marking.specs.Making.{makeCauses}
 use Rattle.marking.specs.Made.{column, inOrder, madeDimension, madeFirst, madeMarks}
-use Rattle.codes.specs.Bits.{lowBits, fromBits, bytesOf, byteBits}
+use Rattle.codes.specs.Bits.{lowBits, fromBits, bytesOf, byteBits, allZero}
 use Rattle.codes.specs.Codes.{joined, packed, codeRegion}
-use Rattle.approximation.specs.Vectors.{regionsFrom, vectorCodes}
+use Rattle.cells.specs.Cells.{inFirst, hasValue, noneEmpty, noEmptyCodes}
+use Rattle.approximation.specs.Vectors.{regionsFrom, vectorCodes, insideFrom}
+use Rattle.approximation.specs.VectorCauses.{packVectorsCauses}
 use Rattle.step.specs.Step.{shortest}
 use Rattle.distance.specs.Distance.{firstDistance}
 use Rattle.distance.specs.Bounds.{firstBound}
-use Rattle.search.specs.Search.{Library, searched}
+use Rattle.search.specs.Search.{Library, searched, searchCauses, inOwnCells}
+use Rattle.search.specs.Ready.{roomOf}
 
 -- one case: what is asked, and what document 01 says
 pub data Case : Type 0 where
@@ -39,12 +47,17 @@ pub data Case : Type 0 where
   -- the search of a library for the k nearest gives these pairs (distance, number) and this read list
   finds : Library → List ℤ → ℕ → List Pair → List ℕ → Case
 
+-- a case holds: the call that it speaks of is not refused where it gives something, and gives what document 01 says
 abbrev pub Holds : Case → Type 0
 Holds (gives reading component) = intakeOf reading ≡ Component component
 Holds (refuses reading number) = intakeNumber (intakeOf reading) ≡ number
-Holds (codes l) = vectorCodes (l .d) (l .b) (l .n) (l .marks) (l .vectors) ≡ l .codes
-Holds (makes l marks) = madeMarks (l .d) (l .b) (l .n) (l .vectors) ≡ marks
-Holds (finds l query k entries reads) = searched l query k ≡ record { best = entries; reads = reads }
+Holds (codes l) =
+    (first (packVectorsCauses (l .d) (l .b) (l .n) (l .vectors) (l .marks) (length (l .codes))) ≡ Accepted)
+    × (vectorCodes (l .d) (l .b) (l .n) (l .marks) (l .vectors) ≡ l .codes)
+Holds (makes l marks) =
+    (first (makeCauses (l .d) (l .b) (l .n) (l .vectors) (length marks)) ≡ Accepted) × (madeMarks (l .d) (l .b) (l .n) (l .vectors) ≡ marks)
+Holds (finds l query k entries reads) =
+    (first (searchCauses l query k (roomOf k k (l .n))) ≡ Accepted) × (searched l query k ≡ record { best = entries; reads = reads })
 
 abbrev pub All : List Case → Type 0
 All [] = Unit {0}
@@ -105,5 +118,7 @@ table =
     ∷ []
 
 pub cases-hold : All table
-unfolding first intakeOf valueIntake rounded ofBits ofFields odd isNan keyOf below insert sort keyed ranked numbersOf countFrom ranking scan unread leastPair goesOn readNext reading read bitsOf firstBits firstMarks dimensionMarks regionOf column inOrder madeDimension madeFirst lowBits fromBits bytesOf byteBits joined packed codeRegion regionsFrom firstDistance shortest firstBound
-cases-hold = (refl, (refl, (refl, (refl, (refl, (refl, (refl, (refl, (refl, (refl, (refl, (refl, (refl, (refl, (refl, tt)))))))))))))))
+unfolding first intakeOf valueIntake rounded ofBits ofFields odd isNan keyOf below insert sort keyed ranked numbersOf countFrom ranking scan unread leastPair goesOn readNext reading read bitsOf firstBits firstMarks dimensionMarks regionOf column inOrder madeDimension madeFirst lowBits fromBits bytesOf byteBits joined packed codeRegion regionsFrom firstDistance shortest firstBound areComponents goodFirst notAbove goodDimension inMarks inRegion insideFrom allZero inFirst hasValue noneEmpty noEmptyCodes inOwnCells
+cases-hold =
+    (refl, (refl, (refl, (refl, (refl, (refl, (refl, (refl, (refl,
+    ((refl, refl), ((refl, refl), ((refl, refl), ((refl, refl), ((refl, refl), ((refl, refl), tt)))))))))))))))

@@ -25,8 +25,3 @@ distanceCauses query vector =
 abbrev pub distanceNumber : Distance → ℕ
 distanceNumber (Squared sum) = 0
 distanceNumber (Refused cause) = numberOf cause
-
--- an answer's distance, 0 where it is refused
-abbrev pub distanceValue : Distance → ℕ
-distanceValue (Squared sum) = sum
-distanceValue (Refused cause) = 0
