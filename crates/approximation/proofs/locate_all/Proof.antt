@@ -1,6 +1,6 @@
 -- `locate_all` meets its contract: what is written so far, with the regions of the components from i on, is the whole.
 -- Assumes nothing.
-use mathlib.Core.Path.{_≡_, refl}
+use mathlib.Core.Path.{_≡_, refl, _∙_}
 use mathlib.Core.Bool.{true, cond, and-eq-true-iff}
 use mathlib.Core.List.{List, _++_, append-nil}
 use Prim.Native.Nat.{ℕ, suc, _+_, _-_, _≤_, _<_}
@@ -13,7 +13,7 @@ use mir.Syntax.{w32}
 use mir.ValLaws.{toZ-ofZ}
 use Rattle.order.proofs.Written.{written-one}
 use Rattle.region.specs.Region.{regionOf, inMarks}
-use Rattle.region.specs.Located.{Located, located-is}
+use Rattle.region.specs.Halving.{halved, halvings-le, halved-is}
 use Rattle.partition.specs.Marks.{dimensionMarks}
 use Rattle.partition.specs.Parts.{marksAt}
 use Rattle.codes.specs.Codes.{nextColumn}
@@ -40,14 +40,15 @@ abbrev μ-loop : tie.MeasureT-loop
 
 module _ {d b : ℕ} {vectors marks : List ℤ} {room : ℕ} {regions : List ℕ} {column offset i : ℕ} (given : Inside d b marks vectors) (fits : length vectors ≤ room) (at : Locating d b vectors marks room regions column offset i) where
   -- the region that is located in the column's marks is written
-  turn : {part : List ℤ} {w r : ℕ} → Width d b column w → part ≡ marksAt marks offset w → i < length vectors → Located part (getD vectors i (pos 0)) r
+  turn : {part : List ℤ} {w r : ℕ} → Width d b column w → part ≡ marksAt marks offset w → i < length vectors → r ≡ halved part (getD vectors i (pos 0))
       → Locating d b vectors marks room (set regions i r) (nextColumn d column) (cond (eqb (nextColumn d column) 0) 0 (offset + length part)) (i + 1)
   turn {part} {w} {r} wide is more located =
       let exact = given .exact in
       let own = dimensionMarks d b marks (suc column) in
       let z = getD vectors i (pos 0) in
       let tests = and-eq-true-iff (inMarks own z) (insideFrom d b marks (nextColumn d column) (drop (i + 1) vectors)) .0 (rw (inside-next d b marks column vectors i more) at (at .inside)) in
-      let found : r ≡ regionOf own z = located-is (good-each d b marks column (at .begins-at .inside) (given .good)) (tests .0) (rw (part-is marks exact (at .begins-at) wide is) at located) in
+      let good = good-each d b marks column (at .begins-at .inside) (given .good) in
+      let found : r ≡ regionOf own z = (rw (part-is marks exact (at .begins-at) wide is) at located) ∙ halved-is own z good (tests .0) in
       record {
         begins-at = goes-on marks exact (at .begins-at) wide is;
         among = omega arith;
@@ -67,7 +68,7 @@ wide c = width (c .before .before .before .before .pre .0 .shaped) (c .column-bi
 
 -- the region in the column's marks, for the component that was read
 found : (c : tie.After-locate Inv-loop μ-loop) → let at = c .before .before .before .before .before in
-    Located (c .before .before .marks-at .result .now) (getD (at .before .before .args .vectors .now) (at .loop .i) (pos 0)) (c .locate .result)
+    c .locate .result ≡ halved (c .before .before .marks-at .result .now) (getD (at .before .before .args .vectors .now) (at .loop .i) (pos 0))
 found c = rw (toZ-ofZ w32 _ (record { sfits = c .before .locate-arg .given })) at (c .locate .ensures)
 
 loop-holds : tie.Need-loop-holds Inv-loop μ-loop
@@ -79,7 +80,9 @@ cast-regions : tie.Need-cast-regions Inv-loop μ-loop
 cast-regions c =
     let part = c .before .before in
     let at = part .before .before .before in
-    omega (arith, found c .bound, part-few (at .before .before .args .marks .now) (at .before .before .pre .0 .exact) (at .loop .inv .begins-at) (wide (part .before)) (part .marks-at .ensures))
+    let read = part .marks-at .result .now in
+    let le = halvings-le read (getD (at .before .before .args .vectors .now) (at .loop .i) (pos 0)) (length read) 0 (length read) in
+    omega (arith, found c, le, part-few (at .before .before .args .marks .now) (at .before .before .pre .0 .exact) (at .loop .inv .begins-at) (wide (part .before)) (part .marks-at .ensures))
 
 slice-write-regions : tie.Need-slice-write-regions Inv-loop μ-loop
 slice-write-regions c =
