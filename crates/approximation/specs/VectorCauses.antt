@@ -1,24 +1,21 @@
 -- The causes for which the regions and the codes of vectors are not given (document 01, "When a call says no"), and what holds where they
 -- are. Assumes nothing.
-use mathlib.Core.Path.{_≡_, refl, ap, _∙_}
+use mathlib.Core.Path.{_≡_}
 use mathlib.Core.Bool.{true, not, _&&_, and-eq-true-iff}
 use mathlib.Core.List.{List, [], _∷_, _++_}
-use Prim.Native.Nat.{ℕ, suc, _*_, _<_}
-use borrow.Author.Tests.{eqb-true, eq-eqb, not-false}
+use Prim.Native.Nat.{ℕ, _*_}
+use borrow.Author.Tests.{eqb-true, not-false}
 use lib.Dec.{eqb}
 use lib.IntN.{ℤ}
 use lib.ListN.{length}
 use Rattle.refusal.specs.declared.Refusal.the-variants.{Count, Length, Component, Mark, Outside}
 use Rattle.refusal.specs.declared.Verdict.the-variants.{Accepted}
-use Rattle.refusal.specs.First.{Row, _⇒_, first, outcome-accepted, first-next, first-append, passed, accepted-behind}
+use Rattle.refusal.specs.First.{Row, _⇒_, first, passed, accepted-behind}
 use Rattle.limits.specs.Limits.{isVectorCount}
-use Rattle.limits.specs.Tests.{all-each}
 use Rattle.whole.specs.Components.{areComponents}
 use Rattle.layout.specs.Layout.{firstMarks}
 use Rattle.layout.specs.Stretch.{shapeCauses, Shape, shape}
-use Rattle.region.specs.Dimension.{goodDimension}
-use Rattle.partition.specs.Marks.{dimensionMarks, goodFirst, goodMarks}
-use Rattle.partition.specs.MarksCauses.{shapedCauses, marksCauses}
+use Rattle.partition.specs.Marks.{goodMarks}
 use Rattle.codes.specs.Pack.{sizeCauses}
 use Rattle.approximation.specs.Vectors.{vectorsInside}
 
@@ -79,15 +76,3 @@ inside-marks d b vectors marks shaped accepted =
       good = not-false (goodMarks d b marks) (good .fails);
       inside = not-false (vectorsInside d b marks vectors) (inside .fails);
     }
-
--- each dimension's marks are good
-pub good-each : (d b : ℕ) (marks : List ℤ) (t : ℕ) → t < d → goodMarks d b marks ≡ true → goodDimension (dimensionMarks d b marks (suc t)) ≡ true
-unfolding goodFirst
-good-each d b marks = all-each {all = goodFirst d b marks} {test = λ j. goodDimension (dimensionMarks d b marks (suc j))} (record { next = λ j. refl }) d
-
--- where the shape and the length are right, only the marks themselves can be refused
-pub marks-row : (d b : ℕ) (marks : List ℤ) → first (shapeCauses d b) ≡ Accepted → length marks ≡ firstMarks d b d
-    → first (marksCauses d b marks) ≡ first ((not (goodMarks d b marks) ⇒ Mark) ∷ [])
-marks-row d b marks shaped exact =
-    first-append (shapeCauses d b) (shapedCauses d b marks) ∙ outcome-accepted _ _ shaped
-    ∙ first-next Length _ (ap not (eq-eqb (length marks) (firstMarks d b d) exact))

@@ -27,11 +27,11 @@ marksCauses d b marks = shapeCauses d b ++ shapedCauses d b marks
 abbrev pub partCauses : ℕ → ℕ → List ℤ → ℕ → List Row
 partCauses d b marks j = (not (leb 1 j && leb j d) ⇒ Dimension) ∷ marksCauses d b marks
 
--- ---- where only the marks themselves are left to test
+-- ---- where the shape and the length are right, only the marks themselves can be refused
 
-left : (d b : ℕ) (marks : List ℤ) → first (shapeCauses d b) ≡ Accepted → length marks ≡ firstMarks d b d
+pub marks-row : (d b : ℕ) (marks : List ℤ) → first (shapeCauses d b) ≡ Accepted → length marks ≡ firstMarks d b d
     → first (marksCauses d b marks) ≡ first ((not (goodMarks d b marks) ⇒ Mark) ∷ [])
-left d b marks shaped size =
+marks-row d b marks shaped size =
     first-append (shapeCauses d b) (shapedCauses d b marks)
     ∙ outcome-accepted _ _ shaped
     ∙ first-next Length ((not (goodMarks d b marks) ⇒ Mark) ∷ []) (ap not (eq-eqb (length marks) (firstMarks d b d) size))
@@ -39,7 +39,7 @@ left d b marks shaped size =
 pub marks-good : (d b : ℕ) (marks : List ℤ) → first (shapeCauses d b) ≡ Accepted → length marks ≡ firstMarks d b d
     → first (marksCauses d b marks) ≡ Accepted → goodMarks d b marks ≡ true
 marks-good d b marks shaped size accepted =
-    let last = passed _ _ _ (sym (left d b marks shaped size) ∙ accepted) in
+    let last = passed _ _ _ (sym (marks-row d b marks shaped size) ∙ accepted) in
     not-false (goodMarks d b marks) (last .fails)
 
 pub marks-bad : (d b : ℕ) (marks : List ℤ) {cause : Refusal} → first (shapeCauses d b) ≡ Accepted → length marks ≡ firstMarks d b d
@@ -48,6 +48,6 @@ marks-bad d b marks shaped size refused = go (goodMarks d b marks) refl
   where
     go : (good : Bool) → goodMarks d b marks ≡ good → good ≡ false
     go true e =
-        let accepted : first (marksCauses d b marks) ≡ Accepted = left d b marks shaped size ∙ first-next Mark [] (ap not e) ∙ first-none in
+        let accepted : first (marksCauses d b marks) ≡ Accepted = marks-row d b marks shaped size ∙ first-next Mark [] (ap not e) ∙ first-none in
         absurd (apart (sym accepted ∙ refused))
     go false e = refl

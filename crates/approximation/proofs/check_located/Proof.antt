@@ -11,7 +11,8 @@ use Rattle.refusal.specs.First.{Row, _⇒_, first, outcome-accepted, outcome-re
 use Rattle.layout.specs.Layout.{firstMarks}
 use Rattle.layout.specs.Stretch.{marks-length-is, shape}
 use Rattle.partition.specs.Marks.{goodMarks}
-use Rattle.approximation.specs.VectorCauses.{locateCauses, marks-row}
+use Rattle.partition.specs.MarksCauses.{marks-row}
+use Rattle.approximation.specs.VectorCauses.{locateCauses}
 use Rattle.approximation.proofs.check_located.Statement.{statement}
 use Rattle.approximation.proofs.check_located.Tie as tie
 

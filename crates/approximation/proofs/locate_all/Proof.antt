@@ -14,10 +14,10 @@ use mir.ValLaws.{toZ-ofZ}
 use Rattle.order.proofs.Written.{written-one}
 use Rattle.region.specs.Region.{regionOf, inMarks}
 use Rattle.region.specs.Halving.{halved, halvings-le, halved-is}
-use Rattle.partition.specs.Marks.{dimensionMarks}
+use Rattle.partition.specs.Marks.{dimensionMarks, good-marks-each}
 use Rattle.codes.specs.Codes.{nextColumn}
 use Rattle.approximation.specs.Vectors.{vectorRegions, regionsFrom, insideFrom}
-use Rattle.approximation.specs.VectorCauses.{Inside, good-each}
+use Rattle.approximation.specs.VectorCauses.{Inside}
 use Rattle.approximation.proofs.Stretches.{Counted, few-bits, fewest-few, counted, Begins, begins, part-within, part-is, goes-on}
 use Rattle.approximation.proofs.Stretches.{inside-next, regions-next}
 use Rattle.approximation.proofs.locate_all.Statement.{statement}
@@ -50,7 +50,7 @@ module _ {d b : ℕ} {vectors marks : List ℤ} {room : ℕ} {regions : List ℕ
       let z = getD vectors i (pos 0) in
       let behind = insideFrom d b marks (nextColumn d column) (drop (i + 1) vectors) in
       let tests = and-eq-true-iff (inMarks own z) behind .0 (rw (inside-next d b marks column vectors i more) at (at .inside)) in
-      let good = good-each d b marks column (at .begins-at .inside) (given .good) in
+      let good = good-marks-each d b marks column (at .begins-at .inside) (given .good) in
       let found : r ≡ regionOf own z = (rw (part-is marks exact (at .begins-at) counts) at located) ∙ halved-is own z good (tests .0) in
       record {
         begins-at = goes-on marks exact (at .begins-at) counts;
