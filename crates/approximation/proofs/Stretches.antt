@@ -24,13 +24,13 @@ use Rattle.codes.specs.Codes.{nextColumn}
 use Rattle.codes.proofs.Columns.{next-below}
 use Rattle.approximation.specs.Vectors.{regionsFrom, insideFrom}
 
--- ---- how many regions a column's dimension has
+-- ---- How many regions a column's dimension has
 
 pub record Counted (d b column regions : ℕ) : Type 0 where
   pub is : regions ≡ regionCount d b (suc column)
   pub few : regions ≤ 2 ^ maxDimensionBits
 
--- the fewest regions of a dimension, as the code works them out
+-- The code works out the fewest regions of a dimension by a shift.
 abbrev pub fewestOf : ℕ → ℕ → ℕ
 fewestOf d b = 1 * 2 ^ (b / d) % 2 ^ 64
 
@@ -53,9 +53,9 @@ module _ {d b : ℕ} (shaped : Shape d b) where
       go true = rw add-one (omega arith)
       go false = rw add-zero refl
 
--- ---- where its marks are
+-- ---- Where the marks of a column's dimension are
 
--- the marks of a column's dimension begin at this offset
+-- The marks of a column's dimension begin at this offset.
 pub record Begins (d b column offset : ℕ) : Type 0 where
   pub inside : column < d
   pub there : offset ≡ firstMarks d b column
@@ -64,7 +64,7 @@ first-none : (d b : ℕ) → 0 ≡ firstMarks d b 0
 unfolding firstMarks
 first-none d b = refl
 
--- the first column's at the front
+-- The first column's marks are at the front.
 pub begins : {d b : ℕ} → Shape d b → Begins d b 0 0
 begins {d} {b} shaped = record { inside = shaped .some; there = first-none d b }
 
@@ -83,7 +83,7 @@ module _ {d b : ℕ} (marks : List ℤ) (exact : length marks ≡ firstMarks d b
       let before : suc column - 1 ≡ column = omega arith in
       rw (size, at .there, counts .is, before)
 
-  -- the next column's begin where they end
+  -- The next column's marks begin where these end.
   pub goes-on : Begins d b (nextColumn d column) (cond (eqb (nextColumn d column) 0) 0 (offset + regions + 1))
   goes-on = record { inside = next-below d column (at .inside); there = go (eqb (suc column) d) }
     where
@@ -91,7 +91,7 @@ module _ {d b : ℕ} (marks : List ℤ) (exact : length marks ≡ firstMarks d b
       go true = first-none d b
       go false = rw (ne-eqb (suc column) 0 (omega arith)) end-is
 
--- ---- the components from i on
+-- ---- The components from i on
 
 module _ (d b : ℕ) (marks : List ℤ) (t : ℕ) (vectors : List ℤ) (i : ℕ) (more : i < length vectors) where
   pub inside-next : insideFrom d b marks t (drop i vectors)

@@ -19,12 +19,12 @@ use Rattle.partition.specs.Marks.{goodMarks}
 use Rattle.codes.specs.Pack.{sizeCauses}
 use Rattle.approximation.specs.Vectors.{vectorsInside}
 
--- 1, 2, 3, and 5 for n rows of d components and n rows of d region numbers
+-- Numbers and lengths are refused for 1, 2 or 3, and for 5 if they are not n rows of d components and n rows of d region numbers.
 abbrev pub rowCauses : ℕ → ℕ → ℕ → ℕ → ℕ → List Row
 rowCauses d b n vectors regions =
     shapeCauses d b ++ ((not (isVectorCount n) ⇒ Count) ∷ (not (eqb vectors (n * d) && eqb regions (n * d)) ⇒ Length) ∷ [])
 
--- 5 for the marks, 6, 7, 8
+-- What is located is refused for 5 of the marks, 6, 7 or 8.
 abbrev pub locateCauses : ℕ → ℕ → List ℤ → List ℤ → List Row
 locateCauses d b vectors marks =
     (not (eqb (length marks) (firstMarks d b d)) ⇒ Length)
@@ -33,15 +33,15 @@ locateCauses d b vectors marks =
     ∷ (not (vectorsInside d b marks vectors) ⇒ Outside)
     ∷ []
 
--- for a buffer of so many region numbers
+-- The region numbers are refused for these causes, in a buffer of so many numbers.
 abbrev pub regionsCauses : ℕ → ℕ → ℕ → List ℤ → List ℤ → ℕ → List Row
 regionsCauses d b n vectors marks regions = rowCauses d b n (length vectors) regions ++ locateCauses d b vectors marks
 
--- for a buffer of so many bytes of codes
+-- The codes are refused for these causes, in a buffer of so many bytes.
 abbrev pub packVectorsCauses : ℕ → ℕ → ℕ → List ℤ → List ℤ → ℕ → List Row
 packVectorsCauses d b n vectors marks codes = sizeCauses d b n (length vectors) codes ++ locateCauses d b vectors marks
 
--- ---- what holds where nothing is refused
+-- ---- What holds where nothing is refused
 
 pub record Rows (d b n vectors regions : ℕ) : Type 0 where
   pub components : vectors ≡ n * d
@@ -56,7 +56,7 @@ rows d b n vectors regions accepted =
     let both = and-eq-true-iff components numbers .0 (not-false (components && numbers) (lengths .fails)) in
     record { components = eqb-true vectors (n * d) (both .0); numbers = eqb-true regions (n * d) (both .1) }
 
--- good marks of all dimensions, with each component inside its dimension's
+-- The marks are good in all dimensions, and each component lies inside its dimension's.
 pub record Inside (d b : ℕ) (marks vectors : List ℤ) : Type 0 where
   pub shaped : Shape d b
   pub exact : length marks ≡ firstMarks d b d

@@ -49,7 +49,7 @@ pub fn regions(
     }
 }
 
-// The codes of n vectors. Refused is the same, with the codes' length for the region numbers'.
+// The codes of n vectors. Refused is what `regions` refuses, with the codes' length in place of the region numbers'.
 pub fn pack_vectors(
     d: usize,
     b: usize,

@@ -16,22 +16,22 @@ use Rattle.region.specs.Region.{regionOf, inMarks}
 use Rattle.region.specs.Within.{Within, ltZ-leZ}
 use Rattle.region.specs.Regions.{Holds, within-holds, marks-within, last-mark, marks-rise, region-of-holds, region-of-is}
 
--- by how many marks a stretch of so many becomes shorter: none where at most two are left
+-- A halving takes this many marks off a stretch of count marks, and none where at most two are left.
 abbrev pub halfOf : ℕ → ℕ
 halfOf count = (count - 1) / 2
 
--- where the stretch begins that is left: at the mark in the middle, or as before where v is below that mark
+-- The half that is left begins at the mark in the middle, or where the stretch began if v is below that mark.
 abbrev pub halfStart : List ℤ → ℤ → ℕ → ℕ → ℕ
 halfStart marks v start half = cond (ltZ v (getD marks (start + half) (pos 0))) start (start + half)
 
--- the start of what is left of count marks from start on, after so many halvings
+-- After so many halvings, what is left of count marks from start on begins here.
 unfoldable pub halvings : ℕ → List ℤ → ℤ → ℕ → ℕ → ℕ
 halvings zero marks v start count = start
 halvings (suc more) marks v start count =
     let half = halfOf count in
     halvings more marks v (halfStart marks v start half) (count - half)
 
--- the region found by halving: as many halvings as there are marks leave at most two
+-- Halving finds this region: as many halvings as there are marks leave at most two marks.
 abbrev pub halved : List ℤ → ℤ → ℕ
 halved marks v = halvings (length marks) marks v 0 (length marks)
 
@@ -45,7 +45,7 @@ half-start-le marks v start half = go (ltZ v (getD marks (start + half) (pos 0))
     go false = omega arith
 
 module _ (marks : List ℤ) (v : ℤ) where
-  -- the start stays among the marks
+  -- The start stays among the marks of the stretch.
   pub halvings-le : (more start count : ℕ) → halvings more marks v start count ≤ start + (count - 1)
   unfolding halvings
   halvings-le zero start count = omega arith
@@ -53,7 +53,7 @@ module _ (marks : List ℤ) (v : ℤ) where
       let half = halfOf count in
       omega (arith, half-start-le marks v start half, halvings-le more (halfStart marks v start half) (count - half))
 
-  -- at most two marks are halved no further
+  -- At most two marks are halved no further.
   pub settled : (more start count : ℕ) → count ≤ 2 → halvings more marks v start count ≡ start
   unfolding halvings
   settled zero start count few = refl
@@ -66,7 +66,7 @@ module _ (marks : List ℤ) (v : ℤ) where
       go true = refl
       go false = add-zero start
 
-  -- so it does not matter how many halvings are made, if they are enough
+  -- Any two numbers of halvings that are enough for a stretch find the same.
   pub halvings-enough : (m n start count : ℕ) → count ≤ m + 2 → count ≤ n + 2
       → halvings m marks v start count ≡ halvings n marks v start count
   unfolding halvings
@@ -76,7 +76,7 @@ module _ (marks : List ℤ) (v : ℤ) where
       let half = halfOf count in
       halvings-enough m n (halfStart marks v start half) (count - half) (omega arith) (omega arith)
 
-  -- the halving of a part of the marks is that of the marks, from where the part begins
+  -- Halving a part of the marks is halving the marks from where the part begins.
   module _ (o size : ℕ) where
     abbrev part : List ℤ
     part = take size (drop o marks)
@@ -102,12 +102,12 @@ module _ (marks : List ℤ) (v : ℤ) where
 
 -- ---- marks that never fall
 
--- v lies from the first of count marks from start on up to the last of them
+-- The value lies from the first of count marks from start on up to the last of them.
 abbrev Between : List ℤ → ℤ → ℕ → ℕ → Type 0
 Between marks v start count = Within (getD marks start (pos 0)) v (getD marks (start + (count - 1)) (pos 0))
 
 module _ (marks : List ℤ) (v : ℤ) (good : goodDimension marks ≡ true) where
-  -- it stays so in the half that is left
+  -- A value between the ends of a stretch is between the ends of the half that is left.
   half-between : (start count : ℕ) → 1 ≤ count → start + count ≤ length marks → Between marks v start count
       → Between marks v (halfStart marks v start (halfOf count)) (count - halfOf count)
   half-between start count some fits is = go (ltZ v (getD marks (start + halfOf count) (pos 0))) refl
@@ -136,7 +136,7 @@ module _ (marks : List ℤ) (v : ℤ) (good : goodDimension marks ≡ true) wher
       halvings-hold more (halfStart marks v start half) (count - half) (omega arith) (omega arith) left-fits
       (half-between start count (omega arith) fits is)
 
-  -- the halving finds the region of a value inside the marks
+  -- Halving finds the region of a value inside the marks.
   pub halved-is : inMarks marks v ≡ true → halved marks v ≡ regionOf marks v
   halved-is inside =
       let count = length marks in

@@ -23,17 +23,17 @@ use Rattle.partition.specs.Marks.{dimensionMarks, goodMarks, good-marks-each}
 use Rattle.partition.specs.MarksCauses.{shapedCauses, partCauses}
 use Rattle.partition.specs.Parts.{seenMarks, part-accepted}
 
--- the number of regions of a dimension's part, none if refused
+-- A dimension's part has this number of regions, none if refused.
 abbrev pub seenRegions : ℕ → ℕ → List ℤ → ℕ → ℕ
 seenRegions d b marks j = outcome (first (partCauses d b marks j)) (regionCount d b j) (λ _. 0)
 
--- the causes for which the region of a value in dimension j is refused: those of the part, then 8
+-- The region of a value in dimension j is refused for the causes of the part, then with 8.
 abbrev pub valueCauses : ℕ → ℕ → List ℤ → ℕ → ℤ → List Row
 valueCauses d b marks j v = partCauses d b marks j ++ ((not (inMarks (dimensionMarks d b marks j) v) ⇒ Outside) ∷ [])
 
--- ---- a part that is handed back
+-- ---- A part that is handed back
 
--- the part is good, with one mark more than regions, and the number of regions one that a dimension can have
+-- The part is good, with one mark more than regions, and its number of regions is one that a dimension can have.
 pub record Part (d b : ℕ) (marks : List ℤ) (j : ℕ) : Type 0 where
   pub counted : isRegionCount (regionCount d b j) ≡ true
   pub exact : length (dimensionMarks d b marks j) ≡ regionCount d b j + 1
@@ -61,7 +61,7 @@ part-is d b marks j accepted =
       good = good-part d b marks j accepted;
     }
 
--- the number of regions is what the part's marks leave between them
+-- The number of regions is one less than the part's marks, and none where it is empty.
 pub regions-between : (d b : ℕ) (marks : List ℤ) (j : ℕ) → length (seenMarks d b marks j) - 1 ≡ seenRegions d b marks j
 regions-between d b marks j = go (first (partCauses d b marks j)) refl
   where

@@ -23,7 +23,7 @@ use Rattle.approximation.proofs.Stretches.{inside-next, regions-next}
 use Rattle.approximation.proofs.locate_all.Statement.{statement}
 use Rattle.approximation.proofs.locate_all.Tie as tie
 
--- what holds while the region numbers are written, with room for so many
+-- This holds while the region numbers are written into a buffer with room for so many.
 record Locating (d b : ℕ) (vectors marks : List ℤ) (room : ℕ) (regions : List ℕ) (column offset i : ℕ) : Type 0 where
   begins-at : Begins d b column offset
   among : i ≤ length vectors
@@ -40,7 +40,7 @@ abbrev μ-loop : tie.MeasureT-loop
 
 module _ {d b : ℕ} {vectors marks : List ℤ} {room : ℕ} {regions : List ℕ} {column offset i : ℕ} (given : Inside d b marks vectors)
     (fits : length vectors ≤ room) (at : Locating d b vectors marks room regions column offset i) where
-  -- the region that is located in the column's marks is written
+  -- The region that is located in the column's marks is written.
   turn : {count r : ℕ} → Counted d b column count → i < length vectors
       → r ≡ halved (take (offset + count + 1 - offset) (drop offset marks)) (getD vectors i (pos 0))
       → let next = nextColumn d column in Locating d b vectors marks room (set regions i r) next (cond (eqb next 0) 0 (offset + count + 1)) (i + 1)
@@ -71,7 +71,7 @@ wide : (c : tie.After-column-regions Inv-loop μ-loop) → let at = c .before .b
     Counted (args .d) (args .b) (at .loop .column) (c .column-regions .result)
 wide c = counted (c .before .before .before .before .pre .0 .shaped) (c .column-regions .ensures)
 
--- the column's marks lie in the buffer
+-- The column's marks lie in the buffer.
 within : (c : tie.After-column-regions Inv-loop μ-loop) → let at = c .before .before in
     at .loop .offset + c .column-regions .result + 1 ≤ length (at .before .before .args .marks .now)
 within c =
@@ -79,7 +79,7 @@ within c =
     let start = at .before .before in
     part-within (start .args .marks .now) (start .pre .0 .exact) (at .loop .inv .begins-at) (wide c)
 
--- the region in the column's marks, for the component that was read
+-- The call finds the region of the component that was read, in the column's marks.
 found : (c : tie.After-locate Inv-loop μ-loop) → let column = c .before .before .before in let at = column .before .before in
     let args = at .before .before .args in let offset = at .loop .offset in
     let part = take (offset + column .column-regions .result + 1 - offset) (drop offset (args .marks .now)) in

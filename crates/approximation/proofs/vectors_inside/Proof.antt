@@ -28,14 +28,14 @@ wide : (c : tie.After-column-regions Inv-loop μ-loop) → let at = c .before .b
     Counted (args .d) (args .b) (at .loop .column) (c .column-regions .result)
 wide c = counted (c .before .before .before .pre .0) (c .column-regions .ensures)
 
--- the column's marks lie in the buffer
+-- The column's marks lie in the buffer.
 within : (c : tie.After-column-regions Inv-loop μ-loop) → let at = c .before .before in
     at .loop .offset + c .column-regions .result + 1 ≤ length (at .before .args .marks .now)
 within c =
     let at = c .before .before in
     part-within (at .before .args .marks .now) (at .before .pre .1) (at .loop .inv .0) (wide c)
 
--- the whole list is decided by the test of the component at i, and those behind it
+-- The test of the component at i and those behind it decide for the whole list.
 turn : (c : tie.After-in-marks Inv-loop μ-loop) → let at = c .before .before .before .before .before in let args = at .before .args in
     let next = nextColumn (args .d) (at .loop .column) in let rest = drop (at .loop .i + 1) (args .vectors .now) in
     vectorsInside (args .d) (args .b) (args .marks .now) (args .vectors .now)

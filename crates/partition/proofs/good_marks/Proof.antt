@@ -24,7 +24,7 @@ part-requires c κs =
     let start = c .before .before in
     (dimension-accepted (start .args .d) (start .args .b) (c .before .loop .j) (start .pre .0) (c .loop-test .taken), start .pre .1)
 
--- what the dimension's test gave
+-- The code's test of a dimension is that of its part of the marks.
 tested : (c : tie.After-good-dimension Inv-loop μ-loop)
     → c .good-dimension .result
     ≡ goodDimension (dimensionMarks (c .before .before .before .before .args .d) (c .before .before .before .before .args .b) (c .before .before .before .before .args .marks .now) (suc (c .before .before .before .loop .j)))

@@ -21,7 +21,7 @@ use Rattle.region.proofs.half_start.Reads as half-start
 use Rattle.region.proofs.+locate.{statement}
 use Rattle.region.proofs.+locate.Tie.{close}
 
--- ---- three halvings of so many marks: what the second and the third take off, and what is left
+-- ---- Three halvings of count marks
 
 abbrev quarterOf : ℕ → ℕ
 quarterOf count = halfOf (count - halfOf count)
@@ -32,7 +32,7 @@ eighthOf count = halfOf (count - halfOf count - quarterOf count)
 abbrev leftOf : ℕ → ℕ
 leftOf count = count - halfOf count - quarterOf count - eighthOf count
 
--- each moves the start by at most what it takes off
+-- Each halving moves the start by at most the marks that it takes off.
 second-within : (count first second : ℕ) → 2 < count → first ≤ 0 + halfOf count → second ≤ first + quarterOf count
     → second + eighthOf count < count
 second-within count first second some one two = omega arith
@@ -41,21 +41,21 @@ left-within : (count first second start : ℕ) → first ≤ 0 + halfOf count �
     → start + leftOf count ≤ count
 left-within count first second start one two three = omega arith
 
--- fewer marks are left, and some
+-- Three halvings leave fewer marks, and at least one.
 left-less : (count : ℕ) → 2 < count → leftOf count < count
 left-less count some = omega arith
 
 left-some : (count : ℕ) → 2 < count → 1 ≤ leftOf count
 left-some count some = omega arith
 
--- so three halvings fewer are enough for them
+-- Three halvings fewer are enough for the marks that are left.
 left-enough : (left count : ℕ) → left < count → left ≤ count - 3 + 2
 left-enough left count less = omega arith
 
 behind : (o n count : ℕ) → o + n ≤ count → n ≤ count - o
 behind o n count h = omega arith
 
--- where they begin what they leave
+-- The code's three starts are those of three halvings.
 record Moved (marks : List ℤ) (v : ℤ) (first second start : ℕ) : Type 0 where
   once : first ≡ halfStart marks v 0 (halfOf (length marks))
   twice : second ≡ halfStart marks v first (quarterOf (length marks))
@@ -73,7 +73,7 @@ module _ {marks : List ℤ} {v : ℤ} {first second start : ℕ} (is : Moved mar
   size : length (take (leftOf count) (drop start marks)) ≡ leftOf count
   size = length-take-le (leftOf count) (drop start marks) (rw length-drop (behind start (leftOf count) count within))
 
-  -- what is found in the part that they leave is found in the marks
+  -- What is found in the part that is left is found in the marks.
   found : {r : ℕ} → r ≡ halved (take (leftOf count) (drop start marks)) v → start + r ≡ halved marks v
   unfolding halvings
   found {r} e =
@@ -86,19 +86,19 @@ module _ {marks : List ℤ} {v : ℤ} {first second start : ℕ} (is : Moved mar
       ∙ halvings-part marks v start left left 0 left (left-some count some) (le-of-eq (zero-add left))
       ∙ ap (λ (n : ℕ). start + n) (sym (rw size at e)))
 
--- ---- the code
+-- ---- The code
 
 abbrev μ-locate : Measures 1 locate-kinds.ps ℕ
 μ-locate κs a = length (a .0 .now)
 
--- what `locate` is given at the measure t, and what a call of it asks below t
+-- This is what `locate` is given at the measure t, and what a call of it asks below t.
 abbrev locate-at : ℕ → In 1 locate-kinds.ps
 locate-at t = and 1 locate-kinds.ps (is 1 locate-kinds.ps μ-locate t) locate.Pre
 
 abbrev locate-below : ℕ → In 1 locate-kinds.ps
 locate-below t = and 1 locate-kinds.ps (falls 1 locate-kinds.ps _<_ μ-locate t) locate.Pre
 
--- the entry, where the start was moved once, twice and three times, and where the call is back
+-- The states of the code are the entry, those after each of the three moves of the start, and that after the call.
 abbrev Start : ℕ → Type 0
 Start t = locate-lts.Start (half-start.Asked, half-start.Learnt, locate-below t, locate.Post) (locate-at t) locate.Post
 
@@ -153,7 +153,7 @@ module _ {t : ℕ} where
       c .half-start3 .result + leftOf (length marks) ≤ length marks
   inside c = within (moved c) (c .before .before .before .if1 .left)
 
-  -- the part's length, as the code works it out
+  -- The part that is handed on has the length that the code works out.
   part : (c : Thrice t) → let n = leftOf (length (marksOf (c .before .before .before .before))) in
       c .half-start3 .result + n - c .half-start3 .result ≡ n
   part c = add-sub-cancel-left (c .half-start3 .result) (leftOf (length (marksOf (c .before .before .before .before))))

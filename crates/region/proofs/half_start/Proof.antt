@@ -12,7 +12,7 @@ use Rattle.region.proofs.ReadBack.{read-back}
 use Rattle.region.proofs.half_start.Statement.{statement}
 use Rattle.region.proofs.half_start.Tie as tie
 
--- the test of the mark in the middle, on the numbers themselves
+-- The code's test of the mark in the middle is the test on the numbers themselves.
 below : (c : tie.After-if12) {held : Bool} → let a = c .before .args in let mark = getD (a .marks .now) (a .start + a .half) (pos 0) in
     ltZ (toZ w32 (ofZ w32 (a .v))) (toZ w32 (ofZ w32 mark)) ≡ held → ltZ (a .v) mark ≡ held
 below c test =

@@ -20,7 +20,7 @@ use Rattle.region.specs.Halving.{halved-is}
 use Rattle.region.proofs.region.Statement.{statement}
 use Rattle.region.proofs.region.Tie as tie
 
--- what each test says where it lets the call go on
+-- Each test that lets the call go on says that its cause does not hold.
 counted : (c : tie.Else1) → isRegionCount (c .before .before .args .regions) ≡ true
 counted c = sym (c .before .is-region-count .ensures) ∙ not-false (c .before .is-region-count .result) (c .if1 .left)
 
