@@ -41,7 +41,7 @@ pub fn region(marks: &[i32], regions: usize, v: i32) -> Lookup
 }
 
 // The region by halving the stretch of marks, which are not tested: where they never fall and the value lies inside them, it is the value's
-// region. Each call makes three halvings and hands on the part that is left; which half that is costs no branch.
+// region. Each call makes three halvings, whose halves are chosen without a branch, and hands on the part that is left.
 pub fn locate(marks: &[i32], v: i32) -> usize
     ensures { λ r. ⌜ r ≡ halved (now (marks .entry)) v ⌝ }
 {
@@ -55,7 +55,11 @@ pub fn locate(marks: &[i32], v: i32) -> usize
     let first = half_start(marks, v, 0, half);
     let second = half_start(marks, v, first, quarter);
     let start = half_start(marks, v, second, eighth);
-    let end = start + (count - half - quarter - eighth);
+    let left = count - half - quarter - eighth;
+    if left <= 2 {
+        return start;
+    }
+    let end = start + left;
     start + locate(&marks[start..end], v)
 }
 

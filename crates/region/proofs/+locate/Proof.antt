@@ -73,15 +73,21 @@ module _ {marks : List ℤ} {v : ℤ} {first second start : ℕ} (is : Moved mar
   size : length (take (leftOf count) (drop start marks)) ≡ leftOf count
   size = length-take-le (leftOf count) (drop start marks) (rw length-drop (behind start (leftOf count) count within))
 
+  unrolled : halved marks v ≡ halvings (count - 3) marks v start (leftOf count)
+  unfolding halvings
+  unrolled =
+      let more : count ≡ suc (suc (suc (count - 3))) = omega arith in
+      rw (is .thrice, is .twice, is .once) (ap (λ (n : ℕ). halvings n marks v 0 count) more)
+
+  -- The start is found where at most two marks are left.
+  found-here : leftOf count ≤ 2 → start ≡ halved marks v
+  found-here few = sym (unrolled ∙ settled marks v (count - 3) start (leftOf count) few)
+
   -- What is found in the part that is left is found in the marks.
   found : {r : ℕ} → r ≡ halved (take (leftOf count) (drop start marks)) v → start + r ≡ halved marks v
-  unfolding halvings
   found {r} e =
       let left = leftOf count in
-      let more : count ≡ suc (suc (suc (count - 3))) = omega arith in
-      let three : halved marks v ≡ halvings (count - 3) marks v start left =
-      rw (is .thrice, is .twice, is .once) (ap (λ (n : ℕ). halvings n marks v 0 count) more) in
-      sym (three ∙ halvings-enough marks v (count - 3) left start left (left-enough left count (left-less count some)) (le-add-right left 2)
+      sym (unrolled ∙ halvings-enough marks v (count - 3) left start left (left-enough left count (left-less count some)) (le-add-right left 2)
       ∙ ap (λ (s : ℕ). halvings left marks v s left) (sym (add-zero start))
       ∙ halvings-part marks v start left left 0 left (left-some count some) (le-of-eq (zero-add left))
       ∙ ap (λ (n : ℕ). start + n) (sym (rw size at e)))
@@ -160,22 +166,22 @@ module _ {t : ℕ} where
 
   requires-4 : locate-lts.Need-locate-requires (half-start.Asked, half-start.Learnt, locate-below t, locate.Post) (locate-at t) locate.Post
   requires-4 c κs =
-      let at = c .before in
+      let at = c .before .before in
       let test = at .before .before .before in
       let less = left-less (length (marksOf (test .before))) (test .if1 .left) in
       (rw (part at, size (moved at) (test .if1 .left)) (le-trans less (le-of-eq (test .before .pre .0))), tt)
 
-  part-found : (c : Back t) → let at = c .before .before in let start = at .before .before .before .before in
+  part-found : (c : Back t) → let at = c .before .before .before in let start = at .before .before .before .before in
       at .half-start3 .result + c .locate .result ≡ halved (marksOf start) (start .args .v)
   part-found c =
-      let at = c .before .before in
+      let at = c .before .before .before in
       let test = at .before .before .before in
       let start = test .before in
       found (moved at) (test .if1 .left) (rw (toZ-ofZ w32 (start .args .v) (start .fits .v), part at) at (c .locate .ensures))
 
   add-result : locate-lts.Need-add-result (half-start.Asked, half-start.Learnt, locate-below t, locate.Post) (locate-at t) locate.Post
   add-result c =
-      let start = c .before .before .before .before .before .before in
+      let start = c .before .before .before .before .before .before .before in
       let marks = marksOf start in
       omega (arith, part-found c, halvings-le marks (start .args .v) (length marks) 0 (length marks), start .good)
 
@@ -196,11 +202,12 @@ pub +locate-spec : {M : Type 1} → statement M
     (λ c. search needs)
     (λ c. search needs)
     (λ c. search needs)
-    (λ c. omega (arith, inside c, c .before .before .before .before .good))
-    (λ c. omega (arith, inside c, c .before .before .before .before .good))
+    (λ c. found-here (moved (c .before)) (c .before .before .before .before .if1 .left) (c .if2 .taken))
+    (λ c. omega (arith, inside (c .before), c .before .before .before .before .before .good))
+    (λ c. omega (arith, inside (c .before), c .before .before .before .before .before .good))
     (λ c. search needs)
-    (λ c. omega (arith, inside c))
-    (λ c. omega (arith, inside c))
+    (λ c. omega (arith, inside (c .before)))
+    (λ c. omega (arith, inside (c .before)))
     requires-4
     add-result
     part-found)
