@@ -20,21 +20,21 @@ use Rattle.codes.specs.PackLaws.{next-column, packed-spare, unpacked-packed, co
 use Rattle.approximation.specs.Vectors.{regionsFrom, vectorRegions, insideFrom, vectorsInside, vectorCodes}
 use Rattle.cells.specs.Cells.{vectorAt, inFirst, InCell, hasValue, noneEmpty, noEmptyCodes, goodCodes, Own}
 
--- ---- the region numbers of vectors that lie inside the marks
+-- ---- The region numbers of vectors that lie inside the marks
 
 pub length-regions : (d b : ℕ) (marks : List ℤ) (t : ℕ) (vectors : List ℤ) → length (regionsFrom d b marks t vectors) ≡ length vectors
 unfolding regionsFrom
 length-regions d b marks t [] = refl
 length-regions d b marks t (z ∷ zs) = ap suc (length-regions d b marks (nextColumn d t) zs)
 
--- a region that holds a value is one of its dimension's
+-- A region that holds a value is one of its dimension's.
 holds-fit : (d b : ℕ) (marks : List ℤ) (t r : ℕ) (z : ℤ) → Holds (dimensionMarks d b marks (suc t)) r z → r < regionCount d b (suc t)
 unfolding dimensionMarks
 holds-fit d b marks t r z holds =
     let exists = simp length-take at (holds .exists) in
     omega arith
 
--- from column t on
+-- Each region number from column t on is below the number of regions of its dimension.
 inside-fit : (d b : ℕ) (marks : List ℤ) (t : ℕ) (vectors : List ℤ) → insideFrom d b marks t vectors ≡ true → regionsFit d b t (regionsFrom d b marks t vectors) ≡ true
 unfolding regionsFrom insideFrom regionsFit
 inside-fit d b marks t [] inside = refl
@@ -44,11 +44,11 @@ inside-fit d b marks t (z ∷ zs) inside =
     and-eq-true-iff _ _ .1
     (lt-ltb r (regionCount d b (suc t)) (holds-fit d b marks t r z (region-of-holds (dimensionMarks d b marks (suc t)) z (both .0))), inside-fit d b marks (nextColumn d t) zs (both .1))
 
--- each region number is below the number of regions of its dimension
+-- Each region number is below the number of regions of its dimension.
 pub regions-fit : (d b : ℕ) (marks vectors : List ℤ) → vectorsInside d b marks vectors ≡ true → regionsFit d b 0 (vectorRegions d b marks vectors) ≡ true
 regions-fit d b marks vectors inside = inside-fit d b marks 0 vectors inside
 
--- component q, the first of them in column p % d, lies in its region
+-- Component q, the first of them in column p % d, lies in its region.
 from-holds : (d b : ℕ) → 0 < d → (marks : List ℤ) (p q : ℕ) (vectors : List ℤ) → q < length vectors → insideFrom d b marks (p % d) vectors ≡ true
     → Holds (dimensionMarks d b marks (suc ((p + q) % d))) (getD (regionsFrom d b marks (p % d) vectors) q 0) (getD vectors q (pos 0))
 unfolding regionsFrom insideFrom
@@ -59,13 +59,13 @@ from-holds d b some marks p (suc q) (z ∷ zs) more inside =
     let rest = and-eq-true-iff (inMarks (dimensionMarks d b marks (suc (p % d))) z) (insideFrom d b marks (nextColumn d (p % d)) zs) .0 inside .1 in
     rw (add-suc p q, ← suc-add p q, next-column d b some p) (from-holds d b some marks (suc p) q zs (le-of-suc-le-suc more) (rw (next-column d b some p) at rest))
 
--- ---- own codes
+-- ---- Own codes
 
 module _ (d b n : ℕ) (some : 0 < d) (marks vectors : List ℤ) (rows : length vectors ≡ n * d) (inside : vectorsInside d b marks vectors ≡ true) where
   rows-located : length (vectorRegions d b marks vectors) ≡ n * d
   rows-located = length-regions d b marks 0 vectors ∙ rows
 
-  -- component t of vector i lies in the region that code i names for dimension t + 1
+  -- Component t of vector i lies in the region that code i names for dimension t + 1.
   code-holds : (i t : ℕ) → i < n → t < d
       → Holds (dimensionMarks d b marks (suc t)) (codeRegion d b (vectorCodes d b n marks vectors) i t) (getD (vectorAt d vectors i) t (pos 0))
   code-holds i t row column =
@@ -91,11 +91,11 @@ module _ (d b n : ℕ) (some : 0 < d) (marks vectors : List ℤ) (rows : length 
         inside = first-inside i row d (omega arith);
       }
 
-  -- packing vectors gives their own codes
+  -- Packing vectors gives their own codes.
   pub own-codes : Own d b n marks (vectorCodes d b n marks vectors) vectors
   own-codes = record { cells = in-cell; spare = packed-spare d b n some (vectorRegions d b marks vectors) rows-located }
 
--- own codes name no empty region
+-- Own codes name no empty region.
 has-value : (marks : List ℤ) (r : ℕ) (z : ℤ) → inRegion marks r z ≡ true → hasValue marks r ≡ true
 unfolding inRegion hasValue
 has-value marks r z inside = within-apart (within (getD marks r (pos 0)) z (getD marks (suc r) (pos 0)) inside)
@@ -113,6 +113,6 @@ own-not-empty own zero among = refl
 own-not-empty {d} {b} {marks = marks} {codes = codes} {vectors = vectors} own (suc i) among =
     and-eq-true-iff _ _ .1 (own-not-empty own i (omega arith), cell-not-empty d b marks codes i (vectorAt d vectors i) d (own .cells i among .inside))
 
--- so they are good
+-- Own codes are good.
 pub own-good : {d b n : ℕ} {marks : List ℤ} {codes : List ℕ} {vectors : List ℤ} → Own d b n marks codes vectors → goodCodes d b n marks codes ≡ true
 own-good {n = n} own = and-eq-true-iff _ _ .1 (own-not-empty own n (omega arith), own .spare)

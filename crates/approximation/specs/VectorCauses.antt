@@ -1,33 +1,30 @@
 -- The causes for which the regions and the codes of vectors are not given (document 01, "When a call says no"), and what holds where they
 -- are. Assumes nothing.
-use mathlib.Core.Path.{_≡_, refl, ap, _∙_}
+use mathlib.Core.Path.{_≡_}
 use mathlib.Core.Bool.{true, not, _&&_, and-eq-true-iff}
 use mathlib.Core.List.{List, [], _∷_, _++_}
-use Prim.Native.Nat.{ℕ, suc, _*_, _<_}
-use borrow.Author.Tests.{eqb-true, eq-eqb, not-false}
+use Prim.Native.Nat.{ℕ, _*_}
+use borrow.Author.Tests.{eqb-true, not-false}
 use lib.Dec.{eqb}
 use lib.IntN.{ℤ}
 use lib.ListN.{length}
 use Rattle.refusal.specs.declared.Refusal.the-variants.{Count, Length, Component, Mark, Outside}
 use Rattle.refusal.specs.declared.Verdict.the-variants.{Accepted}
-use Rattle.refusal.specs.First.{Row, _⇒_, first, outcome-accepted, first-next, first-append, passed, accepted-behind}
+use Rattle.refusal.specs.First.{Row, _⇒_, first, passed, accepted-behind}
 use Rattle.limits.specs.Limits.{isVectorCount}
-use Rattle.limits.specs.Tests.{all-each}
 use Rattle.whole.specs.Components.{areComponents}
 use Rattle.layout.specs.Layout.{firstMarks}
 use Rattle.layout.specs.Stretch.{shapeCauses, Shape, shape}
-use Rattle.region.specs.Dimension.{goodDimension}
-use Rattle.partition.specs.Marks.{dimensionMarks, goodFirst, goodMarks}
-use Rattle.partition.specs.MarksCauses.{shapedCauses, marksCauses}
+use Rattle.partition.specs.Marks.{goodMarks}
 use Rattle.codes.specs.Pack.{sizeCauses}
 use Rattle.approximation.specs.Vectors.{vectorsInside}
 
--- 1, 2, 3, and 5 for n rows of d components and n rows of d region numbers
+-- Numbers and lengths are refused for 1, 2 or 3, and for 5 if they are not n rows of d components and n rows of d region numbers.
 abbrev pub rowCauses : ℕ → ℕ → ℕ → ℕ → ℕ → List Row
 rowCauses d b n vectors regions =
     shapeCauses d b ++ ((not (isVectorCount n) ⇒ Count) ∷ (not (eqb vectors (n * d) && eqb regions (n * d)) ⇒ Length) ∷ [])
 
--- 5 for the marks, 6, 7, 8
+-- What is located is refused for 5 of the marks, 6, 7 or 8.
 abbrev pub locateCauses : ℕ → ℕ → List ℤ → List ℤ → List Row
 locateCauses d b vectors marks =
     (not (eqb (length marks) (firstMarks d b d)) ⇒ Length)
@@ -36,15 +33,15 @@ locateCauses d b vectors marks =
     ∷ (not (vectorsInside d b marks vectors) ⇒ Outside)
     ∷ []
 
--- for a buffer of so many region numbers
+-- The region numbers are refused for these causes, in a buffer of so many numbers.
 abbrev pub regionsCauses : ℕ → ℕ → ℕ → List ℤ → List ℤ → ℕ → List Row
 regionsCauses d b n vectors marks regions = rowCauses d b n (length vectors) regions ++ locateCauses d b vectors marks
 
--- for a buffer of so many bytes of codes
+-- The codes are refused for these causes, in a buffer of so many bytes.
 abbrev pub packVectorsCauses : ℕ → ℕ → ℕ → List ℤ → List ℤ → ℕ → List Row
 packVectorsCauses d b n vectors marks codes = sizeCauses d b n (length vectors) codes ++ locateCauses d b vectors marks
 
--- ---- what holds where nothing is refused
+-- ---- What holds where nothing is refused
 
 pub record Rows (d b n vectors regions : ℕ) : Type 0 where
   pub components : vectors ≡ n * d
@@ -59,7 +56,7 @@ rows d b n vectors regions accepted =
     let both = and-eq-true-iff components numbers .0 (not-false (components && numbers) (lengths .fails)) in
     record { components = eqb-true vectors (n * d) (both .0); numbers = eqb-true regions (n * d) (both .1) }
 
--- good marks of all dimensions, with each component inside its dimension's
+-- The marks are good in all dimensions, and each component lies inside its dimension's.
 pub record Inside (d b : ℕ) (marks vectors : List ℤ) : Type 0 where
   pub shaped : Shape d b
   pub exact : length marks ≡ firstMarks d b d
@@ -79,15 +76,3 @@ inside-marks d b vectors marks shaped accepted =
       good = not-false (goodMarks d b marks) (good .fails);
       inside = not-false (vectorsInside d b marks vectors) (inside .fails);
     }
-
--- each dimension's marks are good
-pub good-each : (d b : ℕ) (marks : List ℤ) (t : ℕ) → t < d → goodMarks d b marks ≡ true → goodDimension (dimensionMarks d b marks (suc t)) ≡ true
-unfolding goodFirst
-good-each d b marks = all-each {all = goodFirst d b marks} {test = λ j. goodDimension (dimensionMarks d b marks (suc j))} (record { next = λ j. refl }) d
-
--- where the shape and the length are right, only the marks themselves can be refused
-pub marks-row : (d b : ℕ) (marks : List ℤ) → first (shapeCauses d b) ≡ Accepted → length marks ≡ firstMarks d b d
-    → first (marksCauses d b marks) ≡ first ((not (goodMarks d b marks) ⇒ Mark) ∷ [])
-marks-row d b marks shaped exact =
-    first-append (shapeCauses d b) (shapedCauses d b marks) ∙ outcome-accepted _ _ shaped
-    ∙ first-next Length _ (ap not (eq-eqb (length marks) (firstMarks d b d) exact))

@@ -8,7 +8,7 @@ use Rattle.region.specs.Region.{regionOf, inMarks}
 use Rattle.partition.specs.Marks.{dimensionMarks}
 use Rattle.codes.specs.Codes.{nextColumn, packed}
 
--- the region of each component in its dimension, from column t on
+-- The region numbers of components are each one's region in its dimension, the first of them in column t.
 unfoldable pub regionsFrom : ℕ → ℕ → List ℤ → ℕ → List ℤ → List ℕ
 regionsFrom d b marks t [] = []
 regionsFrom d b marks t (z ∷ zs) = regionOf (dimensionMarks d b marks (suc t)) z ∷ regionsFrom d b marks (nextColumn d t) zs
@@ -16,7 +16,7 @@ regionsFrom d b marks t (z ∷ zs) = regionOf (dimensionMarks d b marks (suc t))
 abbrev pub vectorRegions : ℕ → ℕ → List ℤ → List ℤ → List ℕ
 vectorRegions d b marks vectors = regionsFrom d b marks 0 vectors
 
--- whether each component lies inside its dimension's marks, from column t on
+-- Components lie inside if each lies inside its dimension's marks, the first of them in column t.
 unfoldable pub insideFrom : ℕ → ℕ → List ℤ → ℕ → List ℤ → Bool
 insideFrom d b marks t [] = true
 insideFrom d b marks t (z ∷ zs) = inMarks (dimensionMarks d b marks (suc t)) z && insideFrom d b marks (nextColumn d t) zs
@@ -24,6 +24,6 @@ insideFrom d b marks t (z ∷ zs) = inMarks (dimensionMarks d b marks (suc t)) z
 abbrev pub vectorsInside : ℕ → ℕ → List ℤ → List ℤ → Bool
 vectorsInside d b marks vectors = insideFrom d b marks 0 vectors
 
--- the codes of n vectors
+-- The codes of n vectors are their packed region numbers.
 abbrev pub vectorCodes : ℕ → ℕ → ℕ → List ℤ → List ℤ → List ℕ
 vectorCodes d b n marks vectors = packed d b n (vectorRegions d b marks vectors)

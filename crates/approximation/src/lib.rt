@@ -1,7 +1,5 @@
 // The region numbers of vectors under given marks, and the codes made of them.
 use codes::check_sizes;
-use codes::column_bits;
-use codes::next_column;
 use codes::pack;
 use limits::MAX_DIMENSIONS;
 use limits::MAX_VECTORS;
@@ -9,16 +7,17 @@ use refusal::Refusal;
 use refusal::Verdict;
 use region::in_marks;
 use region::locate;
-use view::marks_at;
 ghost use mathlib.Core.Path.{_≡_};
 ghost use mathlib.Core.Bool.{cond};
-ghost use Prim.Native.Nat.{_≤_};
-ghost use lib.Dec.{eqb};
+ghost use Prim.Native.Nat.{_+_, _^_, _≤_, _<_};
+ghost use lib.Dec.{ltb, eqb};
 ghost use lib.ListN.{length, take};
 ghost use Rattle.refusal.specs.declared.Verdict.the-variants.{Accepted};
 ghost use Rattle.refusal.specs.First.{first, outcome};
+ghost use Rattle.limits.specs.Limits.{maxDimensionBits};
 ghost use Rattle.layout.specs.Layout.{firstMarks};
 ghost use Rattle.layout.specs.Stretch.{shapeCauses, Shape};
+ghost use Rattle.codes.specs.Codes.{nextColumn};
 ghost use Rattle.codes.specs.Pack.{sizeCauses};
 ghost use Rattle.approximation.specs.Vectors.{vectorRegions, vectorsInside, vectorCodes};
 ghost use Rattle.approximation.specs.VectorCauses.{rowCauses, locateCauses, regionsCauses, packVectorsCauses, Inside};
@@ -50,7 +49,7 @@ pub fn regions(
     }
 }
 
-// The codes of n vectors. Refused is the same, with the codes' length for the region numbers'.
+// The codes of n vectors. Refused is what `regions` refuses, with the codes' length in place of the region numbers'.
 pub fn pack_vectors(
     d: usize,
     b: usize,
@@ -124,18 +123,18 @@ fn vectors_inside(d: usize, b: usize, vectors: &[i32], marks: &[i32]) -> bool
     requires { ⌜ (Shape d b) × (length (now marks) ≡ firstMarks d b d) ⌝ }
     ensures { λ r. ⌜ r ≡ vectorsInside d b (now (marks .entry)) (now (vectors .entry)) ⌝ }
 {
-    let fewest = b / d;
+    let fewest = 1usize << (b / d);
     let more = b % d;
     let mut column = 0;
     let mut offset = 0;
     let mut i = 0;
     while i < vectors.len() {
-        let part = marks_at(marks, offset, column_bits(fewest, more, column));
-        if !in_marks(part, vectors[i]) {
+        let end = offset + column_regions(fewest, more, column) + 1;
+        if !in_marks(&marks[offset..end], vectors[i]) {
             return false;
         }
-        column = next_column(d, column);
-        offset = next_offset(column, offset + part.len());
+        column = column_behind(d, column);
+        offset = next_offset(column, end);
         i += 1;
     }
     true
@@ -144,20 +143,50 @@ fn vectors_inside(d: usize, b: usize, vectors: &[i32], marks: &[i32]) -> bool
 // The region number of each component, at the front of the buffer.
 fn locate_all(d: usize, b: usize, vectors: &[i32], marks: &[i32], regions: &mut [u8])
     requires { ⌜ (Inside d b (now marks) (now vectors)) × (length (now vectors) ≤ length (now regions)) ⌝ }
-    ensures { λ _. ⌜ take (length (now (vectors .entry))) (now (regions .exit)) ≡ vectorRegions d b (now (marks .entry)) (now (vectors .entry)) ⌝ }
+    ensures { λ _. ⌜ take (length (now (vectors .entry))) (now (regions .exit))
+        ≡ vectorRegions d b (now (marks .entry)) (now (vectors .entry)) ⌝ }
 {
-    let fewest = b / d;
+    let fewest = 1usize << (b / d);
     let more = b % d;
     let mut column = 0;
     let mut offset = 0;
     let mut i = 0;
     while i < vectors.len() {
-        let part = marks_at(marks, offset, column_bits(fewest, more, column));
-        regions[i] = locate(part, vectors[i]) as u8;
-        column = next_column(d, column);
-        offset = next_offset(column, offset + part.len());
+        let end = offset + column_regions(fewest, more, column) + 1;
+        regions[i] = locate(&marks[offset..end], vectors[i]) as u8;
+        column = column_behind(d, column);
+        offset = next_offset(column, end);
         i += 1;
     }
+}
+
+// How many regions a column's dimension has, where each has the fewest and the first ones twice as many. This and the next two have one
+// test each, so that the lookups of neighbouring components need not wait for each other.
+fn column_regions(fewest: usize, more: usize, column: usize) -> usize
+    requires { ⌜ fewest ≤ 2 ^ maxDimensionBits ⌝ }
+    ensures { λ r. ⌜ r ≡ cond (ltb column more) (fewest + fewest) fewest ⌝ }
+{
+    if column < more {
+        fewest + fewest
+    } else {
+        fewest
+    }
+}
+
+// The column behind one of d columns, the first behind the last.
+fn column_behind(d: usize, column: usize) -> usize
+    requires { ⌜ column < d ⌝ }
+    ensures { λ r. ⌜ r ≡ nextColumn d column ⌝ }
+{
+    let next = column + 1;
+    if next == d { 0 } else { next }
+}
+
+// Where the marks of a column's dimension begin: the first's at the front, another's where those before them end.
+fn next_offset(column: usize, end: usize) -> usize
+    ensures { λ r. ⌜ r ≡ cond (eqb column 0) 0 end ⌝ }
+{
+    if column == 0 { 0 } else { end }
 }
 
 // The codes, where nothing refuses: the region numbers are packed.
@@ -169,11 +198,4 @@ fn put_vectors(d: usize, b: usize, n: usize, vectors: &[i32], marks: &[i32], cod
     let count = vectors.len();
     locate_all(d, b, vectors, marks, &mut regions);
     pack(d, b, n, &regions[..count], codes);
-}
-
-// Where the marks of a column's dimension begin: the first's at the front, another's where those before them end.
-fn next_offset(column: usize, end: usize) -> usize
-    ensures { λ r. ⌜ r ≡ cond (eqb column 0) 0 end ⌝ }
-{
-    if column == 0 { 0 } else { end }
 }

@@ -13,7 +13,7 @@ use Rattle.limits.specs.Tests.{All, all-fails}
 use Rattle.whole.specs.Components.{areComponents, all-components}
 use Rattle.region.specs.Dimension.{notAbove, goodDimension}
 use Rattle.region.specs.Region.{inRegion}
-use Rattle.partition.specs.Marks.{dimensionMarks, goodFirst, goodMarks}
+use Rattle.partition.specs.Marks.{dimensionMarks, goodMarks, good-marks-each}
 use Rattle.codes.specs.Codes.{codeRegion}
 use Rattle.cells.specs.Cells.{InCell, inFirst}
 use Rattle.region.specs.Within.{leZ-trans}
@@ -41,10 +41,6 @@ each {first} {one} is n t h holds = go (one t) refl
     go true e = refl
     go false e = let fails = all-fails is n t h e in cc
 
-good-all : (d b : ℕ) (marks : List ℤ) → All (goodFirst d b marks) (λ t. goodDimension (dimensionMarks d b marks (suc t)))
-unfolding goodFirst
-good-all d b marks = record { next = λ t. refl }
-
 inside-all : (d b : ℕ) (marks : List ℤ) (codes : List ℕ) (i : ℕ) (vector : List ℤ)
     → All (inFirst d b marks codes i vector) (λ t. inRegion (dimensionMarks d b marks (suc t)) (codeRegion d b codes i t) (getD vector t (pos 0)))
 unfolding inFirst
@@ -58,9 +54,7 @@ mark-at (m ∷ ms) (suc r) h = mark-at ms r (and-eq-true-iff (notAbove m ms) (go
 
 module _ (d b : ℕ) (marks : List ℤ) (good : goodMarks d b marks ≡ true) where
   pub good-mark : (t r : ℕ) → t < d → isMark (getD (dimensionMarks d b marks (suc t)) r (pos 0)) ≡ true
-  good-mark t r h =
-      mark-at (dimensionMarks d b marks (suc t)) r
-      (each (good-all d b marks) d t h good)
+  good-mark t r h = mark-at (dimensionMarks d b marks (suc t)) r (good-marks-each d b marks t h good)
 
   pub cell-components : (codes : List ℕ) (i : ℕ) {vector : List ℤ} → InCell d b marks codes i vector → areComponents vector ≡ true
   cell-components codes i {vector} cell = all-components vector one

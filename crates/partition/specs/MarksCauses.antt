@@ -1,4 +1,4 @@
--- The causes for which a call that is given the marks buffer says no. Assumes nothing.
+-- The causes for which a call that is given the marks buffer is refused. Assumes nothing.
 use mathlib.Core.Path.{_≡_, refl, sym, ap, _∙_}
 use mathlib.Core.Bool.{Bool, true, false, not, _&&_}
 use mathlib.Core.List.{List, [], _∷_, _++_}
@@ -15,23 +15,23 @@ use Rattle.layout.specs.Layout.{firstMarks}
 use Rattle.layout.specs.Stretch.{shapeCauses}
 use Rattle.partition.specs.Marks.{goodMarks}
 
--- 5, 7
+-- The causes behind those of the shape are 5 and 7.
 abbrev pub shapedCauses : ℕ → ℕ → List ℤ → List Row
 shapedCauses d b marks = (not (eqb (length marks) (firstMarks d b d)) ⇒ Length) ∷ (not (goodMarks d b marks) ⇒ Mark) ∷ []
 
--- 1, 2, 5, 7
+-- A marks buffer is refused for 1, 2, 5 or 7.
 abbrev pub marksCauses : ℕ → ℕ → List ℤ → List Row
 marksCauses d b marks = shapeCauses d b ++ shapedCauses d b marks
 
--- 1 for the dimension's number too
+-- A dimension's part of it is refused with 1 for the dimension's number too.
 abbrev pub partCauses : ℕ → ℕ → List ℤ → ℕ → List Row
 partCauses d b marks j = (not (leb 1 j && leb j d) ⇒ Dimension) ∷ marksCauses d b marks
 
--- ---- where only the marks themselves are left to test
+-- ---- Where the shape and the length are right, only the marks themselves can be refused
 
-left : (d b : ℕ) (marks : List ℤ) → first (shapeCauses d b) ≡ Accepted → length marks ≡ firstMarks d b d
+pub marks-row : (d b : ℕ) (marks : List ℤ) → first (shapeCauses d b) ≡ Accepted → length marks ≡ firstMarks d b d
     → first (marksCauses d b marks) ≡ first ((not (goodMarks d b marks) ⇒ Mark) ∷ [])
-left d b marks shaped size =
+marks-row d b marks shaped size =
     first-append (shapeCauses d b) (shapedCauses d b marks)
     ∙ outcome-accepted _ _ shaped
     ∙ first-next Length ((not (goodMarks d b marks) ⇒ Mark) ∷ []) (ap not (eq-eqb (length marks) (firstMarks d b d) size))
@@ -39,7 +39,7 @@ left d b marks shaped size =
 pub marks-good : (d b : ℕ) (marks : List ℤ) → first (shapeCauses d b) ≡ Accepted → length marks ≡ firstMarks d b d
     → first (marksCauses d b marks) ≡ Accepted → goodMarks d b marks ≡ true
 marks-good d b marks shaped size accepted =
-    let last = passed _ _ _ (sym (left d b marks shaped size) ∙ accepted) in
+    let last = passed _ _ _ (sym (marks-row d b marks shaped size) ∙ accepted) in
     not-false (goodMarks d b marks) (last .fails)
 
 pub marks-bad : (d b : ℕ) (marks : List ℤ) {cause : Refusal} → first (shapeCauses d b) ≡ Accepted → length marks ≡ firstMarks d b d
@@ -48,6 +48,6 @@ marks-bad d b marks shaped size refused = go (goodMarks d b marks) refl
   where
     go : (good : Bool) → goodMarks d b marks ≡ good → good ≡ false
     go true e =
-        let accepted : first (marksCauses d b marks) ≡ Accepted = left d b marks shaped size ∙ first-next Mark [] (ap not e) ∙ first-none in
+        let accepted : first (marksCauses d b marks) ≡ Accepted = marks-row d b marks shaped size ∙ first-next Mark [] (ap not e) ∙ first-none in
         absurd (apart (sym accepted ∙ refused))
     go false e = refl

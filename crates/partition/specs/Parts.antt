@@ -1,4 +1,4 @@
--- A dimension's part of the marks buffer: by the buffer's own places, as it is handed back, and as marks that have been tested are looked at.
+-- A dimension's part of the marks buffer: by the buffer's own places, as it is handed back, and at a place in marks that have been tested.
 -- Assumes nothing.
 use mathlib.Core.Path.{_≡_, ap, _∙_}
 use mathlib.Core.Bool.{Bool, _&&_, cond}
@@ -19,7 +19,7 @@ use Rattle.layout.specs.Stretch.{dimensionCauses, stretchOf, stretches}
 use Rattle.partition.specs.Marks.{dimensionMarks}
 use Rattle.partition.specs.MarksCauses.{shapedCauses, partCauses}
 
--- mark r of dimension t + 1
+-- Mark r of dimension t + 1 stands r places behind the first marks of t dimensions.
 pub part-at : (d b : ℕ) (marks : List ℤ) (t r : ℕ) (z : ℤ) → r < markCount d b (suc t)
     → getD (dimensionMarks d b marks (suc t)) r z ≡ getD marks (firstMarks d b t + r) z
 unfolding dimensionMarks
@@ -29,13 +29,13 @@ part-at d b marks t r z below =
     ∙ getD-drop (firstMarks d b (suc t - 1)) marks r z
     ∙ ap (λ (n : ℕ). getD marks (firstMarks d b n + r) z) before
 
--- ---- a part that is handed back
+-- ---- A part that is handed back
 
--- dimension j's part of the marks buffer, "or an empty part if refused"
+-- A call hands back dimension j's part of the marks buffer, "or an empty part if refused".
 abbrev pub seenMarks : ℕ → ℕ → List ℤ → ℕ → List ℤ
 seenMarks d b marks j = outcome (first (partCauses d b marks j)) (dimensionMarks d b marks j) (λ _. [])
 
--- there is such a dimension, and the buffer has its length
+-- Where a part is handed back, there is such a dimension, and the buffer has its length.
 pub part-accepted : (d b j : ℕ) (marks : List ℤ) → first (partCauses d b marks j) ≡ Accepted → (first (dimensionCauses d b j) ≡ Accepted) × (length marks ≡ firstMarks d b d)
 part-accepted d b j marks accepted =
     let size = passed _ _ _ (accepted-behind (dimensionCauses d b j) (shapedCauses d b marks) accepted) in (
@@ -43,20 +43,20 @@ part-accepted d b j marks accepted =
       eqb-true (length marks) (firstMarks d b d) (not-false (eqb (length marks) (firstMarks d b d)) (size .fails)),
     )
 
--- ---- marks that have been tested, by their place
+-- ---- Marks that have been tested, by their place
 
--- whether a dimension can have w bits, and a buffer of this length holds its marks from an offset on
+-- Marks fit if a dimension can have w bits, and a buffer of this length holds them from an offset on.
 abbrev pub fitsAt : ℕ → ℕ → ℕ → Bool
 fitsAt size offset w = leb w maxDimensionBits && leb (offset + (2 ^ w + 1)) size
 
--- these marks, or an empty part
+-- The part at a place is these marks, or empty where they do not fit.
 abbrev pub marksAt : List ℤ → ℕ → ℕ → List ℤ
 marksAt marks offset w = cond (fitsAt (length marks) offset w) (take (2 ^ w + 1) (drop offset marks)) []
 
 pub marks-at : (marks : List ℤ) (offset w : ℕ) → w ≤ maxDimensionBits → offset + (2 ^ w + 1) ≤ length marks → marksAt marks offset w ≡ take (2 ^ w + 1) (drop offset marks)
 marks-at marks offset w few fits = rw (le-leb w maxDimensionBits few, le-leb (offset + (2 ^ w + 1)) (length marks) fits)
 
--- at a dimension's stretch they are its marks
+-- The part at a dimension's stretch is the dimension's marks.
 pub stretch-marks : (d b j : ℕ) (marks : List ℤ) {s : Stretch} → first (dimensionCauses d b j) ≡ Accepted → length marks ≡ firstMarks d b d → s ≡ stretchOf d b j
     → marksAt marks (s .offset) (s .bits) ≡ dimensionMarks d b marks j
 unfolding dimensionMarks

@@ -24,6 +24,7 @@ pub fn check_marks(d: usize, b: usize, marks: &[i32]) -> Verdict
     }
 }
 
+// Whether the marks are as many as d dimensions with b bits have, in range, and never fall, where d and b are within their limits.
 fn check_shaped(d: usize, b: usize, marks: &[i32]) -> Verdict
     requires { ⌜ first (shapeCauses d b) ≡ Accepted ⌝ }
     ensures { λ r. ⌜ r ≡ first (shapedCauses d b (now (marks .entry))) ⌝ }
@@ -57,6 +58,7 @@ pub fn checked_part<'a>(d: usize, b: usize, marks: &'a [i32], j: usize) -> &'a [
     }
 }
 
+// Whether each dimension's marks are in range and never fall.
 fn good_marks(d: usize, b: usize, marks: &[i32]) -> bool
     requires { ⌜ (first (shapeCauses d b) ≡ Accepted) × (length (now marks) ≡ firstMarks d b d) ⌝ }
     ensures { λ r. ⌜ r ≡ goodMarks d b (now (marks .entry)) ⌝ }
@@ -71,6 +73,7 @@ fn good_marks(d: usize, b: usize, marks: &[i32]) -> bool
     true
 }
 
+// Dimension j's part of the marks buffer, from 1.
 fn part<'a>(d: usize, b: usize, marks: &'a [i32], j: usize) -> &'a [i32]
     requires { ⌜ (first (dimensionCauses d b j) ≡ Accepted) × (length (now marks) ≡ firstMarks d b d) ⌝ }
     ensures { λ r. ⌜ now r ≡ dimensionMarks d b (now (marks .entry)) j ⌝ }
@@ -79,7 +82,8 @@ fn part<'a>(d: usize, b: usize, marks: &'a [i32], j: usize) -> &'a [i32]
     part_at(marks, stretch.offset, stretch.bits)
 }
 
-// The marks of a dimension of so many bits from an offset on, or an empty part where no dimension has these bits or the buffer ends before.
+// The marks of a dimension of so many bits from an offset on, for marks that have been tested: an empty part where no dimension has these
+// bits or the buffer ends before.
 pub fn part_at<'a>(marks: &'a [i32], offset: usize, bits: usize) -> &'a [i32]
     ensures { λ r. ⌜ now r ≡ marksAt (now (marks .entry)) offset bits ⌝ }
 {

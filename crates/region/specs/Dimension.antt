@@ -5,12 +5,12 @@ use lib.IntN.{ℤ}
 use lib.Signed.{leZ}
 use Rattle.limits.specs.Limits.{isMark}
 
--- m is not above the mark behind it
+-- A mark m is not above the mark behind it.
 unfoldable pub notAbove : ℤ → List ℤ → Bool
 notAbove m [] = true
 notAbove m (next ∷ ms) = leZ m next
 
--- one dimension's marks: each is in range, and none is below the one before it; equal neighbours are allowed
+-- Each of one dimension's marks is in range, and none is below the one before it; equal neighbours are allowed.
 unfoldable pub goodDimension : List ℤ → Bool
 goodDimension [] = true
 goodDimension (m ∷ ms) = isMark m && (notAbove m ms && goodDimension ms)

@@ -2,6 +2,6 @@ pub mod Dimension
 pub mod Region
 pub mod Within
 pub mod Regions
-pub mod Located
+pub mod Halving
 pub mod RegionCount
 pub mod Lookup

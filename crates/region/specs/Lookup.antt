@@ -1,4 +1,4 @@
--- The lookup of a value's region: the causes for which it says no, and what its answers stand for. Assumes nothing.
+-- The lookup of a value's region: the causes for which it is refused, and what its answers stand for. Assumes nothing.
 use mathlib.Core.Bool.{not}
 use mathlib.Core.List.{List, [], _∷_}
 use Prim.Native.Nat.{ℕ, _+_}
@@ -14,7 +14,7 @@ use Rattle.region.specs.Dimension.{goodDimension}
 use Rattle.region.specs.Region.{regionOf, inMarks}
 use Rattle.region.specs.RegionCount.{isRegionCount}
 
--- the causes, in the order in which they are tested: 2, 5, 7, 8
+-- The causes are 2, 5, 7 and 8, in the order in which they are tested.
 abbrev pub regionCauses : List ℤ → ℕ → ℤ → List Row
 regionCauses marks regions v =
     (not (isRegionCount regions) ⇒ Bits)
@@ -23,16 +23,16 @@ regionCauses marks regions v =
     ∷ (not (inMarks marks v) ⇒ Outside)
     ∷ []
 
--- the answer: the region of v in these marks, or the first cause
+-- The answer is the region of v in these marks, or the first cause.
 abbrev pub lookedUp : List ℤ → ℕ → ℤ → Lookup
 lookedUp marks regions v = outcome (first (regionCauses marks regions v)) (Region (regionOf marks v)) Refused
 
--- document 01's number of an answer, 0 where there is a region
+-- Document 01 gives an answer its number, 0 where there is a region.
 abbrev pub lookupNumber : Lookup → ℕ
 lookupNumber (Region r) = 0
 lookupNumber (Refused cause) = numberOf cause
 
--- the region of an answer, 0 where there is none
+-- The region of an answer is 0 where there is none.
 abbrev pub lookupRegion : Lookup → ℕ
 lookupRegion (Region r) = r
 lookupRegion (Refused cause) = 0

@@ -10,7 +10,7 @@ use lib.ListN.{length, getD}
 unfoldable pub inRegion : List ℤ → ℕ → ℤ → Bool
 inRegion marks r v = leZ (getD marks r (pos 0)) v && ltZ v (getD marks (suc r) (pos 0))
 
--- the number of the first region that holds v
+-- The region of v is the first that holds it.
 unfoldable pub regionOf : List ℤ → ℤ → ℕ
 regionOf [] v = 0
 regionOf (m ∷ []) v = 0
@@ -25,6 +25,6 @@ abbrev pub lastMark : List ℤ → ℤ
 lastMark [] = pos 0
 lastMark (m ∷ ms) = getD (m ∷ ms) (length ms) (pos 0)
 
--- whether v lies inside the marks: at least the first, and below the last
+-- A value lies inside the marks if it is at least the first and below the last.
 unfoldable pub inMarks : List ℤ → ℤ → Bool
 inMarks marks v = leZ (firstMark marks) v && ltZ v (lastMark marks)

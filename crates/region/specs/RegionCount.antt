@@ -9,7 +9,7 @@ use borrow.Author.Tests.{eqb-true, eq-eqb}
 use lib.Dec.{eqb}
 use Rattle.limits.specs.Limits.{maxDimensionBits}
 
--- whether n is 2^w with w from 0 to bits
+-- A number is a power here if it is 2^w with w from 0 to bits.
 unfoldable pub isPower : ℕ → ℕ → Bool
 isPower zero n = eqb n 1
 isPower (suc bits) n = eqb n (2 ^ suc bits) || isPower bits n
@@ -17,7 +17,7 @@ isPower (suc bits) n = eqb n (2 ^ suc bits) || isPower bits n
 abbrev pub isRegionCount : ℕ → Bool
 isRegionCount regions = isPower maxDimensionBits regions
 
--- ---- laws
+-- ---- Laws
 
 pub record Power (bits n : ℕ) : Type 0 where
   pub w : ℕ

@@ -14,7 +14,7 @@ use Rattle.region.specs.Dimension.{notAbove, goodDimension}
 use Rattle.region.specs.Region.{inRegion, regionOf, firstMark, lastMark, inMarks}
 use Rattle.region.specs.Within.{leZ-trans, leZ-refl, ltZ-clash, ltZ-leZ, Within, within, within-test, within-apart}
 
--- region r is one of the marks' regions, and holds v
+-- Region r is one of the marks' regions and holds v.
 pub record Holds (marks : List ℤ) (r : ℕ) (v : ℤ) : Type 0 where
   pub exists : suc r < length marks
   pub inside : inRegion marks r v ≡ true
@@ -36,18 +36,18 @@ pub within-marks : (marks : List ℤ) (v : ℤ) → Within (firstMark marks) v (
 unfolding inMarks
 within-marks marks v is = within-test is
 
--- a region that holds a value is not empty
+-- A region that holds a value is not empty.
 pub holds-not-empty : {marks : List ℤ} {r : ℕ} {v : ℤ} → Holds marks r v → ltZ (getD marks r (pos 0)) (getD marks (suc r) (pos 0)) ≡ true
 holds-not-empty h = within-apart (holds-within h)
 
--- the last mark, by its place
+-- The last mark is the mark at the last place.
 pub last-mark : (marks : List ℤ) (last : ℕ) → suc last ≡ length marks → lastMark marks ≡ getD marks last (pos 0)
 last-mark [] last e = absurd (omega arith)
 last-mark (m ∷ ms) last e =
     let same : last ≡ length ms = omega arith in
     rw same
 
--- a value that lies inside the marks is in regionOf's region, whether the marks fall or not
+-- A value that lies inside the marks is in regionOf's region, whether the marks fall or not.
 pub region-of-holds : (marks : List ℤ) (v : ℤ) → inMarks marks v ≡ true → Holds marks (regionOf marks v) v
 unfolding inRegion regionOf
 region-of-holds [] v h =
@@ -67,9 +67,9 @@ region-of-holds (m ∷ next ∷ ms) v h = go (leZ m v && ltZ v next) refl (regio
         let rest = later (within-marks (next ∷ ms) v (record { lower = leZ-not v next ∙ ap not not-below; upper = is .upper })) in
         record { exists = omega (arith, rest .exists); inside = rest .inside }
 
--- ---- marks that never fall
+-- ---- Marks that never fall
 
--- the first mark is in range and not above the next, and the rest is good
+-- The first of good marks is in range and not above the next, and the rest is good.
 pub record GoodFirst (m : ℤ) (ms : List ℤ) : Type 0 where
   pub in-range : isMark m ≡ true
   pub not-above : notAbove m ms ≡ true
@@ -84,7 +84,7 @@ good-first m ms good = go (isMark m) (notAbove m ms) refl refl good
     go true false e f good = absurd (true≢false (sym good))
     go false t e f good = absurd (true≢false (sym good))
 
--- no mark is below an earlier one
+-- No mark is below an earlier one.
 pub marks-rise : (marks : List ℤ) → goodDimension marks ≡ true → (i j : ℕ) → i ≤ j → j < length marks
     → leZ (getD marks i (pos 0)) (getD marks j (pos 0)) ≡ true
 unfolding notAbove
@@ -104,14 +104,14 @@ module _ {marks : List ℤ} (good : goodDimension marks ≡ true) {v : ℤ} wher
       ltZ-clash v (getD marks (suc r) (pos 0)) (holds-within hr .upper)
       (leZ-trans (getD marks (suc r) (pos 0)) (getD marks s (pos 0)) v above (holds-within hs .lower))
 
-  -- at most one region holds a value
+  -- At most one region holds a value.
   pub holds-one : {r s : ℕ} → Holds marks r v → Holds marks s v → r ≡ s
   holds-one {r} {s} hr hs =
       let not-later : ¬ (r < s) = later-clash hr hs in
       let not-earlier : ¬ (s < r) = later-clash hs hr in
       omega arith
 
-  -- and the value lies inside the marks
+  -- A value that a region holds lies inside the marks.
   pub holds-in-marks : {r : ℕ} → Holds marks r v → inMarks marks v ≡ true
   holds-in-marks {r} h =
       let is = holds-within h in
@@ -122,6 +122,6 @@ module _ {marks : List ℤ} (good : goodDimension marks ≡ true) {v : ℤ} wher
       let upper = ltZ-leZ v (getD marks (suc r) (pos 0)) (getD marks last (pos 0)) (is .upper) last-rise in
       within-marks marks v (record { lower = lower; upper = rw (last-mark marks last (omega (arith, h .exists))) upper })
 
-  -- so the one region that holds it is regionOf's
+  -- The one region that holds a value is regionOf's.
   pub region-of-is : {r : ℕ} → Holds marks r v → r ≡ regionOf marks v
   region-of-is h = holds-one h (region-of-holds marks v (holds-in-marks h))

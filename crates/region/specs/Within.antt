@@ -30,7 +30,7 @@ pub leZ-refl : (a : ℤ) → leZ a a ≡ true
 leZ-refl (pos a) = le-leb a a (omega arith)
 leZ-refl (negsuc a) = le-leb a a (omega arith)
 
--- below and at least exclude each other
+-- A number is not both below and at least another.
 pub ltZ-clash : (a b : ℤ) → ltZ a b ≡ true → leZ b a ≡ true → ⊥
 ltZ-clash a b below above = true≢false (sym below ∙ ltZ-not a b ∙ ap not above)
 
@@ -47,7 +47,7 @@ ltZ-leZ a b c below above = not-leZ a c (λ e. ltZ-clash a b below (leZ-trans b 
 pub leZ-ltZ : (a b c : ℤ) → leZ a b ≡ true → ltZ b c ≡ true → ltZ a c ≡ true
 leZ-ltZ a b c above below = not-leZ a c (λ e. ltZ-clash b c below (leZ-trans c a b e above))
 
--- low ≤ v < high
+-- The number v lies from low up to, and without, high.
 pub record Within (low v high : ℤ) : Type 0 where
   pub lower : leZ low v ≡ true
   pub upper : ltZ v high ≡ true
@@ -62,6 +62,6 @@ within low v high holds = go (leZ low v) refl holds
 pub within-test : {low v high : ℤ} → Within low v high → leZ low v && ltZ v high ≡ true
 within-test is = rw (is .lower) (is .upper)
 
--- there is a number from low up to high only where high is above low
+-- There is a number from low up to high only where high is above low.
 pub within-apart : {low v high : ℤ} → Within low v high → ltZ low high ≡ true
 within-apart {low} {v} {high} is = leZ-ltZ low v high (is .lower) (is .upper)

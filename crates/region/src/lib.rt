@@ -5,13 +5,13 @@ use limits::MAX_DIMENSION_BITS;
 use refusal::Refusal;
 ghost use mathlib.Core.Path.{_≡_};
 ghost use mathlib.Core.Bool.{_&&_};
-ghost use Prim.Native.Nat.{suc, _<_};
+ghost use Prim.Native.Nat.{suc, _+_, _<_};
 ghost use lib.IntN.{pos};
 ghost use lib.ListN.{length, drop, getD};
 ghost use Rattle.limits.specs.Limits.{isMark};
 ghost use Rattle.region.specs.Dimension.{notAbove, goodDimension};
 ghost use Rattle.region.specs.Region.{inMarks};
-ghost use Rattle.region.specs.Located.{Located};
+ghost use Rattle.region.specs.Halving.{halfStart, halved};
 ghost use Rattle.region.specs.RegionCount.{isRegionCount};
 ghost use Rattle.region.specs.Lookup.{lookedUp};
 
@@ -40,20 +40,36 @@ pub fn region(marks: &[i32], regions: usize, v: i32) -> Lookup
     Lookup::Region(locate(marks, v))
 }
 
-// The region by halving the stretch of marks, for marks that have been tested: where the marks never fall and the value lies inside
-// them, it is the value's region.
+// The region by halving the stretch of marks, which are not tested: where they never fall and the value lies inside them, it is the value's
+// region. Each call makes three halvings, whose halves are chosen without a branch, and hands on the part that is left.
 pub fn locate(marks: &[i32], v: i32) -> usize
-    ensures { λ r. ⌜ Located (now (marks .entry)) v r ⌝ }
+    ensures { λ r. ⌜ r ≡ halved (now (marks .entry)) v ⌝ }
 {
     let count = marks.len();
     if count <= 2 {
         return 0;
     }
-    let half = count / 2;
-    if v < marks[half] {
-        return locate(&marks[..half + 1], v);
+    let half = (count - 1) / 2;
+    let quarter = (count - half - 1) / 2;
+    let eighth = (count - half - quarter - 1) / 2;
+    let first = half_start(marks, v, 0, half);
+    let second = half_start(marks, v, first, quarter);
+    let start = half_start(marks, v, second, eighth);
+    let left = count - half - quarter - eighth;
+    if left <= 2 {
+        return start;
     }
-    half + locate(&marks[half..], v)
+    let end = start + left;
+    start + locate(&marks[start..end], v)
+}
+
+// Where the half begins in which a value is sought: at the mark in the middle, or at the start where the value is below that mark.
+fn half_start(marks: &[i32], v: i32, start: usize, half: usize) -> usize
+    requires { ⌜ start + half < length (now marks) ⌝ }
+    ensures { λ r. ⌜ r ≡ halfStart (now (marks .entry)) v start half ⌝ }
+{
+    let middle = start + half;
+    if v < marks[middle] { start } else { middle }
 }
 
 // Whether a value lies inside the marks.

@@ -1,10 +1,10 @@
 // A query's table of squared steps.
 use limits::MAX_DIMENSION_BITS;
 use limits::MAX_DIMENSIONS;
+use partition::part_at;
 use refusal::Refusal;
 use refusal::Verdict;
 use step::Bound;
-use view::marks_at;
 ghost use mathlib.Core.Path.{_≡_};
 ghost use lib.ListN.{length};
 ghost use Rattle.refusal.specs.declared.Verdict.the-variants.{Accepted};
@@ -77,7 +77,7 @@ fn fill_dimensions(
         fill_steps(
             bound,
             whole::at(query, t),
-            marks_at(marks, start, stretch.bits),
+            part_at(marks, start, stretch.bits),
             &mut table[start..end],
         );
         t += 1;

@@ -1,9 +1,9 @@
--- What the walks over a view share: the calls of `view_of`, `regions_between` and `marks_of`, what each is passed, what it asks, and what is known of its result.
--- `view_of` is passed the numbers d, b and j and the marks.
+-- What the walks over a view share: what a call given a dimension is passed, the numbers d, b and j and the marks, and the call of `view_of`,
+-- what it asks and what is known of its result.
 -- Numbers own facts alone, so what the marks own is enough for all that is passed; a `&[i32]` is Copy, so a copy of that is kept.
 -- Assumes nothing.
 use mathlib.Core.Path.{_≡_, refl}
-use Prim.Native.Nat.{ℕ, _-_, _<_, _^_}
+use Prim.Native.Nat.{ℕ, _<_, _^_}
 use mathlib.Core.List.{List, [], _∷_}
 use lib.IntN.{ℤ}
 use lib.ListN.{length}
@@ -35,14 +35,12 @@ use denote.Triple.Walked.{Stays, stay-none, stay-none-slice, walkOf, goes-none, 
 use denote.Exit.{yes}
 use denote.Triple.Clauses.{Ended, Clauses, ensured, lasts, closing}
 use Rattle.partition.specs.Parts.{seenMarks}
-use Rattle.partition.proofs.regions_between as count
 use Rattle.view.specs.View.{seenRegions}
 use Rattle.view.specs.declared.View.{View}
 use Rattle.view.proofs.View as T
 use Rattle.view.proofs.view_of as view-of
-use Rattle.view.proofs.marks_of as marks-of
 
--- what a call given a dimension is passed
+-- A call given a dimension is passed these numbers and the marks.
 pub record Asked : Type 0 where
   pub d : ℕ
   pub b : ℕ
@@ -52,21 +50,21 @@ pub record Asked : Type 0 where
   pub b-fits : b < 2 ^ 64
   pub j-fits : j < 2 ^ 64
 
--- the view's type, over the signature's lifetimes
+-- The view's type is over the signature's lifetimes.
 abbrev pub Viewed : Lfts 1 → RattleType
 Viewed κs = T.the-row (namedLft 1 0 tt κs)
 
 abbrev pub Slice : Lft → RattleType
 Slice κ = ShrSlice (named 0) κ i32
 
--- a slice's machine value, and what the slice owns
+-- A slice has this machine value, and owns this.
 abbrev pub lent : RefT (List ℤ) → Val
 lent s = sliceVal (s .ptr) (length (s .now))
 
 abbrev pub Own : Lft → RefT (List ℤ) → Fml
 Own κ s = Slice κ .own s (lent s ∷ [])
 
--- the parameters' types, values and machine values, with those of more parameters behind them
+-- The parameters' types, values and machine values may have those of more parameters behind them.
 abbrev pub typesOf : Lft → List RattleType → List RattleType
 typesOf κ Ts = usize ∷ usize ∷ Slice κ ∷ usize ∷ Ts
 
@@ -77,14 +75,14 @@ abbrev pub vals : (κ : Lft) (Ts : List RattleType) → Asked → Valss Ts → V
 vals κ Ts x more = (vint w64 (x .d) ∷ [], (vint w64 (x .b) ∷ [], (lent (x .marks) ∷ [], (vint w64 (x .j) ∷ [], more))))
 
 module _ {M : Type 1} (𝓤 : URA M) (H : Heap 𝓤) (A : Atoms 𝓤) (W : Given 𝓤 H A) (κ : Lft) (x : Asked) where
-  -- what the marks own is what all that is passed owns
+  -- What the marks own is what all that is passed owns.
   pub own-passed : (Ts : List RattleType) (more : Denots Ts) (vss : Valss Ts)
       → ent 𝓤 (⋆ 𝓤 H A (‵ (owns Ts more vss) ∷ ‵ (Own κ (x .marks)) ∷ [])) (sem 𝓤 H A (owns (typesOf κ Ts) (args κ Ts x more) (vals κ Ts x vss)))
   own-passed Ts more vss =
       qed W (‵ (owns Ts more vss) ∷ ‵ (Own κ (x .marks)) ∷ []) ∵ owned ! usize (Is usize) (uint-makes 𝓤 H A W w64) (x .j) _ (refl, x .j-fits) $ fjoin ! $ move ! (1 ∷ 0 ∷ []) $ fjoin ! $
       owned ! usize (Is usize) (uint-makes 𝓤 H A W w64) (x .b) _ (refl, x .b-fits) $ fjoin ! $ owned ! usize (Is usize) (uint-makes 𝓤 H A W w64) (x .d) _ (refl, x .d-fits) $ fjoin ! $ done !
 
-  -- what is passed is passed on, without the parameters behind it, and what the marks own is kept
+  -- What is passed is passed on, without the parameters behind it, and what the marks own is kept.
   pub passes-on : (q : Share) (Ts : List RattleType) (more : Denots Ts) (vss : Valss Ts)
       → ent 𝓤 (⋆ 𝓤 H A ((‵ (flft κ q) ⊛ ‵ ftrue) ∷ ‵ (owns (typesOf κ Ts) (args κ Ts x more) (vals κ Ts x vss)) ∷ []))
       (⋆ 𝓤 H A ((‵ (flft κ q) ⊛ ‵ ftrue) ∷ ‵ (owns (typesOf κ []) (args κ [] x tt) (vals κ [] x tt)) ∷ ‵ (Own κ (x .marks)) ∷ []))
@@ -94,7 +92,7 @@ module _ {M : Type 1} (𝓤 : URA M) (H : Heap 𝓤) (A : Atoms 𝓤) (W : Given
       use1 W (‵ (Own κ (x .marks)) ⊛ ‵ (Own κ (x .marks))) (shr-slice-copy 𝓤 H A W (named 0) κ i32 .twice (x .marks) (lent (x .marks) ∷ [])) $ split ! $
       nothing ! $ use2 W (‵ (owns (typesOf κ []) (args κ [] x tt) (vals κ [] x tt))) (own-passed [] tt tt) $ frame ! $ done !
 
--- a function that is passed a dimension alone and hands back R: its parameters stay as they were passed
+-- The parameters of a function that is passed a dimension alone, and hands back R, stay as they were passed.
 abbrev slots : List (Slot 1)
 slots = plain (λ _. usize) ∷ plain (λ _. usize) ∷ SliceRefOf (0 ∷ []) tt (plain (λ _. i32)) (λ _. tt) ∷ plain (λ _. usize) ∷ []
 
@@ -104,7 +102,7 @@ OfDimension R = record { signature = record { lifetimes = 1; outlives = []; para
 abbrev pub stayed : Stays slots (yes, (yes, (yes, (yes, tt))))
 stayed = (stay-none (λ _. usize) yes, (stay-none (λ _. usize) yes, (stay-none-slice (0 ∷ []) tt (plain (λ _. i32)) yes, (stay-none (λ _. usize) yes, tt))))
 
--- it meets its contract if the walk of its MIR f, from the machine values written out, ends as the contract says
+-- Such a function meets its contract if the walk of its MIR f, from the machine values written out, ends as the contract says.
 pub dimension-meets : {M : Type 1} (𝓤 : URA M) (H : Heap 𝓤) (A : Atoms 𝓤) (W : Given 𝓤 H A) (R : Slot 1) (c : Clauses 𝓤 (OfDimension R)) (𝓣 : Tables 𝓤 H) (f : Fn)
     → ((κ : Lft) (q : Share) (x : Asked) (g : c (κ, tt) (args κ [] x tt) .ghost) → Is (Slice κ) (x .marks) (lent (x .marks) ∷ []) → ent 𝓤 (onEntry 𝓤 H A (OfDimension R .signature) (κ, tt) (q, tt) (args κ [] x tt) (vals κ [] x tt))
     (WpFn 𝓤 H (𝓣 .C) (𝓣 .Λ) f (vint w64 (x .d) ∷ vint w64 (x .b) ∷ lent (x .marks) ∷ vint w64 (x .j) ∷ []) (walkOf 𝓤 H A (OfDimension R) stayed c .post (((κ, tt), (q, tt), tt, args κ [] x tt, vals κ [] x tt), g))))
@@ -116,11 +114,11 @@ dimension-meets 𝓤 H A W R c 𝓣 f walk = walk-meets 𝓤 H A (OfDimension R)
     (λ κs qs bounds a g are. via 𝓤 _ (fst∗ 𝓤 _ (c κs a .requires g)) (walk (κs .0) (qs .0)
     (record { d = a .0; b = a .1 .0; marks = a .1 .1 .0; j = a .1 .1 .1 .0; d-fits = are .0 .1; b-fits = are .1 .0 .1; j-fits = are .1 .1 .1 .0 .1 }) g (are .1 .1 .0))))
 
--- what `view_of` says of a view
+-- The contract of `view_of` says this of a view.
 abbrev pub Seen : Asked → View → Type 0
 Seen x r = (now (r .marks) ≡ seenMarks (x .d) (x .b) (now (x .marks)) (x .j)) × (r .regions ≡ seenRegions (x .d) (x .b) (now (x .marks)) (x .j))
 
--- the call of `view_of`: what it is passed, what it asks, and what is known of its result
+-- A call of `view_of` is passed this, asks for this, and leaves this known of its result.
 module _ {M : Type 1} (𝓤 : URA M) (H : Heap 𝓤) (A : Atoms 𝓤) (mem : Memory → SProp 𝓤) (run : Routine → Fun 𝓤) where
   abbrev pub ViewOf : Contract 𝓤
   ViewOf = tripleOf 𝓤 H A view-of.signature (view-of.spec 𝓤 H A mem run)
@@ -137,33 +135,3 @@ module _ {M : Type 1} (𝓤 : URA M) (H : Heap 𝓤) (A : Atoms 𝓤) (mem : Mem
 
   pub view-said : (κ : Lft) (x : Asked) (r : View) → ent 𝓤 (ensured 𝓤 H A view-of.ended (view-of.clauses 𝓤 H A mem run) (κ, tt) (args κ [] x tt) tt r) (fact 𝓤 (Seen x r))
   view-said κ x r = exE 𝓤 _ (λ ws. snd∗ 𝓤 (sem 𝓤 H A (lasts view-of.ended (κ, tt) (args κ [] x tt) ws)) (fact 𝓤 (Seen x r)))
-
--- the call of `regions_between`, at a part p
-module _ {M : Type 1} (𝓤 : URA M) (H : Heap 𝓤) (A : Atoms 𝓤) (mem : Memory → SProp 𝓤) (run : Routine → Fun 𝓤) where
-  abbrev pub Count : Contract 𝓤
-  Count = tripleOf 𝓤 H A count.signature (count.spec 𝓤 H A mem run)
-
-  abbrev pub to-count : Lft → Share → RefT (List ℤ) → Count .Ghost
-  to-count κ q p = (((κ, tt), (q, tt), tt, (p, tt), (lent p ∷ [], tt)), tt)
-
-  pub goes-count : Given 𝓤 H A → (κ : Lft) (q : Share) (p : RefT (List ℤ)) → ent 𝓤 (⋆ 𝓤 H A (‵ (Own κ p) ∷ (‵ (flft κ q) ⊛ ‵ ftrue) ∷ [])) (sep 𝓤 (Count .pre (to-count κ q p)) (sem 𝓤 H A (Own κ p)))
-  goes-count W κ q p =
-      qed W (‵ (Own κ p) ∷ (‵ (flft κ q) ⊛ ‵ ftrue) ∷ []) ∵ use1 W (‵ (Own κ p) ⊛ ‵ (Own κ p)) (shr-slice-copy 𝓤 H A W (named 0) κ i32 .twice p (lent p ∷ [])) $ split ! $ nothing ! $ move ! (1 ∷ 0 ∷ []) $ fjoin ! $
-      move ! (2 ∷ 0 ∷ []) $ use2 W (raw (Count .pre (to-count κ q p))) (qed W ((‵ (flft κ q) ⊛ ‵ ftrue) ∷ ‵ (owns (Slice κ ∷ []) (p, tt) (lent p ∷ [], tt)) ∷ []) ∵ join ! $ frame ! $ done !) $ frame ! $ done !
-
-  pub count-said : (κ : Lft) (p : RefT (List ℤ)) (n : ℕ) → ent 𝓤 (ensured 𝓤 H A count.ended (count.clauses 𝓤 H A mem run) (κ, tt) (p, tt) tt n) (fact 𝓤 (n ≡ length (now p) - 1))
-  count-said κ p n = exE 𝓤 _ (λ ws. snd∗ 𝓤 (sem 𝓤 H A (lasts count.ended (κ, tt) (p, tt) ws)) (fact 𝓤 (n ≡ length (now p) - 1)))
-
--- the call of `marks_of`, at a view r with the machine value u
-module _ {M : Type 1} (𝓤 : URA M) (H : Heap 𝓤) (A : Atoms 𝓤) (mem : Memory → SProp 𝓤) (run : Routine → Fun 𝓤) where
-  abbrev pub MarksOf : Contract 𝓤
-  MarksOf = tripleOf 𝓤 H A marks-of.signature (marks-of.spec 𝓤 H A mem run)
-
-  abbrev pub to-marks : Lft → Share → View → Val → MarksOf .Ghost
-  to-marks κ q r u = (((κ, tt), (q, tt), tt, (r, tt), (u ∷ [], tt)), tt)
-
-  pub goes-marks : Given 𝓤 H A → (κ : Lft) (q : Share) (r : View) (u : Val) → ent 𝓤 (⋆ 𝓤 H A (‵ (Viewed (κ, tt) .own r (u ∷ [])) ∷ (‵ (flft κ q) ⊛ ‵ ftrue) ∷ [])) (MarksOf .pre (to-marks κ q r u))
-  goes-marks W κ q r u = qed W (‵ (Viewed (κ, tt) .own r (u ∷ [])) ∷ (‵ (flft κ q) ⊛ ‵ ftrue) ∷ []) ∵ nothing ! $ move ! (1 ∷ 0 ∷ []) $ fjoin ! $ move ! (1 ∷ 0 ∷ []) $ join ! $ frame ! $ done !
-
-  pub marks-said : (κ : Lft) (r : View) (p : RefT (List ℤ)) → ent 𝓤 (ensured 𝓤 H A marks-of.ended (marks-of.clauses 𝓤 H A mem run) (κ, tt) (r, tt) tt p) (fact 𝓤 (p ≡ r .marks))
-  marks-said κ r p = exE 𝓤 _ (λ ws. snd∗ 𝓤 (sem 𝓤 H A (lasts marks-of.ended (κ, tt) (r, tt) ws)) (fact 𝓤 (p ≡ r .marks)))

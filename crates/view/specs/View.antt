@@ -1,12 +1,11 @@
 -- One dimension's marks as they are looked at, with their number of regions as one thing (document 01, "Marks, regions, codes"). Assumes
 -- nothing.
-use mathlib.Core.Path.{_≡_, refl, subst⁻¹}
-use mathlib.Core.Bool.{Bool, true, false, not, cond, and-eq-true-iff}
+use mathlib.Core.Path.{_≡_, refl}
+use mathlib.Core.Bool.{true, not}
 use mathlib.Core.List.{List, [], _∷_, _++_}
-use Prim.Native.Nat.{ℕ, suc, _+_, _-_, _^_, _≤_}
+use Prim.Native.Nat.{ℕ, _+_, _-_, _≤_}
 use native.Mathlib.Omega.{arith}
-use borrow.Author.Tests.{leb-true, not-false}
-use lib.Dec.{leb}
+use borrow.Author.Tests.{not-false}
 use lib.IntN.{ℤ}
 use lib.ListN.{length, drop, length-drop}
 use lib.Seq.{length-take-le}
@@ -15,55 +14,37 @@ use Rattle.refusal.specs.declared.Verdict.{Verdict}
 use Rattle.refusal.specs.declared.Verdict.the-variants.{Accepted, Refused}
 use Rattle.refusal.specs.First.{Row, _⇒_, first, outcome, passed, accepted-behind}
 use Rattle.limits.specs.Limits.{maxDimensionBits}
-use Rattle.limits.specs.Tests.{all-each}
 use Rattle.layout.specs.Layout.{bitsOf, regionCount, firstMarks}
 use Rattle.layout.specs.Stretch.{dimensionCauses, stretchOf, numbered, stretches}
 use Rattle.region.specs.Dimension.{goodDimension}
 use Rattle.region.specs.Region.{inMarks}
 use Rattle.region.specs.RegionCount.{isRegionCount, is-power}
-use Rattle.partition.specs.Marks.{dimensionMarks, goodFirst, goodMarks}
+use Rattle.partition.specs.Marks.{dimensionMarks, goodMarks, good-marks-each}
 use Rattle.partition.specs.MarksCauses.{shapedCauses, partCauses}
-use Rattle.partition.specs.Parts.{seenMarks, part-accepted, fitsAt, marksAt}
+use Rattle.partition.specs.Parts.{seenMarks, part-accepted}
 
--- the number of regions of a dimension's part, none if refused
+-- A dimension's part has this number of regions, none if refused.
 abbrev pub seenRegions : ℕ → ℕ → List ℤ → ℕ → ℕ
 seenRegions d b marks j = outcome (first (partCauses d b marks j)) (regionCount d b j) (λ _. 0)
 
--- the causes for which the region of a value in dimension j is refused: those of the part, then 8
+-- The region of a value in dimension j is refused for the causes of the part, then with 8.
 abbrev pub valueCauses : ℕ → ℕ → List ℤ → ℕ → ℤ → List Row
 valueCauses d b marks j v = partCauses d b marks j ++ ((not (inMarks (dimensionMarks d b marks j) v) ⇒ Outside) ∷ [])
 
--- the number of regions of the marks at a place, or none
-abbrev pub regionsAt : List ℤ → ℕ → ℕ → ℕ
-regionsAt marks offset w = cond (fitsAt (length marks) offset w) (2 ^ w) 0
+-- ---- A part that is handed back
 
--- the number of regions is what the part's marks leave between them
-pub regions-at : (marks : List ℤ) (offset w : ℕ) → length (marksAt marks offset w) - 1 ≡ regionsAt marks offset w
-regions-at marks offset w = go (fitsAt (length marks) offset w) refl
-  where
-    go : (fits : Bool) → fitsAt (length marks) offset w ≡ fits → length (marksAt marks offset w) - 1 ≡ regionsAt marks offset w
-    go true e =
-        let within = leb-true (offset + (2 ^ w + 1)) (length marks) (and-eq-true-iff (leb w maxDimensionBits) _ .0 e .1) in
-        let long = length-take-le (2 ^ w + 1) (drop offset marks) (rw (length-drop offset marks) (omega (arith, within))) in
-        rw e (omega (arith, long))
-    go false e = rw e
-
--- ---- a part that is handed back
-
--- the part is good, with one mark more than regions, and the number of regions one that a dimension can have
+-- The part is good, with one mark more than regions, and its number of regions is one that a dimension can have.
 pub record Part (d b : ℕ) (marks : List ℤ) (j : ℕ) : Type 0 where
   pub counted : isRegionCount (regionCount d b j) ≡ true
   pub exact : length (dimensionMarks d b marks j) ≡ regionCount d b j + 1
   pub good : goodDimension (dimensionMarks d b marks j) ≡ true
 
 good-part : (d b : ℕ) (marks : List ℤ) (j : ℕ) → first (partCauses d b marks j) ≡ Accepted → goodDimension (dimensionMarks d b marks j) ≡ true
-unfolding goodFirst
 good-part d b marks j accepted =
     let number = numbered d b j (part-accepted d b j marks accepted .0) in
     let size = passed _ _ _ (accepted-behind (dimensionCauses d b j) (shapedCauses d b marks) accepted) in
     let good = not-false (goodMarks d b marks) (passed _ _ _ (size .rest) .fails) in
-    subst⁻¹ (λ (n : ℕ). goodDimension (dimensionMarks d b marks n) ≡ true) (number .is)
-    (all-each {all = goodFirst d b marks} {test = λ t. goodDimension (dimensionMarks d b marks (suc t))} (record { next = λ t. refl }) d (number .before) (number .within) good)
+    rw (number .is) (good-marks-each d b marks (number .before) (number .within) good)
 
 pub part-is : (d b : ℕ) (marks : List ℤ) (j : ℕ) → first (partCauses d b marks j) ≡ Accepted → Part d b marks j
 unfolding dimensionMarks
@@ -80,7 +61,7 @@ part-is d b marks j accepted =
       good = good-part d b marks j accepted;
     }
 
--- and here too
+-- The number of regions is one less than the part's marks, and none where it is empty.
 pub regions-between : (d b : ℕ) (marks : List ℤ) (j : ℕ) → length (seenMarks d b marks j) - 1 ≡ seenRegions d b marks j
 regions-between d b marks j = go (first (partCauses d b marks j)) refl
   where

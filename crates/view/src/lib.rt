@@ -2,7 +2,6 @@
 // functions over plain slices. Those with plain parameters stand above them, for every other caller.
 use partition::check_part;
 use partition::checked_part;
-use partition::part_at;
 use partition::regions_between;
 use refusal::Refusal;
 use refusal::Verdict;
@@ -12,8 +11,8 @@ ghost use Rattle.refusal.specs.First.{first, outcome};
 ghost use Rattle.region.specs.Region.{regionOf};
 ghost use Rattle.region.specs.Lookup.{lookedUp};
 ghost use Rattle.partition.specs.Marks.{dimensionMarks};
-ghost use Rattle.partition.specs.Parts.{seenMarks, marksAt};
-ghost use Rattle.view.specs.View.{seenRegions, valueCauses, regionsAt};
+ghost use Rattle.partition.specs.Parts.{seenMarks};
+ghost use Rattle.view.specs.View.{seenRegions, valueCauses};
 
 // One dimension's marks, and how many regions they bound.
 pub struct View<'a> {
@@ -26,18 +25,6 @@ pub fn view_of<'a>(d: usize, b: usize, marks: &'a [i32], j: usize) -> View<'a>
     ensures { λ r. ⌜ (now (r .marks) ≡ seenMarks d b (now (marks .entry)) j) × (r .regions ≡ seenRegions d b (now (marks .entry)) j) ⌝ }
 {
     let part = checked_part(d, b, marks, j);
-    View {
-        marks: part,
-        regions: regions_between(part),
-    }
-}
-
-// The view of a dimension of so many bits whose marks begin at an offset, for marks that have been tested: an empty part and no regions
-// where no dimension has these bits or the buffer ends before.
-pub fn view_at<'a>(marks: &'a [i32], offset: usize, bits: usize) -> View<'a>
-    ensures { λ r. ⌜ (now (r .marks) ≡ marksAt (now (marks .entry)) offset bits) × (r .regions ≡ regionsAt (now (marks .entry)) offset bits) ⌝ }
-{
-    let part = part_at(marks, offset, bits);
     View {
         marks: part,
         regions: regions_between(part),
@@ -63,13 +50,6 @@ pub fn dimension_marks<'a>(d: usize, b: usize, marks: &'a [i32], j: usize) -> &'
     ensures { λ r. ⌜ now r ≡ seenMarks d b (now (marks .entry)) j ⌝ }
 {
     marks_of(view_of(d, b, marks, j))
-}
-
-// A dimension's part of marks that have been tested, by its place.
-pub fn marks_at<'a>(marks: &'a [i32], offset: usize, bits: usize) -> &'a [i32]
-    ensures { λ r. ⌜ now r ≡ marksAt (now (marks .entry)) offset bits ⌝ }
-{
-    marks_of(view_at(marks, offset, bits))
 }
 
 // The region of a value in dimension j's marks. Where the view refuses, a second call gives the cause.

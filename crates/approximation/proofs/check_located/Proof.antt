@@ -11,19 +11,20 @@ use Rattle.refusal.specs.First.{Row, _⇒_, first, outcome-accepted, outcome-re
 use Rattle.layout.specs.Layout.{firstMarks}
 use Rattle.layout.specs.Stretch.{marks-length-is, shape}
 use Rattle.partition.specs.Marks.{goodMarks}
-use Rattle.approximation.specs.VectorCauses.{locateCauses, marks-row}
+use Rattle.partition.specs.MarksCauses.{marks-row}
+use Rattle.approximation.specs.VectorCauses.{locateCauses}
 use Rattle.approximation.proofs.check_located.Statement.{statement}
 use Rattle.approximation.proofs.check_located.Tie as tie
 
--- the rows from the k-th on
+-- These are the rows from the k-th on.
 abbrev rows : ℕ → tie.Start → List Row
 rows k c = drop k (locateCauses (c .args .d) (c .args .b) (c .args .vectors .now) (c .args .marks .now))
 
--- what the code's flag says of the row's test
+-- The code's flag decides the row's test.
 told : {result test value : Bool} → result ≡ test → not result ≡ value → not test ≡ value
 told is flag = ap not (sym is) ∙ flag
 
--- ---- the marks' length
+-- ---- The marks' length
 
 wanted : (c : tie.After-marks-length) → let args = c .before .args in c .marks-length .result ≡ firstMarks (args .d) (args .b) (args .d)
 wanted c = c .marks-length .ensures ∙ marks-length-is _ _ (c .before .pre)
@@ -37,7 +38,7 @@ returns c = sym (first-here Length _ (ap not (ne-eqb _ _ (rw (wanted (c .before)
 passed-1 : (c : tie.Else1) → first (rows 0 (c .before .before)) ≡ first (rows 1 (c .before .before))
 passed-1 c = first-next Length _ (ap not (eq-eqb _ _ (exact c)))
 
--- ---- the components, the marks, and the components' places in the marks
+-- ---- The components, the marks, and the components' places in the marks
 
 returns-2 : tie.Need-returns-2
 returns-2 c = sym (passed-1 (c .before .before) ∙ first-here Component _ (told (c .before .are-components .ensures) (c .if2 .taken)))

@@ -18,7 +18,7 @@ use Rattle.approximation.specs.VectorCauses.{rowCauses}
 use Rattle.approximation.proofs.check_rows.Statement.{statement}
 use Rattle.approximation.proofs.check_rows.Tie as tie
 
--- the test of the lengths, its row, and all rows that stand behind the shape's
+-- The row of the lengths stands last of the rows behind the shape's.
 abbrev other : tie.Start → Bool
 other c = not (eqb (c .args .vectors) (c .args .n * c .args .d) && eqb (c .args .regions) (c .args .n * c .args .d))
 

@@ -14,7 +14,7 @@ use Rattle.codes.proofs.Answers.{refused-before, refused-behind, accepted-both}
 use Rattle.approximation.proofs.pack_vectors.Statement.{statement}
 use Rattle.approximation.proofs.pack_vectors.Tie as tie
 
--- the rows that are tested first, and those behind them
+-- Some rows are tested first, and others behind them.
 abbrev front : tie.Start → List Row
 front c = sizeCauses (c .args .d) (c .args .b) (c .args .n) (length (c .args .vectors .now)) (length (c .args .codes .now))
 
@@ -24,7 +24,7 @@ behind c = locateCauses (c .args .d) (c .args .b) (c .args .vectors .now) (c .ar
 abbrev bytes : tie.Start → List ℕ
 bytes c = vectorCodes (c .args .d) (c .args .b) (c .args .n) (c .args .marks .now) (c .args .vectors .now)
 
--- they do not refuse
+-- The rows that are tested first do not refuse.
 right : (c : tie.After-enum-told) → first (front (c .before .before .before .before)) ≡ Accepted
 right c = sym (c .before .before .check-sizes .ensures) ∙ c .enum-told .given .1
 

@@ -27,7 +27,7 @@ module _ (d b n : ℕ) (vectors marks : List ℤ) (room : ℕ) (sized : first (s
       let fit : regionsFit d b 0 regions ≡ true = rw are (regions-fit d b marks vectors (given .inside)) in
       rw fit
 
-  -- region numbers that are the vectors' can be packed, and make their codes
+  -- Region numbers that are the vectors' can be packed, and make their codes.
   packs : first (packCauses d b n regions room) ≡ Accepted
   packs =
       let as-many : length regions ≡ length vectors = ap length are ∙ length-regions d b marks 0 vectors in
@@ -39,7 +39,7 @@ module _ (d b n : ℕ) (vectors marks : List ℤ) (room : ℕ) (sized : first (s
   codes-are : (codes before : List ℕ) → codes ≡ outcome (first (packCauses d b n regions room)) (packed d b n regions) (λ _. before) → codes ≡ vectorCodes d b n marks vectors
   codes-are codes before is = is ∙ outcome-accepted _ _ packs ∙ ap (packed d b n) are
 
--- there is room for all region numbers
+-- There is room for all region numbers.
 room : (c : tie.Start) → length (c .args .vectors .now) ≤ maxVectors * maxDimensions
 room c =
     let args = c .args in

@@ -15,7 +15,7 @@ use Rattle.codes.proofs.Answers.{refused-before, refused-behind, accepted-both}
 use Rattle.approximation.proofs.regions.Statement.{statement}
 use Rattle.approximation.proofs.regions.Tie as tie
 
--- the rows that are tested first, and those behind them
+-- Some rows are tested first, and others behind them.
 abbrev front : tie.Start → List Row
 front c = rowCauses (c .args .d) (c .args .b) (c .args .n) (length (c .args .vectors .now)) (length (c .args .regions .now))
 
@@ -25,7 +25,7 @@ behind c = locateCauses (c .args .d) (c .args .b) (c .args .vectors .now) (c .ar
 abbrev numbers : tie.Start → List ℕ
 numbers c = vectorRegions (c .args .d) (c .args .b) (c .args .marks .now) (c .args .vectors .now)
 
--- they do not refuse
+-- The rows that are tested first do not refuse.
 right : (c : tie.After-enum-told) → first (front (c .before .before .before .before)) ≡ Accepted
 right c = sym (c .before .before .check-rows .ensures) ∙ c .enum-told .given .1
 

@@ -9,7 +9,7 @@ use Rattle.layout.specs.Stretch.{marks-length-is}
 use Rattle.partition.proofs.check_shaped.Statement.{statement}
 use Rattle.partition.proofs.check_shaped.Tie as tie
 
--- the length that is wanted
+-- The length that is wanted is that of all dimensions' marks.
 wanted : (c : tie.After-marks-length) → c .marks-length .result ≡ firstMarks (c .before .args .d) (c .before .args .b) (c .before .args .d)
 wanted c = c .marks-length .ensures ∙ marks-length-is _ _ (c .before .pre)
 

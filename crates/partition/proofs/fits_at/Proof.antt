@@ -13,7 +13,7 @@ use Rattle.partition.proofs.Power.{shifted}
 use Rattle.partition.proofs.fits_at.Statement.{statement}
 use Rattle.partition.proofs.fits_at.Tie as tie
 
--- the number of marks, as the code works it out
+-- The code's shift gives the number of regions.
 power : (c : tie.Else1) → 1 * 2 ^ c .before .args .bits % 2 ^ 64 ≡ 2 ^ c .before .args .bits
 power c = shifted (c .before .args .bits) (c .if1 .left)
 
@@ -22,7 +22,7 @@ add-count c =
     let most : 2 ^ c .before .args .bits ≤ 2 ^ maxDimensionBits = pow-mono (c .if1 .left) in
     omega (arith, power c)
 
--- what is left of the buffer behind the marks
+-- The marks fit from an offset on if they fit behind it.
 fits : (size offset w : ℕ) → w ≤ maxDimensionBits → 2 ^ w + 1 ≤ size → leb offset (size - (2 ^ w + 1)) ≡ fitsAt size offset w
 fits size offset w few room = rw (le-leb w maxDimensionBits few) (go (leb offset (size - (2 ^ w + 1))) refl)
   where

@@ -1,17 +1,15 @@
 -- `good_marks` meets its contract: the dimensions passed are good. Assumes nothing.
 use mathlib.Core.Path.{_≡_, refl, sym, ap, _∙_}
 use mathlib.Core.Bool.{true}
-use mathlib.Core.List.{List}
-use Prim.Native.Nat.{ℕ, suc, _-_, _≤_, zero-le}
+use Prim.Native.Nat.{suc, _-_, _≤_, zero-le}
 use native.Mathlib.Numerals.{add-one}
 use native.Mathlib.Omega.{arith}
 use borrow.Author.Needs.{needs}
 use borrow.Author.Tests.{not-true, not-false}
-use lib.IntN.{ℤ}
-use Rattle.limits.specs.Tests.{All, all-next, all-fails}
+use Rattle.limits.specs.Tests.{all-next, all-fails}
 use Rattle.layout.specs.Stretch.{dimension-accepted}
 use Rattle.region.specs.Dimension.{goodDimension}
-use Rattle.partition.specs.Marks.{dimensionMarks, goodFirst}
+use Rattle.partition.specs.Marks.{dimensionMarks, goodFirst, good-all}
 use Rattle.partition.proofs.good_marks.Statement.{statement}
 use Rattle.partition.proofs.good_marks.Tie as tie
 
@@ -21,16 +19,12 @@ Inv-loop d b marks j₀ j = (j ≤ d) × (goodFirst d b marks j ≡ true)
 abbrev μ-loop : tie.MeasureT-loop
 μ-loop d b marks j₀ j = d - j
 
-first-good : (d b : ℕ) (marks : List ℤ) → All (goodFirst d b marks) (λ j. goodDimension (dimensionMarks d b marks (suc j)))
-unfolding goodFirst
-first-good d b marks = record { next = λ j. refl }
-
 part-requires : tie.Need-part-requires Inv-loop μ-loop
 part-requires c κs =
     let start = c .before .before in
     (dimension-accepted (start .args .d) (start .args .b) (c .before .loop .j) (start .pre .0) (c .loop-test .taken), start .pre .1)
 
--- what the dimension's test gave
+-- The code's test of a dimension is that of its part of the marks.
 tested : (c : tie.After-good-dimension Inv-loop μ-loop)
     → c .good-dimension .result
     ≡ goodDimension (dimensionMarks (c .before .before .before .before .args .d) (c .before .before .before .before .args .b) (c .before .before .before .before .args .marks .now) (suc (c .before .before .before .loop .j)))
@@ -42,14 +36,14 @@ tested c =
 returns : tie.Need-returns Inv-loop μ-loop
 returns c =
     let args = c .before .before .before .before .before .args in
-    sym (all-fails (first-good (args .d) (args .b) (args .marks .now)) (args .d) (c .before .before .before .before .loop .j) (c .before .before .before .loop-test .taken)
+    sym (all-fails (good-all (args .d) (args .b) (args .marks .now)) (args .d) (c .before .before .before .before .loop .j) (c .before .before .before .loop-test .taken)
     (sym (tested (c .before)) ∙ not-true (c .before .good-dimension .result) (c .if1 .taken)))
 
 loop-again : tie.Need-loop-again Inv-loop μ-loop
 loop-again c =
     let args = c .before .before .before .before .before .args in
     let j = c .before .before .before .before .loop .j in
-    (omega arith, rw (add-one j) (all-next (first-good (args .d) (args .b) (args .marks .now)) j (c .before .before .before .before .loop .inv .1) ∙ sym (tested (c .before)) ∙ not-false (c .before .good-dimension .result) (c .if1 .left)))
+    (omega arith, rw (add-one j) (all-next (good-all (args .d) (args .b) (args .marks .now)) j (c .before .before .before .before .loop .inv .1) ∙ sym (tested (c .before)) ∙ not-false (c .before .good-dimension .result) (c .if1 .left)))
 
 returns-2 : tie.Need-returns-2 Inv-loop μ-loop
 returns-2 c =

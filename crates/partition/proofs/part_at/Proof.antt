@@ -15,7 +15,7 @@ use Rattle.partition.proofs.Power.{shifted}
 use Rattle.partition.proofs.part_at.Statement.{statement}
 use Rattle.partition.proofs.part_at.Tie as tie
 
--- what holds where the marks fit
+-- Marks that fit have few bits, lie in the buffer, and their number is the code's.
 record Fits (size offset w : ℕ) : Type 0 where
   few : w ≤ maxDimensionBits
   within : offset + (2 ^ w + 1) ≤ size
@@ -32,7 +32,7 @@ fitted c =
     let args = c .before .before .args in
     fits (length (args .marks .now)) (args .offset) (args .bits) (sym (c .before .fits-at .ensures) ∙ not-false (c .before .fits-at .result) (c .if1 .left))
 
--- the part, by where it ends
+-- The part up to the code's end is the part of so many marks.
 cut : (marks : List ℤ) (offset w : ℕ) → Fits (length marks) offset w → take (offset + 1 * 2 ^ w % 2 ^ 64 + 1 - offset) (drop offset marks) ≡ marksAt marks offset w
 cut marks offset w is =
     let count : offset + 2 ^ w + 1 - offset ≡ 2 ^ w + 1 = omega arith in

@@ -20,7 +20,7 @@ Inv-loop marks i₀ i = (i ≤ length marks) × (goodDimension (drop i marks) �
 abbrev μ-loop : tie.MeasureT-loop
 μ-loop marks i₀ i = length marks - i
 
--- the test of mark i decides, or leaves it to the marks behind it
+-- The test of mark i decides, or leaves the decision to the marks behind it.
 good-from : (marks : List ℤ) (i : ℕ) (t : Bool) → i < length marks
     → t ≡ isMark (getD marks i (pos 0)) && notAbove (getD marks i (pos 0)) (drop (suc i) marks)
     → goodDimension (drop i marks) ≡ t && goodDimension (drop (suc i) marks)

@@ -15,7 +15,7 @@ Inv-loop regions bits₀ power₀ bits power = (power ≡ 2 ^ bits) × (isPower 
 abbrev μ-loop : tie.MeasureT-loop
 μ-loop regions bits₀ power₀ bits power = bits
 
--- of the powers up to a given one, that one, or one up to the next less
+-- A power up to a given one is that one, or it is up to the next less.
 module _ (n : ℕ) where
   power-here : (bits : ℕ) → 0 < bits → n ≡ 2 ^ bits → isPower bits n ≡ true
   unfolding isPower

@@ -16,11 +16,11 @@ use Rattle.region.specs.declared.Lookup.the-variants.{Region}
 use Rattle.region.specs.Dimension.{goodDimension}
 use Rattle.region.specs.Region.{inMarks}
 use Rattle.region.specs.RegionCount.{isRegionCount, power-of}
-use Rattle.region.specs.Located.{located-is}
+use Rattle.region.specs.Halving.{halved-is}
 use Rattle.region.proofs.region.Statement.{statement}
 use Rattle.region.proofs.region.Tie as tie
 
--- what each test says where it lets the call go on
+-- Each test that lets the call go on says that its cause does not hold.
 counted : (c : tie.Else1) → isRegionCount (c .before .before .args .regions) ≡ true
 counted c = sym (c .before .is-region-count .ensures) ∙ not-false (c .before .is-region-count .result) (c .if1 .left)
 
@@ -73,7 +73,8 @@ returns-5 c =
     let start = rest .before .before .before in
     let lies-inside = sym (inside test) ∙ not-false (test .in-marks .result) (c .before .if4 .left) in
     let located = rw (toZ-ofZ w32 (start .args .v) (start .fits .v)) at (c .locate .ensures) in
-    rw (counted (rest .before), exact rest, good (test .before), lies-inside) (ap Region (located-is (good (test .before)) lies-inside located))
+    let is-region = located ∙ halved-is (start .args .marks .now) (start .args .v) (good (test .before)) lies-inside in
+    rw (counted (rest .before), exact rest, good (test .before), lies-inside) (ap Region is-region)
 
 pub region-spec : {M : Type 1} → statement M
 region-spec =

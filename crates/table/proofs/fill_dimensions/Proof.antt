@@ -66,11 +66,11 @@ loop-again c =
     let end = stretch .offset + 1 * 2 ^ stretch .bits % 2 ^ 64 + 1 in
     let ys = filled .fill-steps .last .1 .1 .1 .0 in
     let accepted = dimension-accepted (args .d) (args .b) (at .loop .t) (start .pre .0) (known .before .loop-test .taken) in
-    let own = rw (add-one (at .loop .t)) at (seen .marks-at .ensures ∙ stretch-marks (args .d) (args .b) (at .loop .t + 1) (args .marks .now) accepted (start .pre .1) (known .stretch-of .ensures)) in
+    let own = rw (add-one (at .loop .t)) at (seen .part-at .ensures ∙ stretch-marks (args .d) (args .b) (at .loop .t + 1) (args .marks .now) accepted (start .pre .1) (known .stretch-of .ensures)) in
     let component = read-back (record { sfits = read .at .ok }) (read .at .ensures) in (
       omega arith,
       same-len-mid (stretch .offset) (end - stretch .offset) (at .loop .table) ys (filled .fill-steps .kept .1 .1 .1 .0) ∙ at .loop .inv .1,
-      rw (add-one (at .loop .t)) (next-entries (stepOf (args .bound)) (args .d) (args .b) (args .marks .now) (args .query .now) (at .loop .t) (stretch .offset) end (seen .marks-at .result .now) (at .loop .table) ys (here .start) (here .end) (omega (arith, here .within, start .pre .1, start .pre .2, at .loop .inv .1)) own (rw component at (filled .fill-steps .ensures)) (at .loop .inv .2)),
+      rw (add-one (at .loop .t)) (next-entries (stepOf (args .bound)) (args .d) (args .b) (args .marks .now) (args .query .now) (at .loop .t) (stretch .offset) end (seen .part-at .result .now) (at .loop .table) ys (here .start) (here .end) (omega (arith, here .within, start .pre .1, start .pre .2, at .loop .inv .1)) own (rw component at (filled .fill-steps .ensures)) (at .loop .inv .2)),
     )
 
 returns : tie.Need-returns Inv-loop μ-loop

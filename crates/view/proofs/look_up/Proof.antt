@@ -66,7 +66,7 @@ abbrev stayed : Stays (look-up.ended .signature .params) (look-up.ended .kept)
 stayed = (stay-none (λ _. usize) yes, (stay-none (λ _. usize) yes, (stay-none-slice (0 ∷ []) tt (plain (λ _. i32)) yes, (stay-none (λ _. usize) yes, (stay-none (λ _. i32) yes, tt)))))
 
 module _ {M : Type 1} (𝓤 : URA M) (H : Heap 𝓤) (A : Atoms 𝓤) (mem : Memory → SProp 𝓤) (run : Routine → Fun 𝓤) where
-  -- the second contract that the proof cites
+  -- The second contract that the proof cites is that of `region_in`.
   abbrev RegionIn : Contract 𝓤
   RegionIn = tripleOf 𝓤 H A region-in.signature (region-in.spec 𝓤 H A mem run)
 
@@ -74,7 +74,7 @@ module _ {M : Type 1} (𝓤 : URA M) (H : Heap 𝓤) (A : Atoms 𝓤) (W : Given
   abbrev z : Val
   z = vint w32 (ofZ w32 value)
 
-  -- the struct's type as a local of a body has it
+  -- A local of a body has the struct's type at `erased`.
   abbrev αᵉ : NamedLft
   αᵉ = record { mir = erased; lft = κ }
 
@@ -84,7 +84,7 @@ module _ {M : Type 1} (𝓤 : URA M) (H : Heap 𝓤) (A : Atoms 𝓤) (W : Given
   abbrev Post : Val → SProp 𝓤
   Post = walkOf 𝓤 H A look-up.ended stayed (look-up.clauses 𝓤 H A mem run) .post (((κ, tt), (q, tt), tt, args κ (i32 ∷ []) x (value, tt), vals κ (i32 ∷ []) x (z ∷ [], tt)), tt)
 
-  -- the call of `region_in`, at the view r with the machine value u
+  -- The call of `region_in` is passed the view r with the machine value u.
   abbrev to-region : View → Val → RegionIn 𝓤 H A mem run .Ghost
   to-region r u = (((κ, tt), (q, tt), tt, (r, (value, tt)), (u ∷ [], (z ∷ [], tt))), tt)
 

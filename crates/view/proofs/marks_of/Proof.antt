@@ -41,7 +41,7 @@ use Rattle.view.proofs.marks_of as marks-of
 use Rattle.view.proofs.marks_of.Statement as stated
 use Rattle.view.proofs.marks_of.Code as code
 
--- the struct's type, over the signature's lifetimes
+-- The struct's type is over the signature's lifetimes.
 abbrev B : Lfts 1 → RattleType
 B κs = T.the-row (namedLft 1 0 tt κs)
 
@@ -52,7 +52,7 @@ module _ {M : Type 1} (𝓤 : URA M) (H : Heap 𝓤) (A : Atoms 𝓤) (W : Given
   abbrev mach : Val
   mach = T′.lowered view
 
-  -- the machine value of the marks
+  -- The marks have this machine value.
   abbrev v : Val
   v = sliceVal (view .marks .ptr) (length (view .marks .now))
 
@@ -62,7 +62,7 @@ module _ {M : Type 1} (𝓤 : URA M) (H : Heap 𝓤) (A : Atoms 𝓤) (W : Given
   abbrev Own : Fml
   Own = B (κ, tt) .own view (mach ∷ [])
 
-  -- the struct's type and laws, and the view's fields' values
+  -- The walk uses the struct's type and laws, and the values of the view's fields.
   abbrev D : Declared
   D = T.the-type (namedLft 1 0 tt (κ, tt))
 

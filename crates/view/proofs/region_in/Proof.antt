@@ -62,7 +62,7 @@ use Rattle.view.proofs.region_in as region-in
 use Rattle.view.proofs.region_in.Statement as stated
 use Rattle.view.proofs.region_in.Code as code
 
--- the struct's type, over the signature's lifetimes
+-- The struct's type is over the signature's lifetimes.
 abbrev B : Lfts 1 → RattleType
 B κs = T.the-row (namedLft 1 0 tt κs)
 
@@ -70,7 +70,7 @@ abbrev stayed : Stays (region-in.ended .signature .params) (region-in.ended .kep
 stayed = (stay-none B yes, (stay-none (λ _. i32) yes, tt))
 
 module _ {M : Type 1} (𝓤 : URA M) (H : Heap 𝓤) (A : Atoms 𝓤) (mem : Memory → SProp 𝓤) (run : Routine → Fun 𝓤) where
-  -- the contract that the proof cites
+  -- The proof cites the contract of `region`.
   abbrev Region : Contract 𝓤
   Region = tripleOf 𝓤 H A region.signature (region.spec 𝓤 H A mem run)
 
@@ -78,7 +78,7 @@ module _ {M : Type 1} (𝓤 : URA M) (H : Heap 𝓤) (A : Atoms 𝓤) (W : Given
   abbrev mach : Val
   mach = T′.lowered view
 
-  -- the machine values of the marks and of the value
+  -- The marks and the value have these machine values.
   abbrev v : Val
   v = sliceVal (view .marks .ptr) (length (view .marks .now))
 
@@ -97,7 +97,7 @@ module _ {M : Type 1} (𝓤 : URA M) (H : Heap 𝓤) (A : Atoms 𝓤) (W : Given
   abbrev Own : Fml
   Own = B (κ, tt) .own view (mach ∷ [])
 
-  -- the struct's type and laws, and the view's fields' values
+  -- The walk uses the struct's type and laws, and the values of the view's fields.
   abbrev D : Declared
   D = T.the-type (namedLft 1 0 tt (κ, tt))
 
@@ -107,7 +107,7 @@ module _ {M : Type 1} (𝓤 : URA M) (H : Heap 𝓤) (A : Atoms 𝓤) (W : Given
   abbrev values : Values (D .parts)
   values = (view .marks, (view .regions, tt))
 
-  -- what the callee is passed
+  -- The callee is passed the view's marks, its number of regions and the value.
   abbrev passed : Vals region.signature (κ, tt)
   passed = (v ∷ [], (vint w64 (view .regions) ∷ [], (z ∷ [], tt)))
 
@@ -117,7 +117,7 @@ module _ {M : Type 1} (𝓤 : URA M) (H : Heap 𝓤) (A : Atoms 𝓤) (W : Given
   asked : ent 𝓤 (onEntry 𝓤 H A region.signature (κ, tt) (q, tt) (view .marks, (view .regions, (value, tt))) passed) (Region 𝓤 H A mem run .pre to)
   asked = qed W ((‵ (flft κ q) ⊛ ‵ ftrue) ∷ ‵ (owns (ShrSlice (named 0) κ i32 ∷ usize ∷ i32 ∷ []) (view .marks, (view .regions, (value, tt))) passed) ∷ []) ∵ join ! $ frame ! $ done !
 
-  -- what the view owns gives what the callee asks, and is kept
+  -- What the view owns gives what the callee asks, and is kept.
   apart : view .regions < 2 ^ 64 → ent 𝓤 (onEntry 𝓤 H A region-in.signature (κ, tt) (q, tt) (view, (value, tt)) at) (sep 𝓤 (Region 𝓤 H A mem run .pre to) (sem 𝓤 H A Own))
   apart fits =
       qed W ((‵ (flft κ q) ⊛ ‵ ftrue) ∷ ‵ (owns (B (κ, tt) ∷ i32 ∷ []) (view, (value, tt)) at) ∷ []) ∵
@@ -128,7 +128,7 @@ module _ {M : Type 1} (𝓤 : URA M) (H : Heap 𝓤) (A : Atoms 𝓤) (W : Given
       owned ! usize (Is usize) (uint-makes 𝓤 H A W w64) (view .regions) _ (refl, fits) $ fjoin ! $ move ! (1 ∷ 0 ∷ []) $ fjoin ! $
       move ! (2 ∷ 0 ∷ []) $ use2 W (raw (Region 𝓤 H A mem run .pre to)) asked $ frame ! $ done !)
 
-  -- of the callee's `ensured`, the clause alone: it has no `&mut`, so what is said of last values is dropped
+  -- Of the callee's `ensured` the clause alone is wanted: it has no `&mut`, so what is said of last values is dropped.
   said : (r : Lookup) → ent 𝓤 (ensured 𝓤 H A region.ended (region.clauses 𝓤 H A mem run) (κ, tt) (view .marks, (view .regions, (value, tt))) tt r) (fact 𝓤 (r ≡ found))
   said r = exE 𝓤 _ (λ ws. snd∗ 𝓤 (sem 𝓤 H A (lasts region.ended (κ, tt) (view .marks, (view .regions, (value, tt))) ws)) (fact 𝓤 (r ≡ found)))
 

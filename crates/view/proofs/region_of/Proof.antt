@@ -40,14 +40,14 @@ module _ (d b : ℕ) (marks : List ℤ) (j : ℕ) (v : ℤ) where
   abbrev seen : Lookup
   seen = lookedUp (seenMarks d b marks j) (seenRegions d b marks j) v
 
-  -- the answer at a verdict of the value alone
+  -- A verdict of the value alone gives this answer.
   abbrev told : Verdict → Lookup
   told verdict = outcome verdict (answer.Region (regionOf part v)) answer.Refused
 
   abbrev value : Verdict
   value = first ((not (inMarks part v) ⇒ Outside) ∷ [])
 
-  -- in a part that is handed back, only the value is left to refuse
+  -- In a part that is handed back, only the value is left to refuse.
   alone : first (partCauses d b marks j) ≡ Accepted → first (regionCauses part (regionCount d b j) v) ≡ value
   alone accepted =
       let is = part-is d b marks j accepted in
@@ -56,7 +56,7 @@ module _ (d b : ℕ) (marks : List ℤ) (j : ℕ) (v : ℤ) where
   seen-accepted : first (partCauses d b marks j) ≡ Accepted → seen ≡ told value
   seen-accepted accepted = rw (accepted, alone accepted)
 
-  -- a view that was refused has no regions
+  -- A view that was refused has no regions, so a lookup in it refuses.
   seen-refused : {cause : Refusal} → first (partCauses d b marks j) ≡ Refused cause → seen ≡ answer.Refused Bits
   seen-refused refused = rw refused (ap (λ (w : Verdict). outcome w (answer.Region (regionOf [] v)) answer.Refused) (first-here Bits _ no-regions))
 
@@ -66,7 +66,7 @@ module _ (d b : ℕ) (marks : List ℤ) (j : ℕ) (v : ℤ) where
   told-refused : {cause : Refusal} → first (partCauses d b marks j) ≡ Refused cause → told (first (valueCauses d b marks j v)) ≡ answer.Refused cause
   told-refused refused = rw (first-append (partCauses d b marks j) ((not (inMarks part v) ⇒ Outside) ∷ []), refused)
 
-  -- what the lookup finds is the region
+  -- What the lookup finds is the region.
   found : {number : ℕ} → seen ≡ answer.Region number → answer.Region number ≡ told (first (valueCauses d b marks j v))
   found {number} is = go (first (partCauses d b marks j)) refl
     where
@@ -77,7 +77,7 @@ module _ (d b : ℕ) (marks : List ℤ) (j : ℕ) (v : ℤ) where
           let impossible : _≡_ {A = ℕ} 0 1 = cc in
           absurd (omega arith)
 
-  -- where it finds none in a part that is handed back, the value lies outside
+  -- Where the lookup finds no region in a part that is handed back, the value lies outside.
   outside : {cause : Refusal} → seen ≡ answer.Refused cause → first (partCauses d b marks j) ≡ Accepted → answer.Refused Outside ≡ told (first (valueCauses d b marks j v))
   outside {cause} is accepted = go (inMarks part v) refl ∙ sym (told-accepted accepted)
     where

@@ -29,7 +29,7 @@ use denote.Plain.{uint-makes, uint-lawful}
 use denote.Builtin.{i32, usize}
 use denote.Ref.{RefT, NamedLft, now}
 use denote.Signature.{namedLft}
-use denote.Slice.{sliceTy, shr-slice-lawful}
+use denote.Slice.{sliceTy, shr-slice-copy, shr-slice-lawful}
 use denote.Steps.{only, owned, peeks, heard, nothing}
 use denote.Struct.Rest.{own-shut}
 use denote.Triple.Statement.{Contract, Triple}
@@ -50,7 +50,7 @@ use Rattle.partition.proofs.regions_between.Symbol.{name as #partition·regions
 use Rattle.partition.proofs.regions_between.Met as count-thm
 use Rattle.view.specs.View.{seenRegions, regions-between}
 use Rattle.view.specs.declared.View.{View}
-use Rattle.view.proofs.Viewed.{Asked, Slice, lent, Own, typesOf, args, vals, own-passed, stayed, dimension-meets, passes-on, Count, to-count, goes-count, count-said}
+use Rattle.view.proofs.Viewed.{Asked, Slice, lent, Own, typesOf, args, vals, own-passed, stayed, dimension-meets, passes-on}
 use Rattle.view.proofs.View as T
 use Rattle.view.proofs.View.Laws as T′
 use Rattle.view.proofs.view_of.Key.{name as #view·view-of}
@@ -58,16 +58,32 @@ use Rattle.view.proofs.view_of as view-of
 use Rattle.view.proofs.view_of.Statement as stated
 use Rattle.view.proofs.view_of.Code as code
 
+-- The first contract that the proof cites is that of `checked_part`.
 module _ {M : Type 1} (𝓤 : URA M) (H : Heap 𝓤) (A : Atoms 𝓤) (mem : Memory → SProp 𝓤) (run : Routine → Fun 𝓤) where
-  -- the first contract that the proof cites
   abbrev Part : Contract 𝓤
   Part = tripleOf 𝓤 H A part.signature (part.spec 𝓤 H A mem run)
+
+-- A call of `regions_between` at a part p is passed this, asks for this, and leaves this known of its result.
+module _ {M : Type 1} (𝓤 : URA M) (H : Heap 𝓤) (A : Atoms 𝓤) (mem : Memory → SProp 𝓤) (run : Routine → Fun 𝓤) where
+  abbrev Count : Contract 𝓤
+  Count = tripleOf 𝓤 H A count.signature (count.spec 𝓤 H A mem run)
+
+  abbrev to-count : Lft → Share → RefT (List ℤ) → Count .Ghost
+  to-count κ q p = (((κ, tt), (q, tt), tt, (p, tt), (lent p ∷ [], tt)), tt)
+
+  goes-count : Given 𝓤 H A → (κ : Lft) (q : Share) (p : RefT (List ℤ)) → ent 𝓤 (⋆ 𝓤 H A (‵ (Own κ p) ∷ (‵ (flft κ q) ⊛ ‵ ftrue) ∷ [])) (sep 𝓤 (Count .pre (to-count κ q p)) (sem 𝓤 H A (Own κ p)))
+  goes-count W κ q p =
+      qed W (‵ (Own κ p) ∷ (‵ (flft κ q) ⊛ ‵ ftrue) ∷ []) ∵ use1 W (‵ (Own κ p) ⊛ ‵ (Own κ p)) (shr-slice-copy 𝓤 H A W (named 0) κ i32 .twice p (lent p ∷ [])) $ split ! $ nothing ! $ move ! (1 ∷ 0 ∷ []) $ fjoin ! $
+      move ! (2 ∷ 0 ∷ []) $ use2 W (raw (Count .pre (to-count κ q p))) (qed W ((‵ (flft κ q) ⊛ ‵ ftrue) ∷ ‵ (owns (Slice κ ∷ []) (p, tt) (lent p ∷ [], tt)) ∷ []) ∵ join ! $ frame ! $ done !) $ frame ! $ done !
+
+  count-said : (κ : Lft) (p : RefT (List ℤ)) (n : ℕ) → ent 𝓤 (ensured 𝓤 H A count.ended (count.clauses 𝓤 H A mem run) (κ, tt) (p, tt) tt n) (fact 𝓤 (n ≡ length (now p) - 1))
+  count-said κ p n = exE 𝓤 _ (λ ws. snd∗ 𝓤 (sem 𝓤 H A (lasts count.ended (κ, tt) (p, tt) ws)) (fact 𝓤 (n ≡ length (now p) - 1)))
 
 module _ {M : Type 1} (𝓤 : URA M) (H : Heap 𝓤) (A : Atoms 𝓤) (W : Given 𝓤 H A) (mem : Memory → SProp 𝓤) (run : Routine → Fun 𝓤) (κ : Lft) (q : Share) (x : Asked) where
   abbrev α : NamedLft
   α = namedLft 1 0 tt (κ, tt)
 
-  -- the part that is seen
+  -- The view's part is this one.
   abbrev seen : List ℤ
   seen = seenMarks (x .d) (x .b) (now (x .marks)) (x .j)
 
@@ -77,7 +93,7 @@ module _ {M : Type 1} (𝓤 : URA M) (H : Heap 𝓤) (A : Atoms 𝓤) (W : Given
   abbrev made : RefT (List ℤ) → ℕ → View
   made p n = record { marks = p; regions = n }
 
-  -- the call of `checked_part`: what it is passed, what it asks, and what is known of its result
+  -- The call of `checked_part` is passed this, asks for this, and leaves this known of its result.
   abbrev to-part : Part 𝓤 H A mem run .Ghost
   to-part = (((κ, tt), (q, tt), tt, args κ [] x tt, vals κ [] x tt), tt)
 
