@@ -66,7 +66,8 @@ bounded d b n query marks codes lowers uppers accepted =
     let query-first = and-eq-true-iff (eqb (length query) d) _ .0 (exact .0) in
     let others = and-eq-true-iff (eqb (length marks) (firstMarks d b d)) (eqb (length codes) (codeLength b n)) .0 (query-first .1) in
     let both = and-eq-true-iff (eqb lowers n) (eqb uppers n) .0 (exact .1) in
-    let codes-good = and-eq-true-iff (noEmptyCodes d b marks codes n) (spareZero b n codes) .0 (not-false (goodCodes d b n marks codes) (named .fails)) in
+    let codes-good =
+    and-eq-true-iff (noEmptyCodes d b marks codes n) (spareZero b n codes) .0 (not-false (goodCodes d b n marks codes) (named .fails)) in
     record {
       are = record {
         shaped = accepted-front (shapeCauses d b) rows accepted;

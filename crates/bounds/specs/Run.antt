@@ -24,7 +24,13 @@ run-sum : {d b before n w : ℕ} → Run d b before n w → (table codes : List 
 unfolding tableSum runSum
 run-sum {d} {b} {before} run table codes i zero h = rw (add-zero before) (sym (add-zero (tableSum d b table codes i before)))
 run-sum {before = before} run table codes i (suc t) h =
-    rw (add-suc before t, run-sum run table codes i t (omega arith), run-marks run t (omega arith), run-region run codes i t h) (omega arith)
+    rw (
+      add-suc before t,
+      run-sum run table codes i t (omega arith),
+      run-marks run t (omega arith),
+      run-region run codes i t h,
+    )
+    (omega arith)
 
 -- the two runs of a code
 pub two-runs : (d b : ℕ) → b / d ≤ 6 → b % d ≤ d → (table codes : List ℕ) (i : ℕ)

@@ -46,7 +46,8 @@ summable d b table codes n accepted =
     )
 
 -- nothing refuses where the bounds are asked for with what they take
-pub sums-accepted : {d b n : ℕ} {query marks : List ℤ} {codes : List ℕ} → Bounding d b n query marks codes → (table : ℕ) → table ≡ length marks
+pub sums-accepted : {d b n : ℕ} {query marks : List ℤ} {codes : List ℕ} → Bounding d b n query marks codes → (table : ℕ)
+    → table ≡ length marks
     → first (sumCauses d b table codes n) ≡ Accepted
 unfolding first
 sums-accepted {d} {b} {n} {codes = codes} is table same =

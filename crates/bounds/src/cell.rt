@@ -145,7 +145,8 @@ fn fill_bounds(
 
 // The query's table, each dimension's entries in their own stretch.
 fn fill_table(bound: Bound, d: usize, b: usize, marks: &[i32], query: &[i32], table: &mut [u64])
-    requires { ⌜ (first (shapeCauses d b) ≡ Accepted) × (length (now marks) ≡ firstMarks d b d) × (length (now table) ≡ firstMarks d b d) ⌝ }
+    requires { ⌜ (first (shapeCauses d b) ≡ Accepted) × (length (now marks) ≡ firstMarks d b d)
+        × (length (now table) ≡ firstMarks d b d) ⌝ }
     ensures { λ _. ⌜ now (table .exit) ≡ tableOf (stepOf bound) d b (now (marks .entry)) (now (query .entry)) ⌝ }
 {
     let mut t = 0;

@@ -24,7 +24,8 @@ pub fn sum_bounds(d: usize, b: usize, table: &[u64], codes: &[u8], bounds: &mut 
     ensures { λ r. ⌜ r ≡ first (sumCauses d b (length (now (table .entry))) (now (codes .entry)) (length (now (bounds .entry)))) ⌝ }
     ensures { λ _. ⌜ now (bounds .exit)
         ≡ outcome (first (sumCauses d b (length (now (table .entry))) (now (codes .entry)) (length (now (bounds .entry)))))
-        (valuesFrom (boundSum d b (now (table .entry)) (now (codes .entry))) 0 (length (now (bounds .entry)))) (λ _. now (bounds .entry)) ⌝ }
+        (valuesFrom (boundSum d b (now (table .entry)) (now (codes .entry))) 0 (length (now (bounds .entry))))
+        (λ _. now (bounds .entry)) ⌝ }
 {
     let verdict = check_sums(d, b, table.len(), codes, bounds.len());
     match verdict {
@@ -66,7 +67,8 @@ fn check_counted(d: usize, b: usize, table: usize, codes: &[u8], n: usize) -> Ve
 pub(crate) fn sum_all(d: usize, b: usize, table: &[u64], codes: &[u8], bounds: &mut [u64])
     requires { ⌜ (first (shapeCauses d b) ≡ Accepted) × (length (now table) ≡ firstMarks d b d) × (length (now bounds) ≤ maxVectors)
         × (length (now bounds) * b ≤ length (now codes) * 8) ⌝ }
-    ensures { λ _. ⌜ now (bounds .exit) ≡ valuesFrom (boundSum d b (now (table .entry)) (now (codes .entry))) 0 (length (now (bounds .entry))) ⌝ }
+    ensures { λ _. ⌜ now (bounds .exit)
+        ≡ valuesFrom (boundSum d b (now (table .entry)) (now (codes .entry))) 0 (length (now (bounds .entry))) ⌝ }
 {
     let mut i = 0;
     while i < bounds.len() {
@@ -102,7 +104,8 @@ fn sum_run(
     first_start: usize,
     count: usize,
 ) -> u64
-    requires { ⌜ (w ≤ 7) × («first_bit» + count * w ≤ length (now codes) * 8) × («first_start» + count * (2 ^ w + 1) ≤ length (now table)) ⌝ }
+    requires { ⌜ (w ≤ 7) × («first_bit» + count * w ≤ length (now codes) * 8)
+        × («first_start» + count * (2 ^ w + 1) ≤ length (now table)) ⌝ }
     ensures { λ r. ⌜ r ≡ runSum (now (table .entry)) (now (codes .entry)) w «first_bit» «first_start» count % 2 ^ 64 ⌝ }
 {
     if count == 0 {

@@ -1,4 +1,5 @@
--- A code's dimensions in two runs, those with one bit more and the others: what the numbers of a loop over them stay below. Assumes nothing.
+-- A code's dimensions in two runs, those with one bit more and the others: what the numbers of a loop over them stay below. Assumes
+-- nothing.
 use mathlib.Core.Path.{_≡_}
 use Prim.Native.Nat.{ℕ, _+_, _*_, _/_, _%_, _^_, _≤_, _<_}
 use native.Mathlib.Nat.{mod-lt, mul-le-mul}

@@ -53,7 +53,8 @@ module _ (d b : ℕ) (codes : List ℕ) (i : ℕ) where
 
   -- of the dimensions of a run, from its dimension k + 1 on
   run-places : {before n w : ℕ} → Run d b before n w → (k m : ℕ) → k + m ≤ n
-      → runPlaces codes w (i * b + firstBits d b before + k * w) (firstMarks d b before + k * (2 ^ w + 1)) m ≡ placesFrom d b codes i (before + k) m
+      → runPlaces codes w (i * b + firstBits d b before + k * w) (firstMarks d b before + k * (2 ^ w + 1)) m
+      ≡ placesFrom d b codes i (before + k) m
   unfolding runPlaces placesFrom
   run-places run k zero within = refl
   run-places {before} {n} {w} run k (suc m) within =
@@ -77,7 +78,8 @@ module _ (d b : ℕ) (codes : List ℕ) (i : ℕ) where
 -- the dimensions with one bit more, and then the others
 module _ (d b : ℕ) where
   pub two-runs : (codes : List ℕ) (i : ℕ) → b / d ≤ 6 → b % d ≤ d
-      → runPlaces codes (b / d + 1) (i * b) 0 (b % d) ++ runPlaces codes (b / d) (i * b + b % d * (b / d + 1)) (b % d * (2 ^ (b / d + 1) + 1)) (d - b % d)
+      → runPlaces codes (b / d + 1) (i * b) 0 (b % d)
+      ++ runPlaces codes (b / d) (i * b + b % d * (b / d + 1)) (b % d * (2 ^ (b / d + 1) + 1)) (d - b % d)
       ≡ markPlaces d b codes i
   unfolding firstBits firstMarks
   two-runs codes i small within =
@@ -98,5 +100,13 @@ places-small {d} {b} codes i shaped = record { each = λ t. go t (ltb t d) refl 
         let below : t < d = ltb-true t d e in
         let most : (2 ^ 6 + 1) * d ≤ (2 ^ 6 + 1) * 32 = mul-le-mul-left (2 ^ 6 + 1) (shaped .few) in
         rw (place-at d b codes i 0 d t below, zero-add t)
-        (omega (arith, code-region-fits d b codes i t, first-next-marks d b t, marks-within d b d t below, marks-le 6 d b d (shaped .some) (shaped .bits), most))
-    go t false e = rw (List·getD-eq-default (markPlaces d b codes i) 0 {n = t} (rw (length-places d b codes i 0 d) (ltb-false t d e))) (omega arith)
+        (omega (
+          arith,
+          code-region-fits d b codes i t,
+          first-next-marks d b t,
+          marks-within d b d t below,
+          marks-le 6 d b d (shaped .some) (shaped .bits),
+          most,
+        ))
+    go t false e =
+        rw (List·getD-eq-default (markPlaces d b codes i) 0 {n = t} (rw (length-places d b codes i 0 d) (ltb-false t d e))) (omega arith)

@@ -45,7 +45,9 @@ pub sizes : (d b n regions codes : ℕ) → first (sizeCauses d b n regions code
 sizes d b n regions codes accepted =
     let rows = eqb regions (n * d) in
     let bytes = eqb codes (codeLength b n) in
-    let count = passed (not (isVectorCount n)) Count ((not (rows && bytes) ⇒ Length) ∷ []) (accepted-behind (shapeCauses d b) (lengthCauses d b n regions codes) accepted) in
+    let count =
+    passed (not (isVectorCount n)) Count ((not (rows && bytes) ⇒ Length) ∷ [])
+    (accepted-behind (shapeCauses d b) (lengthCauses d b n regions codes) accepted) in
     let lengths = and-eq-true-iff rows bytes .0 (not-false (rows && bytes) (passed (not (rows && bytes)) Length [] (count .rest) .fails)) in
     record {
       shaped = shape d b (accepted-front (shapeCauses d b) (lengthCauses d b n regions codes) accepted);

@@ -105,7 +105,8 @@ fn regions_fit(d: usize, b: usize, regions: &[u8]) -> bool
 
 // Region numbers packed into as many bytes as hold their bits. Fewer than 8 bits wait for the next byte.
 fn put_all(d: usize, b: usize, regions: &[u8], codes: &mut [u8])
-    requires { ⌜ Shape d b × (regionsFit d b 0 (now regions) ≡ true) × (length (now codes) ≡ (length (joined d b 0 (now regions)) + 7) / 8) ⌝ }
+    requires { ⌜ Shape d b × (regionsFit d b 0 (now regions) ≡ true)
+        × (length (now codes) ≡ (length (joined d b 0 (now regions)) + 7) / 8) ⌝ }
     ensures { λ _. ⌜ now (codes .exit) ≡ bytesOf (length (now (codes .entry))) (joined d b 0 (now (regions .entry))) ⌝ }
 {
     let fewest = b / d;

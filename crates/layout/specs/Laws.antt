@@ -3,7 +3,8 @@ use mathlib.Core.Path.{_≡_, refl, ap, _∙_}
 use mathlib.Core.Logic.{inl, inr}
 use mathlib.Core.Bool.{Bool, true, false, cond}
 use Prim.Native.Nat.{ℕ, zero, suc, _+_, _*_, _/_, _%_, _^_, _≤_, _<_, zero-le, min}
-use native.Mathlib.Nat.{suc-mul, zero-mul, one-mul, mul-one, add-zero, div-add-mod', div-le-of-le-mul, lt-of-mul-lt-mul-right, mul-comm, mul-suc, mod-lt, le-trans, le-of-eq, le-add-right, le-of-suc-le-suc, eq-or-lt-of-le}
+use native.Mathlib.Nat.{suc-mul, zero-mul, one-mul, mul-one, add-zero, div-add-mod', div-le-of-le-mul, lt-of-mul-lt-mul-right, mul-comm}
+use native.Mathlib.Nat.{mul-suc, mod-lt, le-trans, le-of-eq, le-add-right, le-of-suc-le-suc, eq-or-lt-of-le}
 use native.Mathlib.Omega.{arith}
 use borrow.Author.Tests.{leb-true, leb-false}
 use lib.Dec.{leb}
@@ -11,7 +12,8 @@ use lib.Pow.{pow-mono, pow-add, shl-exact}
 use Rattle.layout.specs.Layout.{bitsOf, markCount, firstBits, firstMarks}
 
 -- a sum over the first j dimensions in which each has m, and those that have one bit more have h more
-closed : (e m h : ℕ) (sum : ℕ → ℕ) → sum 0 ≡ 0 → ((j : ℕ) → sum (suc j) ≡ sum j + (m + cond (leb (suc j) e) h 0)) → (j : ℕ) → sum j ≡ j * m + min j e * h
+closed : (e m h : ℕ) (sum : ℕ → ℕ) → sum 0 ≡ 0 → ((j : ℕ) → sum (suc j) ≡ sum j + (m + cond (leb (suc j) e) h 0)) → (j : ℕ)
+    → sum j ≡ j * m + min j e * h
 closed e m h sum none more zero =
     let no-min : min 0 e ≡ 0 = omega arith in
     rw (none, zero-mul m, no-min, zero-mul h)

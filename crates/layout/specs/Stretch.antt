@@ -73,7 +73,12 @@ pub numbered : (d b j : ℕ) → first (dimensionCauses d b j) ≡ Accepted → 
 numbered d b j accepted =
     let number = passed (not (leb 1 j && leb j d)) Dimension (shapeCauses d b) accepted in
     let range = between 1 j d (not-false (leb 1 j && leb j d) (number .fails)) in
-    record { before = j - 1; is = omega (arith, range .above); within = omega (arith, range .above, range .below); shaped = shape d b (number .rest) }
+    record {
+      before = j - 1;
+      is = omega (arith, range .above);
+      within = omega (arith, range .above, range .below);
+      shaped = shape d b (number .rest);
+    }
 
 -- a stretch that is handed back: where it stands in the buffer
 pub record Stretches (d b j : ℕ) (s : Stretch) : Type 0 where
@@ -98,14 +103,16 @@ stretches {d} {b} {j} {s} accepted is =
     subst⁻¹ (λ (x : ℕ). firstMarks d b before + (2 ^ bitsOf d b x + 1) ≡ firstMarks d b x) (told .is) (first-next-marks d b before) in
     let few : bitsOf d b j ≤ maxDimensionBits =
     subst⁻¹ (λ (x : ℕ). bitsOf d b x ≤ maxDimensionBits) (told .is) (bits-le maxDimensionBits d b before (shape .some) (shape .bits)) in
-    let inside : firstMarks d b j ≤ firstMarks d b d = subst⁻¹ (λ (x : ℕ). firstMarks d b x ≤ firstMarks d b d) (told .is) (marks-within d b d before (told .within)) in
+    let inside : firstMarks d b j ≤ firstMarks d b d =
+    subst⁻¹ (λ (x : ℕ). firstMarks d b x ≤ firstMarks d b d) (told .is) (marks-within d b d before (told .within)) in
     record {
       offset-is = offset;
       bits-are = bits;
       few-bits = rw bits few;
       end = rw (offset, bits, number) next;
       within = inside;
-      small = le-trans (marks-le maxDimensionBits d b d (shape .some) (shape .bits)) (mul-le-mul-left (2 ^ maxDimensionBits + 1) (shape .few));
+      small = le-trans (marks-le maxDimensionBits d b d (shape .some) (shape .bits))
+          (mul-le-mul-left (2 ^ maxDimensionBits + 1) (shape .few));
     }
 
 pub marks-length-is : (d b : ℕ) → first (shapeCauses d b) ≡ Accepted → marksLength d b ≡ firstMarks d b d

@@ -25,7 +25,8 @@ spare : (c : tie.After-bits-at) → let a = c .before .before .before .before .a
     eqb (c .bits-at .result) 0 ≡ spareZero (a .b) (a .n) (a .codes .now)
 spare c =
     let start = c .before .before .before .before in
-    ap (λ (x : ℕ). eqb x 0) (c .bits-at .ensures) ∙ spare-read (start .args .b) (start .args .n) (start .args .codes .now) (start .pre .bytes)
+    ap (λ (x : ℕ). eqb x 0) (c .bits-at .ensures)
+    ∙ spare-read (start .args .b) (start .args .n) (start .args .codes .now) (start .pre .bytes)
 
 returns : tie.Need-returns
 returns c =
@@ -38,7 +39,11 @@ returns c =
 mul-bits-at : tie.Need-mul-bits-at
 mul-bits-at c =
     let start = c .before .before .before in
-    omega (arith, codes-bits-le {d = start .args .d} {b = start .args .b} (start .args .n) (shape _ _ (start .pre .shaped)) (start .pre .few))
+    omega (
+      arith,
+      codes-bits-le {d = start .args .d} {b = start .args .b} (start .args .n) (shape _ _ (start .pre .shaped))
+          (start .pre .few),
+    )
 
 returns-2 : tie.Need-returns-2
 returns-2 c =

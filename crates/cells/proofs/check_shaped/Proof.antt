@@ -25,7 +25,8 @@ measured : (c : tie.Else2) → let a = c .before .before .before .before .before
     eqb (length (a .marks .now)) (firstMarks (a .d) (a .b) (a .d)) && eqb (length (a .codes .now)) (codeLength (a .b) (a .n)) ≡ true
 measured c = sym (c .before .exact-lengths .ensures) ∙ not-false (c .before .exact-lengths .result) (c .if2 .left)
 
-marks-size : (c : tie.Else2) → let a = c .before .before .before .before .before .args in length (a .marks .now) ≡ firstMarks (a .d) (a .b) (a .d)
+marks-size : (c : tie.Else2) → let a = c .before .before .before .before .before .args in
+    length (a .marks .now) ≡ firstMarks (a .d) (a .b) (a .d)
 marks-size c = eqb-true _ _ (and-eq-true-iff _ _ .0 (measured c) .0)
 
 codes-size : (c : tie.Else2) → let a = c .before .before .before .before .before .args in length (a .codes .now) ≡ codeLength (a .b) (a .n)

@@ -26,7 +26,8 @@ few c = between 1 (c .before .before .args .n) maxVectors (counted c) .below
 rows : (c : tie.Else2) → let a = c .before .before .before .args in eqb (a .regions) (a .n * a .d) ≡ true
 rows c = let a = c .before .before .before .args in eq-eqb (a .regions) (a .n * a .d) (c .if2 .left)
 
-wanted : (c : tie.After-codes-length) → let a = c .before .before .before .before .args in c .codes-length .result ≡ codeLength (a .b) (a .n)
+wanted : (c : tie.After-codes-length) → let a = c .before .before .before .before .args in
+    c .codes-length .result ≡ codeLength (a .b) (a .n)
 wanted c =
     let start = c .before .before .before .before in
     let a = start .args in

@@ -17,7 +17,8 @@ returns c =
     let args = told .before .before .before .args in
     let rows = lengthCauses (args .d) (args .b) (args .n) (args .regions) (args .codes) in
     let behind : first (shapeCauses (args .d) (args .b) ++ rows) ≡ first rows =
-    first-append (shapeCauses (args .d) (args .b)) rows ∙ outcome-accepted _ _ (sym (told .before .before .check-shape .ensures) ∙ told .enum-told .given .1) in
+    first-append (shapeCauses (args .d) (args .b)) rows
+    ∙ outcome-accepted _ _ (sym (told .before .before .check-shape .ensures) ∙ told .enum-told .given .1) in
     rw behind (c .check-lengths .ensures)
 
 returns-2 : tie.Need-returns-2

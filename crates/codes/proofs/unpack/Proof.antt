@@ -46,7 +46,8 @@ sized c =
     sizes (args .d) (args .b) (args .n) (length (args .regions .now)) (length (args .codes .now)) (right c)
 
 -- what the spare bits make is 0 if none is set
-spare : (c : tie.After-bits-at) → eqb (c .bits-at .result) 0 ≡ (let args = c .before .before .before .before .before .before .args in spareZero (args .b) (args .n) (args .codes .now))
+spare : (c : tie.After-bits-at) → eqb (c .bits-at .result) 0
+    ≡ (let args = c .before .before .before .before .before .before .args in spareZero (args .b) (args .n) (args .codes .now))
 spare c =
     let args = c .before .before .before .before .before .before .args in
     rw (c .bits-at .ensures) (spare-read (args .b) (args .n) (args .codes .now) (sized (c .before) .bytes))
@@ -60,7 +61,8 @@ returns : tie.Need-returns
 returns c =
     let told = c .before .before in
     let at = told .before .before in
-    refused-last (rows at) (spare-set at) Code (at .before .before .before .args .regions .now) (numbers at) (right told) (ap not (sym (spare (c .before)) ∙ ne-eqb (c .before .bits-at .result) 0 (c .if1 .taken)))
+    refused-last (rows at) (spare-set at) Code (at .before .before .before .args .regions .now) (numbers at) (right told)
+    (ap not (sym (spare (c .before)) ∙ ne-eqb (c .before .bits-at .result) 0 (c .if1 .taken)))
 
 take-all-requires : tie.Need-take-all-requires
 take-all-requires c κs =
@@ -74,13 +76,16 @@ returns-2 c =
     let took = c .before .before in
     let told = took .before .before .before .before in
     let at = told .before .before in
-    accepted-all (rows at) (spare-set at) Code (at .before .before .before .args .regions .now) (numbers at) (right told) (ap not (sym (spare (took .before .before .before)) ∙ eq-eqb (took .before .before .before .bits-at .result) 0 (took .before .before .if1 .left)))
+    accepted-all (rows at) (spare-set at) Code (at .before .before .before .args .regions .now) (numbers at) (right told)
+    (ap not (sym (spare (took .before .before .before))
+    ∙ eq-eqb (took .before .before .before .bits-at .result) 0 (took .before .before .if1 .left)))
     (rw (← sized told .rows) (took .take-all .ensures))
 
 returns-3 : tie.Need-returns-3
 returns-3 c =
     let at = c .before .before .before in
-    let refused : first (rows at) ≡ Refused (c .before .cause .given .0 .0) = rw (← at .check-sizes .ensures) (c .before .cause .given .1) in
+    let refused : first (rows at) ≡ Refused (c .before .cause .given .0 .0) =
+    rw (← at .check-sizes .ensures) (c .before .cause .given .1) in
     refused-before (rows at) ((spare-set at ⇒ Code) ∷ []) (at .before .before .before .args .regions .now) (numbers at) refused
 
 pub unpack-spec : {M : Type 1} → statement M

@@ -11,7 +11,8 @@ bytes : (c : tie.After-shared-slice-known) → Bytes (c .before .args .codes .no
 bytes c i = omega (arith, c .shared-slice-known .given i)
 
 -- what two bytes and three are together
-two : (c : tie.After-shared-slice-known2) → let a = c .before .before .args in getD (a .codes .now) (a .i) 0 * 256 + getD (a .codes .now) (a .i + 1) 0 < 65536
+two : (c : tie.After-shared-slice-known2) → let a = c .before .before .args in
+    getD (a .codes .now) (a .i) 0 * 256 + getD (a .codes .now) (a .i + 1) 0 < 65536
 two c =
     let small = bytes (c .before) in
     let i = c .before .before .args .i in

@@ -16,7 +16,8 @@ use Rattle.bounds.proofs.cell.cell_bounds.Tie as tie
 abbrev verdict : (c : tie.After-check-bounds) → Verdict
 verdict c =
     let a = c .before .before .before .before .args in
-    first (boundsCauses (a .d) (a .b) (a .n) (a .query .now) (a .marks .now) (a .codes .now) (length (a .lowers .now)) (length (a .uppers .now)))
+    first (boundsCauses (a .d) (a .b) (a .n) (a .query .now) (a .marks .now) (a .codes .now) (length (a .lowers .now))
+    (length (a .uppers .now)))
 
 accepted : (c : tie.After-enum-told) → verdict (c .before .before) ≡ Accepted
 accepted c = sym (c .before .before .check-bounds .ensures) ∙ c .enum-told .given .1

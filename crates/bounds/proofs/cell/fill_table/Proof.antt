@@ -24,7 +24,8 @@ here : (c : tie.After-stretch-of Inv-loop μ-loop) → let at = c .before .befor
 here c = place (c .before .before .before .before .pre .0) (c .before .loop-test .taken) (c .stretch-of .ensures)
 
 -- its entries are inside the marks and the table
-inside : (c : tie.After-at Inv-loop μ-loop) → let known = c .before .before in let at = known .before .before in let a = at .before .before .args in
+inside : (c : tie.After-at Inv-loop μ-loop) → let known = c .before .before in let at = known .before .before in
+    let a = at .before .before .args in
     let s = known .stretch-of .result in let end = s .offset + 1 * 2 ^ s .bits % 2 ^ 64 + 1 in
     (s .offset ≤ end) × (end ≤ length (a .marks .now)) × (end ≤ length (at .loop .table)) × (end ≤ maxTable)
 inside c =
@@ -47,7 +48,8 @@ loop-again c =
     let a = at .before .before .args in
     let component = read-back (record { sfits = read .at .ok }) (read .at .ensures) in
     let entries = rw component at (filled .fill-steps .ensures) in
-    filled-next (stepOf (a .bound)) (a .d) (a .b) (a .marks .now) (a .query .now) _ (here known) (known .before .loop-test .taken) entries (at .loop .inv)
+    filled-next (stepOf (a .bound)) (a .d) (a .b) (a .marks .now) (a .query .now) _ (here known)
+    (known .before .loop-test .taken) entries (at .loop .inv)
 
 pub fill-table-spec : {M : Type 1} → statement M
 fill-table-spec =

@@ -27,7 +27,7 @@ sum-bounds-spec =
     (tie.spec
     (λ c κs. search needs)
     (λ c. search needs)
-    (λ c κs. let a = c .before .before .before .before .before .before .before .args in
+    (λ c κs. let asked = c .before .before .before in let a = asked .before .before .before .before .args in
     summable (a .d) (a .b) (length (a .table .now)) (a .codes .now) (length (a .bounds .now)) (accepted (c .before)))
     (λ c. search needs)
     (λ c. search needs)
