@@ -11,12 +11,12 @@ use lib.ListN.{length, getD}
 use Rattle.refusal.specs.declared.Verdict.the-variants.{Accepted}
 use Rattle.refusal.specs.First.{first}
 use Rattle.limits.specs.Limits.{maxVectors}
-use Rattle.layout.specs.Layout.{firstMarks}
+use Rattle.layout.specs.Layout.{firstMarks, codeLength}
 use Rattle.layout.specs.Stretch.{shapeCauses}
 use Rattle.region.specs.Region.{inRegion}
 use Rattle.partition.specs.Marks.{dimensionMarks}
 use Rattle.partition.specs.Parts.{part-at}
-use Rattle.codes.specs.Codes.{codeLength, codeRegion}
+use Rattle.codes.specs.Codes.{codeRegion}
 use Rattle.codes.specs.PackLaws.{code-region-fits}
 use Rattle.cells.specs.Cells.{hasValue, noneEmpty}
 use Rattle.cells.specs.Places.{markPlace, markPlaces, place-at}
@@ -35,14 +35,16 @@ module _ (d b : ℕ) (marks : List ℤ) (codes : List ℕ) (i t : ℕ) where
   lower-at : getD (dimensionMarks d b marks (suc t)) (codeRegion d b codes i t) (pos 0) ≡ getD marks (markPlace d b codes i t) (pos 0)
   lower-at = part-at d b marks t (codeRegion d b codes i t) (pos 0) (omega (arith, code-region-fits d b codes i t))
 
-  upper-at : getD (dimensionMarks d b marks (suc t)) (suc (codeRegion d b codes i t)) (pos 0) ≡ getD marks (markPlace d b codes i t + 1) (pos 0)
+  upper-at : getD (dimensionMarks d b marks (suc t)) (suc (codeRegion d b codes i t)) (pos 0)
+      ≡ getD marks (markPlace d b codes i t + 1) (pos 0)
   upper-at =
       let next : firstMarks d b t + suc (codeRegion d b codes i t) ≡ markPlace d b codes i t + 1 = omega arith in
       part-at d b marks t (suc (codeRegion d b codes i t)) (pos 0) (omega (arith, code-region-fits d b codes i t))
       ∙ ap (λ (n : ℕ). getD marks n (pos 0)) next
 
   -- a value of the region, and whether there is one
-  pub region-test : (v : ℤ) → inRegion (dimensionMarks d b marks (suc t)) (codeRegion d b codes i t) v ≡ between marks (markPlace d b codes i t) v
+  pub region-test : (v : ℤ) → inRegion (dimensionMarks d b marks (suc t)) (codeRegion d b codes i t) v
+      ≡ between marks (markPlace d b codes i t) v
   unfolding inRegion between
   region-test v = ap₂ (λ (low high : ℤ). leZ low v && ltZ v high) lower-at upper-at
 

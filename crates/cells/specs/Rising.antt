@@ -32,7 +32,8 @@ pub rise-tests : (marks : List ℤ) (start : ℕ)
 unfolding risesFrom
 rise-tests marks start = record { next = λ i. refl }
 
-pub first-tests : (d b : ℕ) (marks : List ℤ) → All (risesFirst d b marks) (λ t. risesFrom marks (firstMarks d b t) (regionCount d b (suc t)))
+pub first-tests : (d b : ℕ) (marks : List ℤ)
+    → All (risesFirst d b marks) (λ t. risesFrom marks (firstMarks d b t) (regionCount d b (suc t)))
 unfolding risesFirst
 first-tests d b marks = record { next = λ t. refl }
 

@@ -35,7 +35,8 @@ fn place_run(
     end: usize,
     places: &mut [usize],
 )
-    requires { ⌜ (w ≤ 7) × («first_bit» ≤ 2 ^ 32) × («first_start» ≤ 2 ^ 32) × («first» ≤ end) × (end ≤ maxDimensions) × (end ≤ length (now places)) ⌝ }
+    requires { ⌜ (w ≤ 7) × («first_bit» ≤ 2 ^ 32) × («first_start» ≤ 2 ^ 32) × («first» ≤ end)
+        × (end ≤ maxDimensions) × (end ≤ length (now places)) ⌝ }
     ensures { λ _. ⌜ take end (now (places .exit))
         ≡ take «first» (now (places .entry)) ++ runPlaces (now (codes .entry)) w «first_bit» «first_start» (end - «first») ⌝ }
 {

@@ -20,10 +20,12 @@ module _ (rows more : List Row) (old new : List ℕ) where
   pub refused-before : {cause : Refusal} → first rows ≡ Refused cause → Answer (rows ++ more) old new (Refused cause) old
   refused-before refused = refuse _ old new (first-append rows more ∙ outcome-refused _ _ refused)
 
-  pub refused-behind : {cause : Refusal} → first rows ≡ Accepted → first more ≡ Refused cause → Answer (rows ++ more) old new (Refused cause) old
+  pub refused-behind : {cause : Refusal} → first rows ≡ Accepted → first more ≡ Refused cause
+      → Answer (rows ++ more) old new (Refused cause) old
   refused-behind accepted refused = refuse _ old new (first-append rows more ∙ outcome-accepted _ _ accepted ∙ refused)
 
-  pub accepted-both : first rows ≡ Accepted → first more ≡ Accepted → {now : List ℕ} → now ≡ new → Answer (rows ++ more) old new Accepted now
+  pub accepted-both : first rows ≡ Accepted → first more ≡ Accepted → {now : List ℕ} → now ≡ new
+      → Answer (rows ++ more) old new Accepted now
   accepted-both accepted behind is =
       let none : first (rows ++ more) ≡ Accepted = first-append rows more ∙ outcome-accepted _ _ accepted ∙ behind in
       (sym none, rw none is)
@@ -33,6 +35,7 @@ module _ (rows : List Row) (test : Bool) (last : Refusal) (old new : List ℕ) w
   pub refused-last : first rows ≡ Accepted → test ≡ true → Answer (rows ++ ((test ⇒ last) ∷ [])) old new (Refused last) old
   refused-last accepted holds = refused-behind rows _ old new accepted (first-here last [] holds)
 
-  pub accepted-all : first rows ≡ Accepted → test ≡ false → {now : List ℕ} → now ≡ new → Answer (rows ++ ((test ⇒ last) ∷ [])) old new Accepted now
+  pub accepted-all : first rows ≡ Accepted → test ≡ false → {now : List ℕ} → now ≡ new
+      → Answer (rows ++ ((test ⇒ last) ∷ [])) old new Accepted now
   unfolding first
   accepted-all accepted fails is = accepted-both rows _ old new accepted (first-next last [] fails) is

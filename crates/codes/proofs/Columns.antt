@@ -46,10 +46,12 @@ next-below d t within = go (eqb (suc t) d) refl
     go false e = omega (arith, eqb-false (suc t) d e)
 
 module _ (d b t : ℕ) (regions : List ℕ) (i : ℕ) (more : i < length regions) where
-  pub fit-next : regionsFit d b t (drop i regions) ≡ ltb (getD regions i 0) (regionCount d b (suc t)) && regionsFit d b (nextColumn d t) (drop (i + 1) regions)
+  pub fit-next : regionsFit d b t (drop i regions)
+      ≡ ltb (getD regions i 0) (regionCount d b (suc t)) && regionsFit d b (nextColumn d t) (drop (i + 1) regions)
   unfolding regionsFit
   fit-next = rw (drop-cons regions i 0 more, add-one)
 
-  pub joined-next : joined d b t (drop i regions) ≡ lowBits (bitsOf d b (suc t)) (getD regions i 0) ++ joined d b (nextColumn d t) (drop (i + 1) regions)
+  pub joined-next : joined d b t (drop i regions)
+      ≡ lowBits (bitsOf d b (suc t)) (getD regions i 0) ++ joined d b (nextColumn d t) (drop (i + 1) regions)
   unfolding joined
   joined-next = rw (drop-cons regions i 0 more, add-one)

@@ -21,7 +21,8 @@ pub record Writing (all rest codes : List ℕ) (n o waiting bits : ℕ) : Type 0
   pub so-far : take o codes ++ bytesOf (n - o) (lowBits waiting bits ++ rest) ≡ bytesOf n all
 
 -- the next w bits, those of x, wait too
-pub push : (w x : ℕ) {all next rest codes : List ℕ} {n o waiting bits : ℕ} → Writing all next codes n o waiting bits → next ≡ lowBits w x ++ rest → x < 2 ^ w
+pub push : (w x : ℕ) {all next rest codes : List ℕ} {n o waiting bits : ℕ} → Writing all next codes n o waiting bits
+    → next ≡ lowBits w x ++ rest → x < 2 ^ w
     → Writing all rest codes n o (waiting + w) (bits * 2 ^ w + x)
 push w x {rest = rest} {waiting = waiting} {bits = bits} at front own =
     let count = rw (front, length-append (lowBits w x) rest, length-low w x) at (at .count) in
@@ -45,12 +46,21 @@ module _ {all rest codes : List ℕ} {n o waiting bits : ℕ} (at : Writing all 
   pub is-byte : bits / 2 ^ (waiting - 8) < 256
   is-byte = shr-lt 8 (waiting - 8) (rw split-eight at (at .small))
 
-  first-byte : (k : ℕ) → bytesOf (suc k) (lowBits waiting bits ++ rest) ≡ bits / 2 ^ (waiting - 8) ∷ bytesOf k (lowBits (waiting - 8) (bits % 2 ^ (waiting - 8)) ++ rest)
+  first-byte : (k : ℕ) → bytesOf (suc k) (lowBits waiting bits ++ rest)
+      ≡ bits / 2 ^ (waiting - 8) ∷ bytesOf k (lowBits (waiting - 8) (bits % 2 ^ (waiting - 8)) ++ rest)
   unfolding bytesOf
   first-byte k =
       let h = waiting - 8 in
-      let front : lowBits waiting bits ≡ lowBits 8 (bits / 2 ^ h) ++ lowBits h bits = ap (λ (w : ℕ). lowBits w bits) split-eight ∙ low-split 8 h bits in
-      rw (front, append-assoc, from-low 8 (bits / 2 ^ h) (lowBits h bits ++ rest), mod-eq-of-lt is-byte, drop-at (lowBits 8 (bits / 2 ^ h)) (lowBits h bits ++ rest) 8 (length-low 8 (bits / 2 ^ h)), low-mod h bits)
+      let front : lowBits waiting bits ≡ lowBits 8 (bits / 2 ^ h) ++ lowBits h bits =
+      ap (λ (w : ℕ). lowBits w bits) split-eight ∙ low-split 8 h bits in
+      rw (
+        front,
+        append-assoc,
+        from-low 8 (bits / 2 ^ h) (lowBits h bits ++ rest),
+        mod-eq-of-lt is-byte,
+        drop-at (lowBits 8 (bits / 2 ^ h)) (lowBits h bits ++ rest) 8 (length-low 8 (bits / 2 ^ h)),
+        low-mod h bits,
+      )
 
   pub emit : Writing all rest (set codes o (bits / 2 ^ (waiting - 8))) n (o + 1) (waiting - 8) (bits % 2 ^ (waiting - 8))
   emit =
@@ -83,7 +93,8 @@ module _ {all codes : List ℕ} {n o waiting bits : ℕ} (at : Writing all [] co
   last-bits =
       let byte : waiting + (8 - waiting) ≡ 8 = omega arith in
       let shifted = bits * 2 ^ (8 - waiting) in
-      let wide : lowBits waiting bits ++ lowBits (8 - waiting) 0 ≡ lowBits 8 shifted = rw (low-join waiting (8 - waiting) bits 0 (pow-pos (8 - waiting)), byte, add-zero) in
+      let wide : lowBits waiting bits ++ lowBits (8 - waiting) 0 ≡ lowBits 8 shifted =
+      rw (low-join waiting (8 - waiting) bits 0 (pow-pos (8 - waiting)), byte, add-zero) in
       rw append-nil (from-same 8 (lowBits waiting bits) (lowBits 8 shifted) (rw (← wide) (same-zeros (8 - waiting) (lowBits waiting bits))))
       ∙ rw append-nil at (from-low 8 shifted []) ∙ mod-eq-of-lt last-lt
 
@@ -93,4 +104,5 @@ module _ {all codes : List ℕ} {n o waiting bits : ℕ} (at : Writing all [] co
       let left : n - o ≡ 1 = omega (arith, at .size, at .count) in
       let one = rw (left, last-bits) at (at .so-far) in
       let written = written-one codes o (bits * 2 ^ (8 - waiting)) [] (bytesOf n all) (has-room at some) one in
-      written-all (set codes o (bits * 2 ^ (8 - waiting))) (o + 1) (bytesOf n all) (simp length-set (omega (arith, at .size, at .count, at .room))) written
+      written-all (set codes o (bits * 2 ^ (8 - waiting))) (o + 1) (bytesOf n all)
+      (simp length-set (omega (arith, at .size, at .count, at .room))) written

@@ -3,7 +3,9 @@ use mathlib.Core.Path.{_≡_, refl, sym, ap, _∙_}
 use mathlib.Core.Bool.{Bool, true, false, _&&_, and-eq-true-iff}
 use mathlib.Core.List.{List, [], _∷_, _++_, append-assoc}
 use Prim.Native.Nat.{ℕ, zero, suc, _+_, _-_, _*_, _/_, _%_, _^_, _≤_, _<_, zero-le}
-use native.Mathlib.Nat.{suc-add, add-comm, zero-add, sub-zero, suc-sub-suc, suc-mul, zero-mul, zero-div, mul-assoc, mul-comm, mul-le-mul-right, mul-add-div-right, mul-add-mod-self-right, mod-lt, mod-eq-of-lt, pow-suc, pow-succ', le-of-suc-le-suc}
+use native.Mathlib.Nat.{suc-add, add-comm, zero-add, sub-zero, suc-sub-suc, suc-mul, zero-mul, zero-div, mul-assoc, mul-comm}
+use native.Mathlib.Nat.{mul-le-mul-right, mul-add-div-right, mul-add-mod-self-right, mod-lt, mod-eq-of-lt, pow-suc, pow-succ'}
+use native.Mathlib.Nat.{le-of-suc-le-suc}
 use native.Mathlib.Numerals.{one-add}
 use native.Mathlib.Omega.{arith}
 use borrow.Author.Tests.{eqb-true, eqb-false, le-leb, ne-eqb}
@@ -51,7 +53,14 @@ low-over : (w h l : ℕ) → lowBits w (h * 2 ^ w + l) ≡ lowBits w l
 unfolding lowBits
 low-over zero h l = refl
 low-over (suc w) h l =
-    rw (pow-suc 2 w, mul-comm (2 ^ w) 2, ← mul-assoc h 2 (2 ^ w), mul-add-div-right (pow-pos w) (h * 2) l, mul-add-mod-self-right h 2 (l / 2 ^ w), low-over w (h * 2) l)
+    rw (
+      pow-suc 2 w,
+      mul-comm (2 ^ w) 2,
+      ← mul-assoc h 2 (2 ^ w),
+      mul-add-div-right (pow-pos w) (h * 2) l,
+      mul-add-mod-self-right h 2 (l / 2 ^ w),
+      low-over w (h * 2) l,
+    )
 
 pub low-mod : (w x : ℕ) → lowBits w (x % 2 ^ w) ≡ lowBits w x
 low-mod w x = sym (low-over w (x / 2 ^ w) (x % 2 ^ w)) ∙ ap (lowBits w) (split x w)
@@ -71,7 +80,13 @@ from-low (suc w) x rest =
 -- the field of w bits behind the first v, of a number of v + w + u bits
 pub from-field : (v w u x : ℕ) (rest : List ℕ) → fromBits w (drop v (lowBits (v + (w + u)) x ++ rest)) ≡ x / 2 ^ u % 2 ^ w
 from-field v w u x rest =
-    rw (low-split v (w + u) x, append-assoc, drop-at (lowBits v (x / 2 ^ (w + u))) (lowBits (w + u) x ++ rest) v (length-low v (x / 2 ^ (w + u))), low-split w u x, append-assoc)
+    rw (
+      low-split v (w + u) x,
+      append-assoc,
+      drop-at (lowBits v (x / 2 ^ (w + u))) (lowBits (w + u) x ++ rest) v (length-low v (x / 2 ^ (w + u))),
+      low-split w u x,
+      append-assoc,
+    )
     (from-low w (x / 2 ^ u) (lowBits u x ++ rest))
 
 binary-first : {bits : List ℕ} → Binary bits → getD bits 0 0 < 2
@@ -170,7 +185,12 @@ pub low-from : (w : ℕ) {bits : List ℕ} → Binary bits → lowBits w (fromBi
 unfolding lowBits fromBits padded
 low-from zero h = refl
 low-from (suc w) {bits} h =
-    rw (high (getD bits 0 0) w (from-lt w (binary-drop 1 h)), mod-eq-of-lt (binary-first h), low-over w (getD bits 0 0) (fromBits w (drop 1 bits)), low-from w (binary-drop 1 h))
+    rw (
+      high (getD bits 0 0) w (from-lt w (binary-drop 1 h)),
+      mod-eq-of-lt (binary-first h),
+      low-over w (getD bits 0 0) (fromBits w (drop 1 bits)),
+      low-from w (binary-drop 1 h),
+    )
 
 -- ---- bytes
 
@@ -195,7 +215,12 @@ pub bytes-bits : (bytes : List ℕ) → Bytes bytes → bytesOf (length bytes) (
 unfolding byteBits bytesOf
 bytes-bits [] h = refl
 bytes-bits (x ∷ bytes) h =
-    rw (from-low 8 x (byteBits bytes), mod-eq-of-lt (h 0), drop-at (lowBits 8 x) (byteBits bytes) 8 (length-low 8 x), bytes-bits bytes (λ i. h (suc i)))
+    rw (
+      from-low 8 x (byteBits bytes),
+      mod-eq-of-lt (h 0),
+      drop-at (lowBits 8 x) (byteBits bytes) 8 (length-low 8 x),
+      bytes-bits bytes (λ i. h (suc i)),
+    )
 
 pub length-bytes : (count : ℕ) (bits : List ℕ) → length (bytesOf count bits) ≡ count
 unfolding bytesOf
@@ -205,7 +230,8 @@ length-bytes (suc count) bits = ap suc (length-bytes count (drop 8 bits))
 pub length-byte-bits : (bytes : List ℕ) → length (byteBits bytes) ≡ length bytes * 8
 unfolding byteBits
 length-byte-bits [] = refl
-length-byte-bits (x ∷ bytes) = rw (length-append (lowBits 8 x) (byteBits bytes), length-low 8 x, length-byte-bits bytes, suc-mul) (omega arith)
+length-byte-bits (x ∷ bytes) =
+    rw (length-append (lowBits 8 x) (byteBits bytes), length-low 8 x, length-byte-bits bytes, suc-mul) (omega arith)
 
 pub binary-bytes : (bytes : List ℕ) → Binary (byteBits bytes)
 unfolding byteBits

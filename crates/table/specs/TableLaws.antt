@@ -24,6 +24,7 @@ use Rattle.step.specs.declared.Bound.the-variants.{Lower, Upper}
 use Rattle.step.specs.Step.{stepOf}
 use Rattle.distance.specs.Bounds.{stepTo, firstBound}
 use Rattle.distance.specs.Small.{lower-small, upper-small}
+use Rattle.distance.specs.Values.{valuesFrom}
 use Rattle.table.specs.Table.{maxTable, stepsFrom, tableFirst, tableOf, tableSum, boundSum}
 
 pub length-steps : (step : ℤ → ℤ → ℤ → ℕ) (q : ℤ) (marks : List ℤ) (r n : ℕ) → length (stepsFrom step q marks r n) ≡ n
@@ -31,7 +32,8 @@ unfolding stepsFrom
 length-steps step q marks r zero = refl
 length-steps step q marks r (suc n) = ap suc (length-steps step q marks (suc r) n)
 
-step-at : (step : ℤ → ℤ → ℤ → ℕ) (q : ℤ) (marks : List ℤ) (r n k : ℕ) → k < n → getD (stepsFrom step q marks r n) k 0 ≡ stepTo step q marks (r + k) % 2 ^ 64
+step-at : (step : ℤ → ℤ → ℤ → ℕ) (q : ℤ) (marks : List ℤ) (r n k : ℕ) → k < n
+    → getD (stepsFrom step q marks r n) k 0 ≡ stepTo step q marks (r + k) % 2 ^ 64
 unfolding stepsFrom
 step-at step q marks r zero k h = absurd (omega arith)
 step-at step q marks r (suc n) zero h = rw (add-zero r)
@@ -47,7 +49,8 @@ module _ (step : ℤ → ℤ → ℤ → ℕ) (d b : ℕ) (marks query : List �
 
   -- the last dimension's entries
   entry-last : (t k : ℕ) → k < markCount d b (suc t)
-      → getD (tableFirst step d b marks query (suc t)) (firstMarks d b t + k) 0 ≡ stepTo step (getD query t (pos 0)) (dimensionMarks d b marks (suc t)) k % 2 ^ 64
+      → getD (tableFirst step d b marks query (suc t)) (firstMarks d b t + k) 0
+      ≡ stepTo step (getD query t (pos 0)) (dimensionMarks d b marks (suc t)) k % 2 ^ 64
   unfolding tableFirst
   entry-last t k within =
       let q = getD query t (pos 0) in
@@ -59,7 +62,8 @@ module _ (step : ℤ → ℤ → ℤ → ℕ) (d b : ℕ) (marks query : List �
 
   -- dimension t + 1's entries stand from its stretch on, in the table of the first n dimensions
   entry-at : (n t k : ℕ) → t < n → k < markCount d b (suc t)
-      → getD (tableFirst step d b marks query n) (firstMarks d b t + k) 0 ≡ stepTo step (getD query t (pos 0)) (dimensionMarks d b marks (suc t)) k % 2 ^ 64
+      → getD (tableFirst step d b marks query n) (firstMarks d b t + k) 0
+      ≡ stepTo step (getD query t (pos 0)) (dimensionMarks d b marks (suc t)) k % 2 ^ 64
   unfolding tableFirst
   entry-at zero t k h within = absurd (omega arith)
   entry-at (suc n) t k h within =
@@ -73,7 +77,8 @@ module _ (step : ℤ → ℤ → ℤ → ℕ) (d b : ℕ) (marks query : List �
 
   -- a code's entries sum up to its bound, modulo 2^64 for any numbers
   module _ (codes : List ℕ) (i : ℕ) where
-    sum-first : (n t : ℕ) → t ≤ n → tableSum d b (tableFirst step d b marks query n) codes i t % 2 ^ 64 ≡ firstBound step d b marks codes query i t % 2 ^ 64
+    sum-first : (n t : ℕ) → t ≤ n → tableSum d b (tableFirst step d b marks query n) codes i t % 2 ^ 64
+        ≡ firstBound step d b marks codes query i t % 2 ^ 64
     unfolding tableSum firstBound
     sum-first n zero h = refl
     sum-first n (suc t) h =
@@ -81,12 +86,17 @@ module _ (step : ℤ → ℤ → ℤ → ℕ) (d b : ℕ) (marks query : List �
         let q = getD query t (pos 0) in
         let fits = code-region-fits d b codes i t in
         let entry = entry-at n t r h (omega arith) in
-        rw (add-mod (tableSum d b (tableFirst step d b marks query n) codes i t) _ (2 ^ 64), entry, sum-first n t (omega arith), mod-mod (stepTo step q (dimensionMarks d b marks (suc t)) r) (2 ^ 64))
+        rw (
+          add-mod (tableSum d b (tableFirst step d b marks query n) codes i t) _ (2 ^ 64),
+          entry,
+          sum-first n t (omega arith),
+          mod-mod (stepTo step q (dimensionMarks d b marks (suc t)) r) (2 ^ 64),
+        )
         (sym (add-mod (firstBound step d b marks codes query i t) (stepTo step q (dimensionMarks d b marks (suc t)) r) (2 ^ 64)))
 
 -- and exactly for components and marks in range
 module _ (d b : ℕ) (marks query : List ℤ) (codes : List ℕ) (i : ℕ) where
-  pub bound-sum : (bound : Bound) → first (shapeCauses d b) ≡ Accepted → areComponents query ≡ true → goodMarks d b marks ≡ true
+  bound-sum : (bound : Bound) → first (shapeCauses d b) ≡ Accepted → areComponents query ≡ true → goodMarks d b marks ≡ true
       → boundSum d b (tableOf (stepOf bound) d b marks query) codes i ≡ firstBound (stepOf bound) d b marks codes query i d
   unfolding boundSum
   bound-sum bound shaped components good =
@@ -95,6 +105,20 @@ module _ (d b : ℕ) (marks query : List ℤ) (codes : List ℕ) (i : ℕ) where
       small : (bound : Bound) → d ≤ maxDimensions → firstBound (stepOf bound) d b marks codes query i d < 2 ^ 64
       small Lower few = lower-small query components d b marks good few codes i
       small Upper few = upper-small query components d b marks good few codes i
+
+-- functions that agree have the same values
+values-agree : (f g : ℕ → ℕ) → ((j : ℕ) → f j ≡ g j) → (i n : ℕ) → valuesFrom f i n ≡ valuesFrom g i n
+unfolding valuesFrom
+values-agree f g agree i zero = refl
+values-agree f g agree i (suc n) = rw (agree i, values-agree f g agree (suc i) n)
+
+-- so the sums of n codes are their bounds
+pub bounds-sum : (bound : Bound) (d b : ℕ) (marks query : List ℤ) (codes : List ℕ) (n : ℕ)
+    → first (shapeCauses d b) ≡ Accepted → areComponents query ≡ true → goodMarks d b marks ≡ true
+    → valuesFrom (boundSum d b (tableOf (stepOf bound) d b marks query) codes) 0 n
+    ≡ valuesFrom (λ i. firstBound (stepOf bound) d b marks codes query i d) 0 n
+bounds-sum bound d b marks query codes n shaped components good =
+    values-agree _ _ (λ i. bound-sum d b marks query codes i bound shaped components good) 0 n
 
 -- a table is no longer than the longest
 pub table-le : (d b : ℕ) → first (shapeCauses d b) ≡ Accepted → firstMarks d b d ≤ maxTable

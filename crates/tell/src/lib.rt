@@ -1,6 +1,5 @@
 // What a call from C tells of an answer: its values, each in its place, and 0 or the refusal's number. A refusal leaves the place of a
 // component or a distance as it was, and 0 in that of a count.
-use bounds::cell::Bounds;
 use distance::Distance;
 use loading::Loaded;
 use reading::Intake;
@@ -12,7 +11,6 @@ ghost use Rattle.refusal.specs.Refusal.{verdictNumber};
 ghost use Rattle.reading.specs.Intake.{intakeOf};
 ghost use Rattle.region.specs.Lookup.{lookupNumber, lookupRegion};
 ghost use Rattle.distance.specs.Measured.{distanceNumber};
-ghost use Rattle.bounds.specs.Bounded.{boundsNumber, lowerOr, upperOr};
 ghost use Rattle.search.specs.Answer.{searchedNumber, searchedCount};
 ghost use Rattle.tell.specs.Answered.{Answered, distanceOr};
 
@@ -55,21 +53,6 @@ pub fn distance(answer: Distance, place: &mut u64) -> u32
             0
         }
         Distance::Refused(cause) => cause.number(),
-    }
-}
-
-// The least and the greatest distance of a cell.
-pub fn bounds(answer: Bounds, lower: &mut u64, upper: &mut u64) -> u32
-    ensures { λ r. ⌜ (r ≡ boundsNumber answer) × (now (lower .exit) ≡ lowerOr (now (lower .entry)) answer)
-        × (now (upper .exit) ≡ upperOr (now (upper .entry)) answer) ⌝ }
-{
-    match answer {
-        Bounds::Between(least, greatest) => {
-            *lower = least;
-            *upper = greatest;
-            0
-        }
-        Bounds::Refused(cause) => cause.number(),
     }
 }
 

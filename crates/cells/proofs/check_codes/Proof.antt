@@ -11,13 +11,15 @@ returns : tie.Need-returns
 returns c =
     let args = c .before .before .before .before .before .args in
     c .check-shaped .ensures
-    ∙ sym (first-append (shapeCauses (args .d) (args .b)) (shapedCodeCauses (args .d) (args .b) (args .n) (args .marks .now) (args .codes .now))
+    ∙ sym (first-append (shapeCauses (args .d) (args .b))
+    (shapedCodeCauses (args .d) (args .b) (args .n) (args .marks .now) (args .codes .now))
     ∙ outcome-accepted _ _ (sym (c .before .before .before .check-shape .ensures) ∙ c .before .enum-told .given .1))
 
 returns-2 : tie.Need-returns-2
 returns-2 c =
     let args = c .before .before .before .before .before .args in
-    sym (first-append (shapeCauses (args .d) (args .b)) (shapedCodeCauses (args .d) (args .b) (args .n) (args .marks .now) (args .codes .now))
+    sym (first-append (shapeCauses (args .d) (args .b))
+    (shapedCodeCauses (args .d) (args .b) (args .n) (args .marks .now) (args .codes .now))
     ∙ outcome-refused _ _ (sym (c .before .before .before .check-shape .ensures) ∙ c .before .cause .given .1))
 
 pub check-codes-spec : {M : Type 1} → statement M

@@ -8,7 +8,8 @@ use Rattle.cells.proofs.no_empty_codes.Tie as tie
 returns : tie.Need-returns
 returns c =
     let args = c .before .before .before .args in
-    sym (rising-no-empty (args .d) (args .b) (args .marks .now) (args .codes .now) (sym (c .before .all-rise .ensures) ∙ c .if1 .taken) (args .n))
+    sym (rising-no-empty (args .d) (args .b) (args .marks .now) (args .codes .now) (sym (c .before .all-rise .ensures) ∙ c .if1 .taken)
+    (args .n))
 
 pub no-empty-codes-spec : {M : Type 1} → statement M
 no-empty-codes-spec =

@@ -21,7 +21,8 @@ Inv-loop marks places t₀ t = (t ≤ length places) × (riseAt marks places t �
 abbrev μ-loop : tie.MeasureT-loop
 μ-loop marks places t₀ t = length places - t
 
-tests : (marks : List ℤ) (places : List ℕ) → All (riseAt marks places) (λ t. ltZ (getD marks (getD places t 0) (pos 0)) (getD marks (getD places t 0 + 1) (pos 0)))
+tests : (marks : List ℤ) (places : List ℕ)
+    → All (riseAt marks places) (λ t. ltZ (getD marks (getD places t 0) (pos 0)) (getD marks (getD places t 0 + 1) (pos 0)))
 unfolding riseAt
 tests marks places = record { next = λ t. refl }
 
@@ -35,7 +36,8 @@ returns c =
     let args = at .before .before .args in
     sym
     (all-fails (tests (args .marks .now) (args .places .now)) (length (args .places .now)) (at .loop .t)
-    (c .before .before .before .loop-test .taken) (sym (c .before .is-below .ensures) ∙ not-true (c .before .is-below .result) (c .if1 .taken)))
+    (c .before .before .before .loop-test .taken) (sym (c .before .is-below .ensures)
+    ∙ not-true (c .before .is-below .result) (c .if1 .taken)))
 
 loop-again : tie.Need-loop-again Inv-loop μ-loop
 loop-again c =

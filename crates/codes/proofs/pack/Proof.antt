@@ -46,15 +46,20 @@ returns : tie.Need-returns
 returns c =
     let told = c .before .before in
     let at = told .before .before in
-    refused-last (rows at) (past at) Code (at .before .before .before .args .codes .now) (bytes at) (right told) (ap not (sym (c .before .regions-fit .ensures)) ∙ c .if1 .taken)
+    refused-last (rows at) (past at) Code (at .before .before .before .args .codes .now) (bytes at) (right told)
+    (ap not (sym (c .before .regions-fit .ensures)) ∙ c .if1 .taken)
 
 put-all-requires : tie.Need-put-all-requires
 put-all-requires c κs =
     let told = c .before .before .before in
     let args = told .before .before .before .before .before .args in
     let size = sized told in
-    let bits = length-joined (args .d) (args .b) (size .shaped .some) (args .n) (args .regions .now) (size .rows) in
-    (size .shaped, sym (c .before .before .regions-fit .ensures) ∙ not-false (c .before .before .regions-fit .result) (c .before .if1 .left), rw bits (size .bytes))
+    let bits = length-joined (args .d) (args .b) (size .shaped .some) (args .n) (args .regions .now) (size .rows) in (
+      size .shaped,
+      sym (c .before .before .regions-fit .ensures)
+          ∙ not-false (c .before .before .regions-fit .result) (c .before .if1 .left),
+      rw bits (size .bytes),
+    )
 
 returns-2 : tie.Need-returns-2
 unfolding packed
@@ -62,13 +67,15 @@ returns-2 c =
     let put = c .before .before in
     let told = put .before .before .before .before in
     let at = told .before .before in
-    accepted-all (rows at) (past at) Code (at .before .before .before .args .codes .now) (bytes at) (right told) (ap not (sym (put .before .before .before .regions-fit .ensures)) ∙ put .before .before .if1 .left)
+    accepted-all (rows at) (past at) Code (at .before .before .before .args .codes .now) (bytes at) (right told)
+    (ap not (sym (put .before .before .before .regions-fit .ensures)) ∙ put .before .before .if1 .left)
     (rw (← sized told .bytes) (put .put-all .ensures))
 
 returns-3 : tie.Need-returns-3
 returns-3 c =
     let at = c .before .before .before in
-    let refused : first (rows at) ≡ Refused (c .before .cause .given .0 .0) = rw (← at .check-sizes .ensures) (c .before .cause .given .1) in
+    let refused : first (rows at) ≡ Refused (c .before .cause .given .0 .0) =
+    rw (← at .check-sizes .ensures) (c .before .cause .given .1) in
     refused-before (rows at) ((past at ⇒ Code) ∷ []) (at .before .before .before .args .codes .now) (bytes at) refused
 
 pub pack-spec : {M : Type 1} → statement M

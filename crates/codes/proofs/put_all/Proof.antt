@@ -32,7 +32,8 @@ abbrev most : ℕ
 most = 8 + maxDimensionBits
 
 abbrev Inv-loop : tie.InvT-loop
-Inv-loop d b regions codes₀ fewest more column₀ i₀ o₀ waiting₀ bits₀ codes column i o waiting bits = Putting d b regions codes (length codes₀) 8 column i o waiting bits
+Inv-loop d b regions codes₀ fewest more column₀ i₀ o₀ waiting₀ bits₀ codes column i o waiting bits =
+    Putting d b regions codes (length codes₀) 8 column i o waiting bits
 
 abbrev μ-loop : tie.MeasureT-loop
 μ-loop d b regions codes₀ fewest more column₀ i₀ o₀ waiting₀ bits₀ codes column i o waiting bits = length regions - i
@@ -70,13 +71,16 @@ module _ {d b : ℕ} {regions codes : List ℕ} {n column i o waiting bits : ℕ
       omega (arith, at .writing .small)
 
   -- no number is left
-  ended : {top : ℕ} → Putting d b regions codes n top column i o waiting bits → length regions ≤ i → Writing (joined d b 0 regions) [] codes n o waiting bits
+  ended : {top : ℕ} → Putting d b regions codes n top column i o waiting bits → length regions ≤ i
+      → Writing (joined d b 0 regions) [] codes n o waiting bits
   unfolding joined
   ended at past = rw (drop-of-length-le regions past) at (at .writing)
 
 -- the bits of the number that is read in a turn wait
-turn : (c : tie.After-column-bits Inv-loop μ-loop) → let at = c .before .before .loop in let start = c .before .before .before .before .before in
-    Putting (start .args .d) (start .args .b) (start .args .regions .now) (at .codes) (length (start .args .codes .now)) most (nextColumn (start .args .d) (at .column)) (at .i + 1) (at .o)
+turn : (c : tie.After-column-bits Inv-loop μ-loop) → let at = c .before .before .loop in
+    let start = c .before .before .before .before .before in
+    Putting (start .args .d) (start .args .b) (start .args .regions .now) (at .codes) (length (start .args .codes .now)) most
+    (nextColumn (start .args .d) (at .column)) (at .i + 1) (at .o)
     (at .waiting + c .column-bits .result) ((at .bits * 2 ^ c .column-bits .result) % 2 ^ 64 + getD (start .args .regions .now) (at .i) 0)
 turn c =
     let start = c .before .before .before .before .before in
@@ -98,10 +102,16 @@ loop-holds c =
 
 loop-again : tie.Need-loop-again Inv-loop μ-loop
 loop-again c =
-    rw (next-is (c .before .before .before .before .before .before .loop .inv .inside) (c .before .before .next-column .ensures), c .low .ensures) (put (turn (c .before .before .before .before)) (c .before .if1 .taken))
+    rw (
+      next-is (c .before .before .before .before .before .before .loop .inv .inside) (c .before .before .next-column .ensures),
+      c .low .ensures,
+    )
+    (put (turn (c .before .before .before .before)) (c .before .if1 .taken))
 
 loop-again-2 : tie.Need-loop-again-2 Inv-loop μ-loop
-loop-again-2 c = rw (next-is (c .before .before .before .before .before .loop .inv .inside) (c .before .next-column .ensures)) (held (turn (c .before .before .before)) (c .if1 .left))
+loop-again-2 c =
+    rw (next-is (c .before .before .before .before .before .loop .inv .inside) (c .before .next-column .ensures))
+    (held (turn (c .before .before .before)) (c .if1 .left))
 
 -- the last byte is not cut
 exact : {waiting bits : ℕ} → waiting < 8 → bits < 2 ^ waiting → (bits * 2 ^ (8 - waiting)) % 2 ^ 64 ≡ bits * 2 ^ (8 - waiting)
@@ -110,7 +120,8 @@ exact {waiting} few small = shl-exact waiting (8 - waiting) 64 small (omega arit
 cast-codes-2 : tie.Need-cast-codes-2 Inv-loop μ-loop
 cast-codes-2 c =
     let at = c .before .before .loop in
-    rw (exact (at .inv .few) (at .inv .writing .small)) (record { fits = last-lt (ended (at .inv) (c .before .loop-test .left)) (at .inv .few) })
+    rw (exact (at .inv .few) (at .inv .writing .small))
+    (record { fits = last-lt (ended (at .inv) (c .before .loop-test .left)) (at .inv .few) })
 
 returns : tie.Need-returns Inv-loop μ-loop
 returns c =
@@ -141,7 +152,12 @@ put-all-spec =
     (λ c. record { fits = is-byte (turn (c .before .before .before) .writing) (c .if1 .taken) })
     (λ c. has-room (turn (c .before .before .before) .writing) (omega arith))
     (λ c κs. omega (arith, turn (c .before .before .before) .few))
-    (λ c. omega (arith, has-room (turn (c .before .before .before .before) .writing) (omega arith), c .before .before .before .before .before .before .loop .inv .writing .room))
+    (λ c. omega (
+      arith,
+      has-room (turn (c .before .before .before .before) .writing)
+          (omega arith),
+      c .before .before .before .before .before .before .loop .inv .writing .room,
+    ))
     (λ c. omega arith)
     (λ c. omega arith)
     loop-again

@@ -35,25 +35,33 @@ shifted x w = go (eqb (x / 2 ^ w) 0) refl
         le-ltb x (2 ^ w) (omega arith)
 
 -- the whole list is decided by the number at i, and those behind it
-turn : (c : tie.After-column-bits Inv-loop μ-loop) → let at = c .before .before .before .loop in let start = c .before .before .before .before .before in
+turn : (c : tie.After-column-bits Inv-loop μ-loop) → let at = c .before .before .before .loop in
+    let start = c .before .before .before .before .before in
     regionsFit (start .args .d) (start .args .b) 0 (start .args .regions .now)
     ≡ eqb (getD (start .args .regions .now) (at .i) 0 / 2 ^ c .column-bits .result) 0
-    && regionsFit (start .args .d) (start .args .b) (nextColumn (start .args .d) (at .column)) (drop (at .i + 1) (start .args .regions .now))
+    && regionsFit (start .args .d) (start .args .b) (nextColumn (start .args .d) (at .column))
+    (drop (at .i + 1) (start .args .regions .now))
 turn c =
     let start = c .before .before .before .before .before in
     let at = c .before .before .before .loop in
     let args = start .args in
     at .inv .1 ∙ fit-next (args .d) (args .b) (at .column) (args .regions .now) (at .i) (c .before .before .loop-test .taken)
-    ∙ rw (width (start .pre) (c .column-bits .ensures) .is, shifted (getD (args .regions .now) (at .i) 0) (bitsOf (args .d) (args .b) (suc (at .column))))
+    ∙ rw (
+      width (start .pre) (c .column-bits .ensures) .is,
+      shifted (getD (args .regions .now) (at .i) 0)
+          (bitsOf (args .d) (args .b) (suc (at .column))),
+    )
 
 returns : tie.Need-returns Inv-loop μ-loop
 returns c = sym (turn (c .before) ∙ rw (ne-eqb _ 0 (c .if1 .taken)))
 
 loop-again : tie.Need-loop-again Inv-loop μ-loop
 loop-again c =
-    let start = c .before .before .before .before .before .before .before in
-    let at = c .before .before .before .before .before .loop in
-    rw (next-is (at .inv .0) (c .next-column .ensures)) (next-below (start .args .d) (at .column) (at .inv .0), turn (c .before .before) ∙ rw (eq-eqb _ 0 (c .before .if1 .left)))
+    let inside = c .before .before .before .before .before in
+    let at = inside .loop in
+    let d = inside .before .before .args .d in
+    rw (next-is (at .inv .0) (c .next-column .ensures))
+    (next-below d (at .column) (at .inv .0), turn (c .before .before) ∙ rw (eq-eqb _ 0 (c .before .if1 .left)))
 
 returns-2 : tie.Need-returns-2 Inv-loop μ-loop
 unfolding regionsFit

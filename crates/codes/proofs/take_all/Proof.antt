@@ -31,7 +31,8 @@ abbrev μ-loop : tie.MeasureT-loop
 μ-loop d b codes regions₀ fewest more column₀ i₀ from₀ regions column i from = length regions₀ - i
 
 module _ {d b : ℕ} {codes regions : List ℕ} {n column i from : ℕ} (at : Taking d b codes regions n column i from) where
-  takes : {w : ℕ} → Width d b column w → i < n → Taking d b codes (set regions i (bitsAt codes from w)) n (nextColumn d column) (i + 1) (from + w)
+  takes : {w : ℕ} → Width d b column w → i < n
+      → Taking d b codes (set regions i (bitsAt codes from w)) n (nextColumn d column) (i + 1) (from + w)
   unfolding split
   takes {w} wide more =
       let left : n - i ≡ suc (n - (i + 1)) = omega arith in
@@ -55,7 +56,11 @@ byte : tie.Need-cast-regions Inv-loop μ-loop
 byte c =
     let start = c .before .before .before .before .before .before in
     let wide = width (start .pre .0) (c .before .column-bits .ensures) in
-    rw (c .bits-at .ensures) (record { fits = bits-at-lt (start .args .codes .now) (c .before .before .before .loop .from) (c .before .column-bits .result) (omega (arith, wide .few)) })
+    rw (c .bits-at .ensures)
+    (record {
+      fits = bits-at-lt (start .args .codes .now) (c .before .before .before .loop .from) (c .before .column-bits .result)
+          (omega (arith, wide .few));
+    })
 
 add-from : tie.Need-add-from Inv-loop μ-loop
 add-from c =

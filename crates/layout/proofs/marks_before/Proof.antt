@@ -33,10 +33,12 @@ add-result-2 c =
     let args = c .before .before .args in
     let few = least-le (args .j) (args .more) (c .least .result) (c .before .before .pre .1) (c .least .ensures) in
     let small = c .before .power .ensures .1 in
-    omega (arith, every (args .j) (c .before .power .result) (c .before .before .pre .1) small, some (c .least .result) (c .before .power .result) few small)
+    let regions = c .before .power .result in
+    omega (arith, every (args .j) regions (c .before .before .pre .1) small, some (c .least .result) regions few small)
 
 returns : tie.Need-returns
 returns c = rw (c .before .power .ensures .0, c .least .ensures)
 
 pub marks-before-spec : {M : Type 1} → statement M
-marks-before-spec = tie.close (tie.spec (λ c κs. search needs) (λ c. search needs) mul-result (λ c κs. search needs) mul-result-2 add-result-2 returns)
+marks-before-spec =
+    tie.close (tie.spec (λ c κs. search needs) (λ c. search needs) mul-result (λ c κs. search needs) mul-result-2 add-result-2 returns)

@@ -14,7 +14,7 @@ use Rattle.layout.specs.Stretch.{stretchOf, Numbered, numbered}
 use Rattle.layout.proofs.stretch_of.Statement.{statement}
 use Rattle.layout.proofs.stretch_of.Tie as tie
 
-accepted : (c : tie.After-enum-told) → Numbered (c .before .before .before .args .d) (c .before .before .before .args .b) (c .before .before .before .args .j)
+accepted : (c : tie.After-enum-told) → let a = c .before .before .before .args in Numbered (a .d) (a .b) (a .j)
 accepted c = numbered _ _ _ (sym (c .before .before .check-dimension .ensures) ∙ c .enum-told .given .1)
 
 add-bits : tie.Need-add-bits
@@ -29,7 +29,7 @@ marks-before-requires c κs =
     (fewest-le 6 _ _ (held .shaped .bits), omega (arith, held .is, held .within, held .shaped .few))
 
 -- the bits, by the arm that was taken
-bits-of : (c : tie.Joined1) → c .if1 .bits ≡ bitsOf (c .before .before .before .before .args .d) (c .before .before .before .before .args .b) (c .before .before .before .before .args .j)
+bits-of : (c : tie.Joined1) → let a = c .before .before .before .before .args in c .if1 .bits ≡ bitsOf (a .d) (a .b) (a .j)
 unfolding bitsOf
 bits-of c =
     let args = c .before .before .before .before .args in
@@ -39,15 +39,18 @@ bits-of c =
     (c .if1 .came)
 
 -- a stretch, from its parts
-made : {offset offset' bits bits' : ℕ} → offset ≡ offset' → bits ≡ bits' → _≡_ {A = Stretch} (record { offset = offset; bits = bits }) (record { offset = offset'; bits = bits' })
+made : {offset offset' bits bits' : ℕ} → offset ≡ offset' → bits ≡ bits'
+    → _≡_ {A = Stretch} (record { offset = offset; bits = bits }) (record { offset = offset'; bits = bits' })
 made e f = λ i. record { offset = e i; bits = f i }
 
 returns : tie.Need-returns
 unfolding stretchOf
 returns c =
-    let args = c .before .before .before .before .before .args in
+    let told = c .before .before in
+    let asked = told .before .before in
+    let args = asked .before .args in
     made (c .marks-before .ensures ∙ sym (first-marks (args .d) (args .b) (args .j - 1))) (bits-of (c .before))
-    ∙ sym (outcome-accepted _ _ (sym (c .before .before .before .before .check-dimension .ensures) ∙ c .before .before .enum-told .given .1))
+    ∙ sym (outcome-accepted _ _ (sym (asked .check-dimension .ensures) ∙ told .enum-told .given .1))
 
 returns-2 : tie.Need-returns-2
 unfolding stretchOf

@@ -10,7 +10,10 @@ use Rattle.tell.proofs.component.Tie as tie
 returns : tie.Need-returns
 returns c =
     let is = sym (c .before .before .before .intake .ensures) ∙ c .before .z .given .1 in
-    record { status = sym (ap intakeNumber is); component = toZ-ofZ w32 _ (record { sfits = c .known-told .given .0 .1 }) ∙ sym (ap (componentOr _) is) }
+    record {
+      status = sym (ap intakeNumber is);
+      component = toZ-ofZ w32 _ (record { sfits = c .known-told .given .0 .1 }) ∙ sym (ap (componentOr _) is);
+    }
 
 returns-2 : tie.Need-returns-2
 returns-2 c =
@@ -18,4 +21,5 @@ returns-2 c =
     record { status = c .number .ensures ∙ sym (ap intakeNumber is); component = sym (ap (componentOr _) is) }
 
 pub component-spec : {M : Type 1} → statement M
-component-spec = tie.close (tie.spec (λ c κs. search needs) (λ c. search needs) (λ c. search needs) (λ c κs. search needs) returns returns-2)
+component-spec =
+    tie.close (tie.spec (λ c κs. search needs) (λ c. search needs) (λ c. search needs) (λ c κs. search needs) returns returns-2)

@@ -15,7 +15,8 @@ use Rattle.bounds.proofs.inside.all_inside.Tie as tie
 sizes : (start : tie.Start) → Sized (start .args .d) (start .args .b) (start .args .i)
 sizes start = sized (start .args .d) (start .args .b) (start .args .i) (start .pre .0) (start .pre .2)
 
-there : (start : tie.Start) → Runs (start .args .d) (start .args .b) (start .args .i) (length (start .args .codes .now)) (length (start .args .marks .now))
+there : (start : tie.Start) → Runs (start .args .d) (start .args .b) (start .args .i) (length (start .args .codes .now))
+    (length (start .args .marks .now))
 there start = runs (sizes start) (start .pre .1) (start .pre .3)
 
 returns : tie.Need-returns
@@ -23,7 +24,8 @@ returns c =
     let start = c .before .before .before in
     let a = start .args in
     sym
-    (two-inside (a .marks .now) (a .codes .now) (a .i) (a .vector .now) (a .d) (a .b) (sizes start .fewest) (omega (arith, sizes start .more))
+    (two-inside (a .marks .now) (a .codes .now) (a .i) (a .vector .now) (a .d) (a .b) (sizes start .fewest)
+    (omega (arith, sizes start .more))
     ∙ rw (sym (c .before .run-inside .ensures) ∙ not-true (c .before .run-inside .result) (c .if1 .taken)))
 
 returns-2 : tie.Need-returns-2

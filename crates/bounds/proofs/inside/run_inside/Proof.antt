@@ -23,7 +23,8 @@ use Rattle.bounds.proofs.inside.run_inside.Statement.{statement}
 use Rattle.bounds.proofs.inside.run_inside.Tie as tie
 
 -- the loop's invariant
-record Running (marks : List ℤ) (codes : List ℕ) (w first-bit first-start : ℕ) (vector : List ℤ) (count bits waiting next start t : ℕ) : Type 0 where
+record Running (marks : List ℤ) (codes : List ℕ) (w first-bit first-start : ℕ) (vector : List ℤ)
+    (count bits waiting next start t : ℕ) : Type 0 where
   walk : Walk codes w first-bit first-start count bits waiting next start t
   so-far : runInside marks codes w first-bit first-start vector t ≡ true
 
@@ -48,36 +49,51 @@ take-requires c κs =
     (rw (place walk (pre .0) less) (walk .waits), pre .0, there walk (pre .0) less (pre .1))
 
 -- the marks that are read are there
-entry : (c : tie.After-struct-known Inv-loop μ-loop) → let at = c .before .before .before in let start = at .before .before .before .before in
-    at .loop .start + bitAnd (c .before .take .result .bits / 2 ^ c .before .take .result .count) (1 * 2 ^ start .args .w % 2 ^ 64 - 1) + 1 < length (start .args .marks .now)
+entry : (c : tie.After-struct-known Inv-loop μ-loop) → let at = c .before .before .before in
+    let start = at .before .before .before .before in
+    at .loop .start + bitAnd (c .before .take .result .bits / 2 ^ c .before .take .result .count)
+    (1 * 2 ^ start .args .w % 2 ^ 64 - 1) + 1 < length (start .args .marks .now)
 entry c =
     let at = c .before .before .before in
     let start = at .before .before .before .before in
-    index (at .loop .inv .walk) (start .pre .0) (omega arith) (start .pre .2) (c .before .take .result .bits / 2 ^ c .before .take .result .count)
+    index (at .loop .inv .walk) (start .pre .0) (omega arith) (start .pre .2)
+    (c .before .take .result .bits / 2 ^ c .before .take .result .count)
+
+-- and so is the component
+component-there : (c : tie.After-struct-known Inv-loop μ-loop) → let at = c .before .before .before in
+    at .loop .t < length (at .before .before .before .before .args .vector .now)
+component-there c =
+    let at = c .before .before .before in
+    omega (arith, at .before .before .before .before .pre .3, c .before .before .loop-test .taken)
 
 -- the test of component t + 1, and that it was made
 abbrev test : List ℤ → List ℕ → ℕ → ℕ → ℕ → List ℤ → ℕ → Bool
 test marks codes w bit start vector t = between marks (start + t * (2 ^ w + 1) + bitsAt codes (bit + t * w) w) (getD vector t (pos 0))
 
-tests : (marks : List ℤ) (codes : List ℕ) (w bit start : ℕ) (vector : List ℤ) → All (runInside marks codes w bit start vector) (test marks codes w bit start vector)
+tests : (marks : List ℤ) (codes : List ℕ) (w bit start : ℕ) (vector : List ℤ)
+    → All (runInside marks codes w bit start vector) (test marks codes w bit start vector)
 unfolding runInside
 tests marks codes w bit start vector = record { next = λ t. refl }
 
-told : (c : tie.After-is-between Inv-loop μ-loop) → let at = c .before .before .before .before .before in let a = at .before .before .before .before .args in
+told : (c : tie.After-is-between Inv-loop μ-loop) → let at = c .before .before .before .before .before in
+    let a = at .before .before .before .before .args in
     c .is-between .result ≡ test (a .marks .now) (a .codes .now) (a .w) (a .first-bit) (a .first-start) (a .vector .now) (at .loop .t)
 told c =
     let at = c .before .before .before .before .before in
     let start = at .before .before .before .before in
     let walk = at .loop .inv .walk in
-    let component = toZ-ofZ w32 (getD (start .args .vector .now) (at .loop .t) (pos 0)) (record { sfits = c .before .is-between-arg .given }) in
-    c .is-between .ensures ∙ rw (component, region walk (start .pre .0) (omega arith) (c .before .before .before .take .ensures), walk .start-is)
+    let component =
+    toZ-ofZ w32 (getD (start .args .vector .now) (at .loop .t) (pos 0)) (record { sfits = c .before .is-between-arg .given }) in
+    c .is-between .ensures
+    ∙ rw (component, region walk (start .pre .0) (omega arith) (c .before .before .before .take .ensures), walk .start-is)
 
 returns-2 : tie.Need-returns-2 Inv-loop μ-loop
 returns-2 c =
     let at = c .before .before .before .before .before .before in
     let a = at .before .before .before .before .args in
     sym
-    (all-fails (tests (a .marks .now) (a .codes .now) (a .w) (a .first-bit) (a .first-start) (a .vector .now)) (a .count) (at .loop .t) (omega arith)
+    (all-fails (tests (a .marks .now) (a .codes .now) (a .w) (a .first-bit) (a .first-start) (a .vector .now)) (a .count) (at .loop .t)
+    (omega arith)
     (sym (told (c .before)) ∙ not-true (c .before .is-between .result) (c .if2 .taken)))
 
 loop-again : tie.Need-loop-again Inv-loop μ-loop
@@ -89,11 +105,13 @@ loop-again c =
     record {
       walk = goes-on (at .loop .inv .walk) (start .pre .0) (omega arith) (took .take .ensures);
       so-far = rw (add-one (at .loop .t))
-          (all-next (tests (a .marks .now) (a .codes .now) (a .w) (a .first-bit) (a .first-start) (a .vector .now)) (at .loop .t) (at .loop .inv .so-far)
+          (all-next (tests (a .marks .now) (a .codes .now) (a .w) (a .first-bit) (a .first-start) (a .vector .now)) (at .loop .t)
+          (at .loop .inv .so-far)
           ∙ sym (told (c .before)) ∙ not-false (c .before .is-between .result) (c .if2 .left));
     }
 
-next-start : (c : tie.Else2 Inv-loop μ-loop) → let at = c .before .before .before .before .before .before in let start = at .before .before .before .before in
+next-start : (c : tie.Else2 Inv-loop μ-loop) → let at = c .before .before .before .before .before .before in
+    let start = at .before .before .before .before in
     at .loop .start + (1 * 2 ^ start .args .w % 2 ^ 64 + 1) ≤ length (start .args .marks .now)
 next-start c =
     let at = c .before .before .before .before .before .before in
@@ -120,8 +138,8 @@ run-inside-spec =
     take-requires
     (λ c. omega (arith, c .before .take .ensures .rest .few))
     (λ c. omega (arith, entry c))
-    (λ c. omega (arith, c .before .before .before .before .before .before .before .pre .3))
-    (λ c. omega (arith, c .before .before .before .before .before .before .before .pre .3))
+    (λ c. omega (arith, component-there c))
+    (λ c. omega (arith, component-there c))
     (λ c κs. entry (c .before))
     returns-2
     (λ c. omega (arith, next-start c))

@@ -15,7 +15,8 @@ use Rattle.bounds.proofs.sum.code_bound.Tie as tie
 sizes : (start : tie.Start) → Sized (start .args .d) (start .args .b) (start .args .i)
 sizes start = sized (start .args .d) (start .args .b) (start .args .i) (start .pre .0) (start .pre .2)
 
-there : (start : tie.Start) → Runs (start .args .d) (start .args .b) (start .args .i) (length (start .args .codes .now)) (length (start .args .table .now))
+there : (start : tie.Start) → Runs (start .args .d) (start .args .b) (start .args .i) (length (start .args .codes .now))
+    (length (start .args .table .now))
 there start = runs (sizes start) (start .pre .1) (start .pre .3)
 
 returns : tie.Need-returns
@@ -24,8 +25,10 @@ returns c =
     let start = c .before .before .before .before .before in
     let args = start .args in
     let told = sizes start in
-    sum-more-mod _ _ (c .wrapping-add-u64 .ensures) (c .before .before .sum-run .ensures) (rw (told .shift .exact) at (c .before .sum-run2 .ensures))
-    ∙ ap (λ (n : ℕ). n % 2 ^ 64) (sym (two-runs (args .d) (args .b) (told .fewest) (args .table .now) (args .codes .now) (args .i) (omega (arith, told .more))))
+    sum-more-mod _ _ (c .wrapping-add-u64 .ensures) (c .before .before .sum-run .ensures)
+    (rw (told .shift .exact) at (c .before .sum-run2 .ensures))
+    ∙ ap (λ (n : ℕ). n % 2 ^ 64)
+    (sym (two-runs (args .d) (args .b) (told .fewest) (omega (arith, told .more)) (args .table .now) (args .codes .now) (args .i)))
 
 pub code-bound-spec : {M : Type 1} → statement M
 code-bound-spec =
@@ -42,6 +45,7 @@ code-bound-spec =
     (λ c. omega (arith, sizes (c .before .before .before) .wide-bits))
     (λ c. omega (arith, sizes (c .before .before .before) .wide-bits, sizes (c .before .before .before) .bits))
     (λ c. omega (arith, sizes (c .before .before .before) .more))
-    (λ c κs. rw (sizes (c .before .before .before) .shift .exact) (omega (arith, sizes (c .before .before .before) .fewest, there (c .before .before .before))))
+    (λ c κs. rw (sizes (c .before .before .before) .shift .exact)
+    (omega (arith, sizes (c .before .before .before) .fewest, there (c .before .before .before))))
     (λ c κs. search needs)
     returns)

@@ -21,7 +21,8 @@ abbrev μ-loop : tie.MeasureT-loop
 code-bound-requires : tie.Need-code-bound-requires Inv-loop μ-loop
 code-bound-requires c κs =
     let start = c .before .before .before .before .before in
-    let more : suc (c .before .loop .i) * start .args .b ≤ length (start .args .bounds .now) * start .args .b = mul-le-mul (omega arith) (le-refl (start .args .b)) in
+    let more : suc (c .before .loop .i) * start .args .b ≤ length (start .args .bounds .now) * start .args .b =
+    mul-le-mul (omega arith) (le-refl (start .args .b)) in
     (start .pre .0, start .pre .1, omega (arith, start .pre .2), omega (arith, start .pre .3))
 
 loop-again : tie.Need-loop-again Inv-loop μ-loop
@@ -33,7 +34,8 @@ loop-again c =
     let more : at .i < n = omega arith in (
       omega arith,
       simp length-set (at .inv .1),
-      filling-next (valuesFrom f 0 n) (at .bounds) (at .i) (c .code-bound .result) 0 (omega (arith, values-length f 0 n)) (c .code-bound .ensures ∙ sym (value-at f n (at .i) more)) (at .inv .2),
+      filling-next (valuesFrom f 0 n) (at .bounds) (at .i) (c .code-bound .result) 0 (omega (arith, values-length f 0 n))
+          (c .code-bound .ensures ∙ sym (value-at f n (at .i) more)) (at .inv .2),
     )
 
 returns : tie.Need-returns Inv-loop μ-loop

@@ -11,7 +11,7 @@ use lib.Pow.{pow-pos}
 use Rattle.distance.proofs.Sum.{sum-more}
 use Rattle.cells.proofs.Runs.{regions}
 use Rattle.bounds.specs.Run.{runSum}
-use Rattle.bounds.specs.Waiting.{Taken}
+use Rattle.bounds.specs.BitBuffer.{Taken}
 use Rattle.bounds.proofs.Walk.{Walk, sets-out, place, there, index, stride, region, goes-on}
 use Rattle.bounds.proofs.sum.sum_run.Statement.{statement}
 use Rattle.bounds.proofs.sum.sum_run.Tie as tie
@@ -49,7 +49,8 @@ next {table} {codes} {w} {first-bit} {first-start} {t = t} at few less took is =
     }
 
 done : {table codes : List ℕ} {w first-bit first-start count bits waiting next start sum t : ℕ}
-    → Running table codes w first-bit first-start count bits waiting next start sum t → count ≤ t → sum ≡ runSum table codes w first-bit first-start count % 2 ^ 64
+    → Running table codes w first-bit first-start count bits waiting next start sum t → count ≤ t
+    → sum ≡ runSum table codes w first-bit first-start count % 2 ^ 64
 done {count = count} {t = t} at past =
     let all : t ≡ count = omega (arith, at .walk .within) in
     rw all at (at .so-far)
@@ -62,14 +63,18 @@ take-requires c κs =
     (rw (place walk (pre .0) less) (walk .waits), pre .0, there walk (pre .0) less (pre .1))
 
 -- the entry that is read is one of the table's
-entry : (c : tie.After-struct-known Inv-loop μ-loop) → let at = c .before .before .before in let start = at .before .before .before .before .before in
-    at .loop .start + bitAnd (c .before .take .result .bits / 2 ^ c .before .take .result .count) (1 * 2 ^ start .args .w % 2 ^ 64 - 1) + 1 < length (start .args .table .now)
+entry : (c : tie.After-struct-known Inv-loop μ-loop) → let at = c .before .before .before in
+    let start = at .before .before .before .before .before in
+    at .loop .start + bitAnd (c .before .take .result .bits / 2 ^ c .before .take .result .count)
+    (1 * 2 ^ start .args .w % 2 ^ 64 - 1) + 1 < length (start .args .table .now)
 entry c =
     let at = c .before .before .before in
     let start = at .before .before .before .before .before in
-    index (at .loop .inv .walk) (start .pre .0) (omega arith) (start .pre .2) (c .before .take .result .bits / 2 ^ c .before .take .result .count)
+    index (at .loop .inv .walk) (start .pre .0) (omega arith) (start .pre .2)
+    (c .before .take .result .bits / 2 ^ c .before .take .result .count)
 
-next-start : (c : tie.After-wrapping-add-u64 Inv-loop μ-loop) → let at = c .before .before .before .before .before in let start = at .before .before .before .before .before in
+next-start : (c : tie.After-wrapping-add-u64 Inv-loop μ-loop) → let at = c .before .before .before .before .before in
+    let start = at .before .before .before .before .before in
     at .loop .start + (1 * 2 ^ start .args .w % 2 ^ 64 + 1) ≤ length (start .args .table .now)
 next-start c =
     let at = c .before .before .before .before .before in
@@ -90,7 +95,8 @@ sum-run-spec =
     μ-loop
     (λ c. unfold runSum in rw (c .if1 .taken))
     (λ c. omega (arith, c .before .before .before .pre .0))
-    (λ c. rw (regions (c .before .before .before .args .w) (c .before .before .before .pre .0) .exact) (pow-pos (c .before .before .before .args .w)))
+    (λ c. rw (regions (c .before .before .before .args .w) (c .before .before .before .pre .0) .exact)
+    (pow-pos (c .before .before .before .args .w)))
     (λ c κs. search needs)
     loop-holds
     take-requires

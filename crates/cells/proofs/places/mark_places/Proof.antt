@@ -20,6 +20,29 @@ returns c =
     rw (sizes .shift .exact, one .place-run .ensures, sub-zero) at (two .place-run2 .ensures)
     ∙ two-runs (args .d) (args .b) (args .codes .now) (args .i) (sizes .fewest) (omega (arith, sizes .more))
 
+first-requires : tie.Need-place-run-requires
+first-requires c κs =
+    let start = c .before .before .before in
+    omega (arith, told start, start .pre .2)
+
+-- the second run behind the first
+second-requires : tie.Need-place-run-requires-2
+second-requires c κs =
+    let one = c .before .before .before in
+    let start = one .before .before .before .before in
+    rw (told start .shift .exact) (omega (arith, told start, start .pre .2, one .place-run .kept .1 .1 .1 .1 .1 .1 .0))
+
+same-length : tie.Need-same-length
+same-length c =
+    let two = c .before .before in
+    let one = two .before .before .before .before in
+    two .place-run2 .kept .1 .1 .1 .1 .1 .1 .0 ∙ one .place-run .kept .1 .1 .1 .1 .1 .1 .0
+
+second-bit : tie.Need-add-place-run
+second-bit c =
+    let sizes = told (c .before .before .before .before .before .before) in
+    omega (arith, sizes .wide-bits, sizes .bits)
+
 pub mark-places-spec : {M : Type 1} → statement M
 mark-places-spec =
     tie.close
@@ -31,10 +54,9 @@ mark-places-spec =
     (λ c. omega (arith, told (c .before .before) .fewest))
     (λ c. omega (arith, told (c .before .before) .shift .exact, told (c .before .before) .shift .most))
     (λ c. rw (told (c .before .before) .shift .exact) (omega (arith, told (c .before .before) .wide-marks)))
-    (λ c κs. omega (arith, told (c .before .before .before), c .before .before .before .pre .2))
+    first-requires
     (λ c. omega (arith, told (c .before .before .before .before .before .before) .wide-bits))
-    (λ c. omega (arith, told (c .before .before .before .before .before .before) .wide-bits, told (c .before .before .before .before .before .before) .bits))
-    (λ c κs. rw (told (c .before .before .before .before .before .before .before) .shift .exact)
-    (omega (arith, told (c .before .before .before .before .before .before .before), c .before .before .before .before .before .before .before .pre .2, c .before .before .before .place-run .kept .1 .1 .1 .1 .1 .1 .0)))
-    (λ c. c .before .before .place-run2 .kept .1 .1 .1 .1 .1 .1 .0 ∙ c .before .before .before .before .before .before .place-run .kept .1 .1 .1 .1 .1 .1 .0)
+    second-bit
+    second-requires
+    same-length
     returns)

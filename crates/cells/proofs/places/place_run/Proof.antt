@@ -39,8 +39,10 @@ loop-holds c =
       so-far = refl;
     }
 
-module _ {codes : List ℕ} {w end room : ℕ} {whole places : List ℕ} {bit start t : ℕ} (at : Running codes w end room whole places bit start t) where
-  next : w ≤ 7 → t < end → end ≤ room → Running codes w end room whole (set places t (start + bitsAt codes bit w)) (bit + w) (start + (1 * 2 ^ w % 2 ^ 64 + 1)) (t + 1)
+module _ {codes : List ℕ} {w end room : ℕ} {whole places : List ℕ} {bit start t : ℕ}
+    (at : Running codes w end room whole places bit start t) where
+  next : w ≤ 7 → t < end → end ≤ room → Running codes w end room whole (set places t (start + bitsAt codes bit w)) (bit + w)
+      (start + (1 * 2 ^ w % 2 ^ 64 + 1)) (t + 1)
   unfolding runPlaces
   next few less enough =
       let shift = regions w few in
@@ -69,7 +71,8 @@ record Sums (bit start w region : ℕ) : Type 0 where
   power : 1 * 2 ^ w % 2 ^ 64 ≤ 128
   number : region < 256
 
-sums : (c : tie.After-bits-at Inv-loop μ-loop) → let at = c .before .before in Sums (at .loop .bit) (at .loop .start) (at .before .before .before .args .w) (c .bits-at .result)
+sums : (c : tie.After-bits-at Inv-loop μ-loop) → let at = c .before .before in
+    Sums (at .loop .bit) (at .loop .start) (at .before .before .before .args .w) (c .bits-at .result)
 sums c =
     let at = c .before .before in
     let start = at .before .before .before in
@@ -79,7 +82,8 @@ sums c =
       start-small = omega (arith, at .loop .inv .start-small, at .loop .inv .within, start .pre);
       few = start .pre .0;
       power = rw (shift .exact) (shift .most);
-      number = rw (c .bits-at .ensures) (bits-at-lt (start .args .codes .now) (at .loop .bit) (start .args .w) (omega (arith, start .pre .0)));
+      number = rw (c .bits-at .ensures) (bits-at-lt (start .args .codes .now) (at .loop .bit) (start .args .w)
+          (omega (arith, start .pre .0)));
     }
 
 loop-again : tie.Need-loop-again Inv-loop μ-loop

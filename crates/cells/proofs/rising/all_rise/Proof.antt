@@ -9,8 +9,8 @@ use borrow.Author.Tests.{not-true, not-false}
 use Rattle.limits.specs.Tests.{all-next, all-fails}
 use Rattle.layout.specs.declared.Stretch.{Stretch}
 use Rattle.layout.specs.Layout.{regionCount, firstMarks}
+use Rattle.layout.specs.Laws.{shifted}
 use Rattle.layout.specs.Stretch.{stretches, dimension-accepted}
-use Rattle.partition.proofs.Power.{shifted}
 use Rattle.cells.specs.Rising.{risesFrom, risesFirst, first-tests}
 use Rattle.cells.proofs.rising.all_rise.Statement.{statement}
 use Rattle.cells.proofs.rising.all_rise.Tie as tie
@@ -32,16 +32,18 @@ record Placed (d b t : ℕ) (s : Stretch) : Type 0 where
   count-is : 1 * 2 ^ s .bits % 2 ^ 64 ≡ regionCount d b (suc t)
   small : s .offset + 1 * 2 ^ s .bits % 2 ^ 64 ≤ 4096
 
-placed : (c : tie.After-struct-known Inv-loop μ-loop) → Placed (c .before .before .before .before .args .d) (c .before .before .before .before .args .b) (c .before .before .before .loop .t) (c .before .stretch-of .result)
+placed : (c : tie.After-struct-known Inv-loop μ-loop) → let at = c .before .before .before in let a = at .before .args in
+    Placed (a .d) (a .b) (at .loop .t) (c .before .stretch-of .result)
 placed c =
-    let start = c .before .before .before .before in
+    let known = c .before in
+    let at = known .before .before in
+    let start = at .before in
     let d = start .args .d in
     let b = start .args .b in
-    let t = c .before .before .before .loop .t in
-    let w = c .before .stretch-of .result .bits in
-    let s = stretches (dimension-accepted d b t (start .pre) (c .before .before .loop-test .taken)) (c .before .stretch-of .ensures) in
+    let t = at .loop .t in
+    let s = stretches (dimension-accepted d b t (start .pre) (known .before .loop-test .taken)) (known .stretch-of .ensures) in
     let back : t + 1 - 1 ≡ t = omega arith in
-    let power = shifted w (s .few-bits) in
+    let power = shifted (known .stretch-of .result .bits) (omega (arith, s .few-bits)) in
     record {
       offset-is = s .offset-is ∙ ap (firstMarks d b) back;
       few-bits = s .few-bits;
@@ -50,10 +52,8 @@ placed c =
     }
 
 -- what the dimension's test gave
-tested : (c : tie.After-rises Inv-loop μ-loop)
-    → c .rises .result
-    ≡ risesFrom (c .before .before .before .before .before .args .marks .now) (firstMarks (c .before .before .before .before .before .args .d) (c .before .before .before .before .before .args .b) (c .before .before .before .before .loop .t))
-    (regionCount (c .before .before .before .before .before .args .d) (c .before .before .before .before .before .args .b) (suc (c .before .before .before .before .loop .t)))
+tested : (c : tie.After-rises Inv-loop μ-loop) → let at = c .before .before .before .before in let a = at .before .args in
+    c .rises .result ≡ risesFrom (a .marks .now) (firstMarks (a .d) (a .b) (at .loop .t)) (regionCount (a .d) (a .b) (suc (at .loop .t)))
 tested c = c .rises .ensures ∙ rw (placed (c .before) .offset-is, placed (c .before) .count-is)
 
 returns : tie.Need-returns Inv-loop μ-loop
@@ -61,7 +61,8 @@ returns c =
     let at = c .before .before .before .before .before in
     let args = at .before .args in
     sym
-    (all-fails (first-tests (args .d) (args .b) (args .marks .now)) (args .d) (at .loop .t) (c .before .before .before .before .loop-test .taken)
+    (all-fails (first-tests (args .d) (args .b) (args .marks .now)) (args .d) (at .loop .t)
+    (c .before .before .before .before .loop-test .taken)
     (sym (tested (c .before)) ∙ not-true (c .before .rises .result) (c .if1 .taken)))
 
 loop-again : tie.Need-loop-again Inv-loop μ-loop

@@ -18,11 +18,17 @@ unfolding byteBits
 drop-bytes zero bytes = refl
 drop-bytes (suc q) [] = drop-nil (suc q * 8)
 drop-bytes (suc q) (x ∷ bytes) =
-    rw (suc-mul q 8, add-comm (q * 8) 8, ← drop-drop (q * 8) 8 (lowBits 8 x ++ byteBits bytes), drop-at (lowBits 8 x) (byteBits bytes) 8 (length-low 8 x))
+    rw (
+      suc-mul q 8,
+      add-comm (q * 8) 8,
+      ← drop-drop (q * 8) 8 (lowBits 8 x ++ byteBits bytes),
+      drop-at (lowBits 8 x) (byteBits bytes) 8 (length-low 8 x),
+    )
     (drop-bytes q bytes)
 
 -- the bits of the first two bytes, as those of one number, in front of the rest
-two-bytes : (bytes : List ℕ) → Bytes bytes → Same (byteBits bytes) (lowBits 16 (getD bytes 0 0 * 256 + getD bytes 1 0) ++ byteBits (drop 2 bytes))
+two-bytes : (bytes : List ℕ) → Bytes bytes
+    → Same (byteBits bytes) (lowBits 16 (getD bytes 0 0 * 256 + getD bytes 1 0) ++ byteBits (drop 2 bytes))
 unfolding byteBits
 two-bytes [] small = rw append-nil (same-zeros 16 [])
 two-bytes (x ∷ []) small = rw (append-nil (lowBits 8 x), append-nil, ← low-join 8 8 x 0 (small 1)) (same-zeros 8 (lowBits 8 x))
@@ -45,7 +51,11 @@ read bytes small from w few =
     let cut : drop from (byteBits bytes) ≡ drop (from % 8) (byteBits (drop q bytes)) =
     rw (← drop-bytes q bytes, drop-drop, div-add-mod') in
     let rest : Bytes (drop q bytes) = λ i. rw (getD-drop q bytes i 0) (small (q + i)) in
-    rw (le-leb w 8 few, cut) (sym (rw (getD-drop q bytes 0 0, getD-drop q bytes 1 0, add-zero q) at (in-two (drop q bytes) rest (from % 8) w (omega arith) few)))
+    rw (
+      le-leb w 8 few,
+      cut,
+    )
+    (sym (rw (getD-drop q bytes 0 0, getD-drop q bytes 1 0, add-zero q) at (in-two (drop q bytes) rest (from % 8) w (omega arith) few)))
 
 returns : tie.Need-returns
 unfolding bitsAt

@@ -22,7 +22,12 @@ two-bytes-spec =
     (λ c. search needs)
     (λ c. search needs)
     (λ c. omega (arith, c .shared-slice-known3 .given (c .before .before .before .before .args .i + 1)))
-    (λ c. omega (arith, c .shared-slice-known3 .given (c .before .before .before .before .args .i), c .shared-slice-known3 .given (c .before .before .before .before .args .i + 1)))
+    (λ c. omega (
+      arith,
+      c .shared-slice-known3 .given (c .before .before .before .before .args .i),
+      c .shared-slice-known3 .given
+          (c .before .before .before .before .args .i + 1),
+    ))
     (λ c. search needs)
     (λ c κs. search needs)
     (λ c. omega (arith, c .byte-at .ensures, c .before .before .shared-slice-known .given (c .before .before .before .args .i)))

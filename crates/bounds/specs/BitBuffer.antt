@@ -1,4 +1,4 @@
--- Bits of codes that were read and not yet taken. Assumes nothing.
+-- A bit buffer over codes: bits that were read and not yet taken. Assumes nothing.
 use mathlib.Core.Path.{_≡_, refl, sym, _∙_}
 use mathlib.Core.List.{List, [], _∷_, _++_}
 use Prim.Native.Nat.{ℕ, zero, suc, _+_, _-_, _*_, _/_, _%_, _^_, _≤_, _<_}
@@ -56,7 +56,12 @@ unfolding byteBits
 byte-bits [] bytes i = rw (drop-nil (i * 8)) (unfold fromBits in refl)
 byte-bits (x ∷ codes) bytes zero = from-low 8 x (byteBits codes) ∙ mod-eq-of-lt (bytes 0)
 byte-bits (x ∷ codes) bytes (suc i) =
-    rw (suc-mul i 8, add-comm (i * 8) 8, ← drop-drop (i * 8) 8 (lowBits 8 x ++ byteBits codes), drop-at (lowBits 8 x) (byteBits codes) 8 (length-low 8 x))
+    rw (
+      suc-mul i 8,
+      add-comm (i * 8) 8,
+      ← drop-drop (i * 8) 8 (lowBits 8 x ++ byteBits codes),
+      drop-at (lowBits 8 x) (byteBits codes) 8 (length-low 8 x),
+    )
     (byte-bits codes (λ j. bytes (suc j)) i)
 
 -- a byte more
@@ -77,7 +82,8 @@ module _ (codes : List ℕ) (bytes : Bytes codes) (from : ℕ) where
       let two = more _ (count + 8) (next + 1) (omega arith) one in
       let three = more _ (count + 8 + 8) (next + 2) (omega arith) two in
       let four = more _ (count + 8 + 8 + 8) (next + 3) (omega arith) three in
-      let joined : (((bits * 256 + getD codes next 0) * 256 + getD codes (next + 1) 0) * 256 + getD codes (next + 2) 0) * 256 + getD codes (next + 3) 0
+      let first = bits * 256 + getD codes next 0 in
+      let joined : ((first * 256 + getD codes (next + 1) 0) * 256 + getD codes (next + 2) 0) * 256 + getD codes (next + 3) 0
       ≡ bits * 4294967296 + fourBytes codes next = omega arith in
       let all : count + 8 + 8 + 8 + 8 ≡ count + 32 = omega arith in
       rw (joined, all) at four
@@ -100,13 +106,17 @@ module _ {codes : List ℕ} {from bits count next : ℕ} (is : Waits codes from 
   takes enough =
       let all : w + (count - w) ≡ count = omega arith in
       let both = taken codes w from bits (count - w) (omega arith) (rw all (is .are)) in
-      record { region = both .0; rest = record { place = omega (arith, is .place); few = omega (arith, is .few); begun = is .begun; are = both .1 } }
+      record {
+        region = both .0;
+        rest = record { place = omega (arith, is .place); few = omega (arith, is .few); begun = is .begun; are = both .1 };
+      }
 
   module _ (bytes : Bytes codes) (short : count < w) where
     pub one-more : Waits codes from (bits % 256 * 256 + getD codes next 0) (count + 8) (next + 1)
     one-more =
         let wide : 8 - count + count ≡ 8 = omega arith in
-        let kept : bits % 256 % 2 ^ count ≡ fromBits count (drop from (byteBits codes)) = rw wide at (mod-mod-pow bits (8 - count) count) ∙ is .are in
+        let kept : bits % 256 % 2 ^ count ≡ fromBits count (drop from (byteBits codes)) =
+        rw wide at (mod-mod-pow bits (8 - count) count) ∙ is .are in
         record {
           place = omega (arith, is .place);
           few = omega arith;
@@ -120,9 +130,11 @@ module _ {codes : List ℕ} {from bits count next : ℕ} (is : Waits codes from 
         let byte = (next - 1) * 8 in
         let front = fourBytes codes (next - 1) in
         let none : 0 % 2 ^ 0 ≡ fromBits 0 (drop byte (byteBits codes)) = unfold fromBits in refl in
-        let half : front % 2 ^ 32 ≡ fromBits 32 (drop byte (byteBits codes)) = rw (zero-mul 4294967296, zero-add front) at (four-more codes bytes byte 0 0 (next - 1) (omega arith) none) in
+        let half : front % 2 ^ 32 ≡ fromBits 32 (drop byte (byteBits codes)) =
+        rw (zero-mul 4294967296, zero-add front) at (four-more codes bytes byte 0 0 (next - 1) (omega arith) none) in
         let whole = four-more codes bytes byte front 32 (next + 3) (omega (arith, is .begun)) half in
         let all : 8 - count + (count + 56) ≡ 64 = omega arith in
         let start : byte + (8 - count) ≡ from = omega (arith, is .place, is .begun) in
-        let read = taken codes (8 - count) byte (front * 4294967296 + fourBytes codes (next + 3)) (count + 56) (omega arith) (rw all whole) .1 in
+        let read =
+        taken codes (8 - count) byte (front * 4294967296 + fourBytes codes (next + 3)) (count + 56) (omega arith) (rw all whole) .1 in
         record { place = omega (arith, is .place); few = omega arith; begun = omega arith; are = rw start at read }

@@ -4,14 +4,15 @@ use Prim.Native.Nat.{_+_, _*_, _<_}
 use native.Mathlib.Omega.{arith}
 use lib.ListN.{getD}
 use Rattle.codes.specs.BitLaws.{Bytes}
-use Rattle.bounds.proofs.waiting.four_bytes.Statement.{statement}
-use Rattle.bounds.proofs.waiting.four_bytes.Tie as tie
+use Rattle.bounds.proofs.bit_buffer.four_bytes.Statement.{statement}
+use Rattle.bounds.proofs.bit_buffer.four_bytes.Tie as tie
 
 bytes : (c : tie.After-shared-slice-known) → Bytes (c .before .args .codes .now)
 bytes c i = omega (arith, c .shared-slice-known .given i)
 
 -- what two bytes and three are together
-two : (c : tie.After-shared-slice-known2) → let a = c .before .before .args in getD (a .codes .now) (a .i) 0 * 256 + getD (a .codes .now) (a .i + 1) 0 < 65536
+two : (c : tie.After-shared-slice-known2) → let a = c .before .before .args in
+    getD (a .codes .now) (a .i) 0 * 256 + getD (a .codes .now) (a .i + 1) 0 < 65536
 two c =
     let small = bytes (c .before) in
     let i = c .before .before .args .i in
