@@ -18,7 +18,7 @@ use Rattle.marking.specs.Made.{column, inOrder}
 
 -- ---- mapped lists
 
-map-at : {A B : Type 0} (f : A → B) (l : List A) (i : ℕ) (d : A) (e : B) → i < length l → getD (map f l) i e ≡ f (getD l i d)
+pub map-at : {A B : Type 0} (f : A → B) (l : List A) (i : ℕ) (d : A) (e : B) → i < length l → getD (map f l) i e ≡ f (getD l i d)
 map-at f [] i d e within = absurd (omega arith)
 map-at f (x ∷ l) zero d e within = refl
 map-at f (x ∷ l) (suc i) d e within = map-at f l i d e (omega arith)
@@ -51,14 +51,14 @@ module _ (d n : ℕ) (vectors : List ℤ) (t : ℕ) where
   pub column-key-at : (i : ℕ) → i < n → getD (map keyOf (column d n vectors t)) i 0 ≡ keyOf (getD vectors (i * d + t) (pos 0))
   column-key-at i within = map-at keyOf (column d n vectors t) i (pos 0) 0 (rw column-length within) ∙ ap keyOf (column-at i within)
 
-  column-components : areComponents vectors ≡ true → (i : ℕ) → isComponent (getD (column d n vectors t) i (pos 0)) ≡ true
+  pub column-components : areComponents vectors ≡ true → (i : ℕ) → isComponent (getD (column d n vectors t) i (pos 0)) ≡ true
   unfolding column
   column-components are = map-each (λ i. getD vectors (i * d + t) (pos 0)) (countFrom 0 n) (λ i. component-at vectors are (i * d + t))
 
 -- ---- its components in order
 
 module _ (components : List ℤ) where
-  keys-length : length (map keyOf components) ≡ length components
+  pub keys-length : length (map keyOf components) ≡ length components
   keys-length = length-map components keyOf
 
   -- which of the components stands at a place
@@ -67,7 +67,7 @@ module _ (components : List ℤ) where
   in-order-at p within =
       map-at (λ i. getD components i (pos 0)) (ranking (map keyOf components)) p 0 (pos 0) (rw (ranking-length (map keyOf components), keys-length) within)
 
-  number-below : (p : ℕ) → p < length components → getD (ranking (map keyOf components)) p 0 < length components
+  pub number-below : (p : ℕ) → p < length components → getD (ranking (map keyOf components)) p 0 < length components
   number-below p within = rw keys-length at (ranking-below (map keyOf components) p (rw keys-length within))
 
   key-at : (p : ℕ) → p < length components → keyOf (getD (inOrder components) p (pos 0)) ≡ getD (map keyOf components) (getD (ranking (map keyOf components)) p 0) 0

@@ -25,7 +25,7 @@ use Rattle.marking.specs.InOrder.{counted-map, counted-map-length, Order
 
 -- ---- components and marks, by their keys
 
-key-range : (z : ℤ) → isComponent z ≡ true → Between (2 ^ 31 - 32768) (keyOf z) (2 ^ 31 + 32767)
+pub key-range : (z : ℤ) → isComponent z ≡ true → Between (2 ^ 31 - 32768) (keyOf z) (2 ^ 31 + 32767)
 key-range z is = between (2 ^ 31 - 32768) (keyOf z) (2 ^ 31 + 32767) (sym (key-component z) ∙ is)
 
 key-is-mark : (z : ℤ) → 2 ^ 31 - 32768 ≤ keyOf z → keyOf z ≤ 2 ^ 31 + 32768 → isMark z ≡ true

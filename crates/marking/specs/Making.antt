@@ -1,7 +1,7 @@
 -- The causes for which marks are not made, and what holds where they are made. Assumes nothing.
 use mathlib.Core.Path.{_≡_}
 use mathlib.Core.Bool.{true, false, not, _&&_, and-eq-true-iff}
-use mathlib.Core.List.{List, [], _∷_, map}
+use mathlib.Core.List.{List, [], _∷_}
 use Prim.Native.Nat.{ℕ, _+_, _*_, _^_, _≤_, _<_}
 use borrow.Author.Tests.{not-false, eqb-true}
 use lib.Dec.{eqb}
@@ -12,12 +12,9 @@ use Rattle.refusal.specs.declared.Verdict.the-variants.{Accepted}
 use Rattle.refusal.specs.First.{Row, _⇒_, first, passed}
 use Rattle.limits.specs.Limits.{maxDimensions, maxDimensionBits, maxVectors, isDimensionCount, isBits, isVectorCount}
 use Rattle.limits.specs.Tests.{Between, between}
-use Rattle.whole.specs.Keys.{keyOf}
 use Rattle.whole.specs.Components.{areComponents}
-use Rattle.order.specs.Rank.{ranking}
 use Rattle.layout.specs.Layout.{firstMarks}
 use Rattle.layout.specs.Stretch.{shapeCauses}
-use Rattle.marking.specs.Made.{column}
 
 -- in the order in which they are tested: 1, 2, 3, 5, 6; the marks buffer has room for `room` marks
 abbrev pub makeCauses : ℕ → ℕ → ℕ → List ℤ → ℕ → List Row
@@ -66,14 +63,15 @@ pub record ColumnOf (d n t : ℕ) : Type 0 where
   pub among : t < d
   pub count : n ≤ maxVectors
 
--- and its marks, of w bits
-pub record MarksOf (d n t w : ℕ) (vectors : List ℤ) (room : ℕ) : Type 0 where
-  pub of-column : ColumnOf d n t
+-- n components shared out among the regions of w bits, with room for the marks
+pub record Shares (n w room : ℕ) : Type 0 where
   pub some : 1 ≤ n
+  pub few : n ≤ maxVectors
   pub bits : w ≤ maxDimensionBits
   pub fits : 2 ^ w + 1 ≤ room
-  pub components : areComponents vectors ≡ true
 
--- the vectors' numbers by their components in that column
-abbrev pub Ranks : ℕ → ℕ → List ℤ → List ℕ → Type 0
-Ranks d t vectors numbers = numbers ≡ ranking (map keyOf (column d (length numbers) vectors t))
+-- a column and its marks, of w bits
+pub record MarksOf (d n t w : ℕ) (vectors : List ℤ) (room : ℕ) : Type 0 where
+  pub of-column : ColumnOf d n t
+  pub shares : Shares n w room
+  pub components : areComponents vectors ≡ true

@@ -4,16 +4,17 @@ use refusal::Refusal;
 use refusal::Verdict;
 ghost use mathlib.Core.Path.{_≡_};
 ghost use mathlib.Core.Bool.{true};
-ghost use mathlib.Core.List.{map};
-ghost use Prim.Native.Nat.{_+_, _^_, _≤_, _<_};
-ghost use lib.IntN.{pos, sucℤ};
-ghost use lib.ListN.{length, take, getD};
+ghost use mathlib.Core.List.{map, _++_};
+ghost use Prim.Native.Nat.{_+_, _^_};
+ghost use lib.IntN.{sucℤ};
+ghost use lib.ListN.{length, drop};
 ghost use Rattle.refusal.specs.First.{first, outcome};
 ghost use Rattle.refusal.specs.declared.Verdict.the-variants.{Accepted};
 ghost use Rattle.limits.specs.Limits.{isComponent};
 ghost use Rattle.whole.specs.Keys.{keyOf};
 ghost use Rattle.marking.specs.Made.{column, inOrder, madeDimension, madeMarks};
-ghost use Rattle.marking.specs.Making.{makeCauses, ColumnOf, MarksOf, Ranks};
+ghost use Rattle.marking.specs.Making.{makeCauses, ColumnOf, MarksOf, Shares};
+ghost use Rattle.marking.specs.KeysInOrder.{wholeOf, ComponentKey, ComponentKeys};
 
 // The marks of d dimensions, with b bits in all, made from n vectors of d components that stand in a row.
 pub fn make_marks(d: usize, b: usize, n: usize, vectors: &[i32], marks: &mut [i32]) -> Verdict
@@ -71,25 +72,16 @@ fn make_dimensions(d: usize, b: usize, n: usize, vectors: &[i32], marks: &mut [i
     }
 }
 
-// One dimension's marks, with t dimensions before it and w bits, at the front of the part.
+// One dimension's marks, with t dimensions before it and w bits, at the front of the part. The rest of the part keeps its content.
 fn make_dimension(d: usize, n: usize, t: usize, w: usize, vectors: &[i32], part: &mut [i32])
     requires { ⌜ MarksOf d n t w (now vectors) (length (now part)) ⌝ }
-    ensures { λ _. ⌜ take (2 ^ w + 1) (now (part .exit)) ≡ madeDimension n w (inOrder (column d n (now (vectors .entry)) t)) ⌝ }
+    ensures { λ _. ⌜ now (part .exit)
+        ≡ madeDimension n w (inOrder (column d n (now (vectors .entry)) t)) ++ drop (2 ^ w + 1) (now (part .entry)) ⌝ }
 {
-    let mut numbers = [0u32; MAX_VECTORS];
-    rank_column(d, t, vectors, &mut numbers[..n]);
-    write_marks(d, t, w, vectors, &numbers[..n], part);
-}
-
-// The vectors' numbers in the order of their components in one dimension.
-fn rank_column(d: usize, t: usize, vectors: &[i32], numbers: &mut [u32])
-    requires { ⌜ (ColumnOf d (length (now numbers)) t) × (1 ≤ length (now numbers)) ⌝ }
-    ensures { λ _. ⌜ Ranks d t (now (vectors .entry)) (now (numbers .exit)) ⌝ }
-{
-    let n = numbers.len();
     let mut keys = [0u64; MAX_VECTORS];
     column_keys(d, t, vectors, &mut keys[..n]);
-    ranking::rank(&keys[..n], numbers);
+    order::sort(&mut keys[..n]);
+    write_marks(w, &keys[..n], part);
 }
 
 // The keys of one dimension's components.
@@ -104,30 +96,29 @@ fn column_keys(d: usize, t: usize, vectors: &[i32], keys: &mut [u64])
     }
 }
 
-// The marks from the vectors' numbers in the order of their components.
-fn write_marks(d: usize, t: usize, w: usize, vectors: &[i32], numbers: &[u32], part: &mut [i32])
-    requires { ⌜ MarksOf d (length (now numbers)) t w (now vectors) (length (now part)) ⌝ }
-    requires { ⌜ Ranks d t (now vectors) (now numbers) ⌝ }
-    ensures { λ _. ⌜ take (2 ^ w + 1) (now (part .exit))
-        ≡ madeDimension (length (now (numbers .entry))) w (inOrder (column d (length (now (numbers .entry))) (now (vectors .entry)) t)) ⌝ }
+// The marks from the keys of the components in non-falling order.
+fn write_marks(w: usize, keys: &[u64], part: &mut [i32])
+    requires { ⌜ (Shares (length (now keys)) w (length (now part))) × (ComponentKeys (now keys)) ⌝ }
+    ensures { λ _. ⌜ now (part .exit)
+        ≡ madeDimension (length (now (keys .entry))) w (map wholeOf (now (keys .entry))) ++ drop (2 ^ w + 1) (now (part .entry)) ⌝ }
 {
-    let n = numbers.len();
+    let n = keys.len();
     let last = n - 1;
     let regions = 1usize << w;
     let mut i = 0;
     while i < regions {
-        part[i] = component_at(d, t, vectors, numbers, (i * n) >> w);
+        part[i] = component_of(keys[(i * n) >> w]);
         i += 1;
     }
-    part[regions] = next(component_at(d, t, vectors, numbers, last));
+    part[regions] = next(component_of(keys[last]));
 }
 
-// The component at a place of the order.
-fn component_at(d: usize, t: usize, vectors: &[i32], numbers: &[u32], place: usize) -> i32
-    requires { ⌜ (ColumnOf d (length (now numbers)) t) × (Ranks d t (now vectors) (now numbers)) × (place < length (now numbers)) ⌝ }
-    ensures { λ r. ⌜ r ≡ getD (inOrder (column d (length (now (numbers .entry))) (now (vectors .entry)) t)) place (pos 0) ⌝ }
+// The component of a key.
+fn component_of(key: u64) -> i32
+    requires { ⌜ ComponentKey key ⌝ }
+    ensures { λ r. ⌜ r ≡ wholeOf key ⌝ }
 {
-    whole::at(vectors, numbers[place] as usize * d + t)
+    (key as i64 - 0x8000_0000) as i32
 }
 
 // The number behind a component.

@@ -33,7 +33,8 @@ fn is_nan(bits: u32) -> bool
     bits % SIGN / LEADING == SPECIAL && bits % LEADING != 0
 }
 
-// The float of a pattern. The language makes no float of a NaN's pattern, so the NaN comes from a division.
+// The float of a pattern. Its bits decide whether it is a NaN. The language makes no float of a NaN's pattern, so the NaN comes from a
+// division.
 pub fn of_bits(bits: u32) -> f32
     ensures { λ r. ⌜ r ≡ ofBits binary32 bits ⌝ }
 {
@@ -43,8 +44,8 @@ pub fn of_bits(bits: u32) -> f32
     f32::from_bits(bits)
 }
 
-// The component of a value. The language gives the bits of a value only once it is known to be no NaN, which is neither at most 0 nor
-// at least 0; where an optimiser left these tests out, the bits would still tell.
+// The component of a value. The language gives the bits of a value only once it is known to be no NaN, so the two comparisons with 0 alone
+// decide whether it is one: a NaN is neither at most 0 nor at least 0. Were they lost, a NaN would be refused as out of range.
 pub fn component(x: f32) -> Intake
     ensures { λ r. ⌜ r ≡ valueIntake x ⌝ }
 {
@@ -57,7 +58,8 @@ pub fn component(x: f32) -> Intake
     Intake::Refused(Refusal::NotANumber)
 }
 
-// The component of the value that a pattern stands for.
+// The component of the value that a pattern stands for. The contract covers every pattern, so a NaN's is tested for here too; behind the
+// comparisons of `component` that test never holds, and a compiler may leave it out.
 fn component_of_bits(bits: u32) -> Intake
     ensures { λ r. ⌜ r ≡ valueIntake (ofBits binary32 bits) ⌝ }
 {

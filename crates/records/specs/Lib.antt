@@ -4,4 +4,3 @@ pub mod Records
 pub mod RecordLaws
 pub mod Frame
 pub mod RowLaws
-pub mod Written

@@ -1,10 +1,10 @@
--- "The first cause that holds": a call's causes are a list of rows, each a test and its cause, in the order in which they are tested.
--- A call refuses by the first cause whose test holds, and for no other reason (document 01, "When a call says no"). One more cause is
+-- The first cause that holds. A call's causes are a list of rows, each a test and its cause, in the order in which they are tested. "Each
+-- number is returned if its cause is the first to hold, and for no other reason" (document 01, the table of refusals). One more cause is
 -- one more row. Assumes nothing.
-use mathlib.Core.Path.{_≡_, refl}
+use mathlib.Core.Path.{_≡_, refl, sym, ap, _∙_}
 use Prim.Native.Nat.{ℕ}
 use native.Mathlib.Omega.{arith}
-use mathlib.Core.Bool.{Bool, true, false, cond, _||_}
+use mathlib.Core.Bool.{Bool, true, false, cond, not, _||_}
 use mathlib.Core.List.{List, [], _∷_, _++_}
 use Rattle.refusal.specs.declared.Refusal.{Refusal}
 use Rattle.refusal.specs.declared.Verdict.{Verdict}
@@ -77,6 +77,10 @@ pub first-refuses : (rows : List Row) (cause : Refusal) → IsFirst rows cause �
 first-refuses rows cause is = rw (is .split) (first-after (is .before) (is .after) cause (is .none-before))
 
 -- ---- a row at a time
+
+-- what a function's flag says of the test that a row denies
+pub told : {result test value : Bool} → result ≡ test → not result ≡ value → not test ≡ value
+told is flag = ap not (sym is) ∙ flag
 
 pub first-here : {test : Bool} (cause : Refusal) (rows : List Row) → test ≡ true → first ((test ⇒ cause) ∷ rows) ≡ Refused cause
 unfolding first

@@ -16,9 +16,10 @@ use Rattle.limits.specs.Tests.{between}
 use Rattle.whole.specs.Components.{areComponents, component-at, all-components}
 use Rattle.order.specs.Pair.{keyed, numbersOf, countFrom}
 use Rattle.order.specs.Rank.{keyAt, ranking}
-use Rattle.order.specs.Pairs.{keysOf}
+use Rattle.order.specs.Pairs.{keysOf, keyed-keys}
 use Rattle.selection.specs.Reading.{scan}
-use Rattle.least.specs.Selected.{keyed-numbers, keyed-keys, scan-keyed}
+use Rattle.order.specs.Insertion.{numbersOf-keyed}
+use Rattle.least.specs.Selected.{scan-keyed}
 use Rattle.cells.specs.Cells.{vectorAt}
 use Rattle.distance.specs.Small.{distance-small}
 use Rattle.distance.specs.Values.{valuesFrom, values-length}
@@ -94,7 +95,7 @@ module _ (f : ℕ → ℕ) (n k : ℕ) where
   values-first = rw values-length (sym values-scan ∙ scan-keyed k (keyAt (valuesFrom f 0 n)) (countFrom 0 n))
 
   pub scan-numbers : take k (ranking (valuesFrom f 0 n)) ≡ numbersOf (scan k f (countFrom 0 n))
-  scan-numbers = rw values-first (sym (keyed-numbers (keyAt (valuesFrom f 0 n)) (take k (ranking (valuesFrom f 0 n)))))
+  scan-numbers = rw values-first (sym (numbersOf-keyed (keyAt (valuesFrom f 0 n)) (take k (ranking (valuesFrom f 0 n)))))
 
   pub scan-keys : map (keyAt (valuesFrom f 0 n)) (take k (ranking (valuesFrom f 0 n))) ≡ keysOf (scan k f (countFrom 0 n))
   scan-keys = rw values-first (sym (keyed-keys (keyAt (valuesFrom f 0 n)) (take k (ranking (valuesFrom f 0 n)))))

@@ -1,11 +1,12 @@
 -- Keys of whole numbers: numbers from 0 on, in the same order. Assumes nothing.
 use mathlib.Core.Path.{_≡_, refl, sym, ap, _∙_}
 use mathlib.Core.Bool.{Bool, true, false, not, _&&_}
-use Prim.Native.Nat.{ℕ, suc, _+_, _-_, _^_, _<_}
+use Prim.Native.Nat.{ℕ, suc, _+_, _-_, _^_, _≤_, _<_}
+use native.Mathlib.Nat.{add-comm}
 use native.Mathlib.Omega.{arith}
-use borrow.Author.Tests.{leb-true, le-leb, lt-leb}
+use borrow.Author.Tests.{leb-true, le-leb, lt-leb, le-ltb}
 use lib.Dec.{leb, ltb, lit<}
-use lib.IntN.{ℤ, pos, negsuc}
+use lib.IntN.{ℤ, pos, negsuc, _+ℤ_}
 use lib.Signed.{mag, ltZ, leZ}
 use Rattle.limits.specs.Limits.{isComponent, isMark}
 use Rattle.limits.specs.Tests.{same-leb, ltb-not, ltZ-not}
@@ -22,6 +23,14 @@ pub key-fits : (z : ℤ) → mag z < 2 ^ 31 → keyOf z < 2 ^ 32
 unfolding keyOf
 key-fits (pos n) h = omega arith
 key-fits (negsuc n) h = omega arith
+
+-- a key is 2^31 more than its number
+pub key-sum : (z : ℤ) → mag z < 2 ^ 31 → z +ℤ pos (2 ^ 31) ≡ pos (keyOf z)
+unfolding keyOf
+key-sum (pos n) h = ap pos (add-comm n (2 ^ 31))
+key-sum (negsuc n) h =
+    let bound : suc n ≤ 2 ^ 31 = omega arith in
+    rw (le-ltb (2 ^ 31) (suc n) bound)
 
 -- the order of keys is the order of numbers
 pub key-le : (a b : ℤ) → mag a < 2 ^ 31 → mag b < 2 ^ 31 → leZ a b ≡ leb (keyOf a) (keyOf b)

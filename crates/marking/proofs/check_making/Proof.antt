@@ -11,7 +11,7 @@ use borrow.Author.Needs.{needs}
 use borrow.Author.Tests.{not-false, eq-eqb, ne-eqb}
 use Rattle.refusal.specs.declared.Refusal.the-variants.{Dimension, Bits, Count, Length, Component}
 use Rattle.refusal.specs.declared.Verdict.the-variants.{Accepted}
-use Rattle.refusal.specs.First.{Row, first, first-here, first-next}
+use Rattle.refusal.specs.First.{Row, first, first-here, first-next, told}
 use Rattle.limits.specs.Limits.{maxDimensions, maxVectors, isDimensionCount, isVectorCount}
 use Rattle.limits.specs.Tests.{between}
 use Rattle.layout.specs.Layout.{firstMarks}
@@ -23,10 +23,6 @@ use Rattle.marking.proofs.check_making.Tie as tie
 -- the rows from the k-th on
 abbrev rows : ℕ → tie.Start → List Row
 rows k c = drop k (makeCauses (c .args .d) (c .args .b) (c .args .n) (c .args .vectors .now) (c .args .room))
-
--- what the code's flag says of the row's test
-told : {result test value : Bool} → result ≡ test → not result ≡ value → not test ≡ value
-told is flag = ap not (sym is) ∙ flag
 
 passed-1 : (c : tie.Else1) → first (rows 0 (c .before .before)) ≡ first (rows 1 (c .before .before))
 passed-1 c = first-next Dimension _ (told (c .before .is-dimension-count .ensures) (c .if1 .left))

@@ -6,13 +6,14 @@ use native.Mathlib.Numerals.{add-one}
 use native.Mathlib.Omega.{arith}
 use lib.IntN.{ℤ}
 use lib.ListN.{length, take, drop, length-drop}
-use lib.Seq.{length-take-le, take-all, take-append-add, take-append-le}
+use lib.Seq.{length-take-le, take-all, take-at, take-append-add, take-append-le}
 use borrow.Author.Needs.{needs}
 use borrow.Rule.Slice.PartMut.{midOf, postOf, putMid, same-len-mid}
 use Rattle.layout.specs.declared.Stretch.{Stretch}
 use Rattle.layout.specs.Layout.{bitsOf, firstMarks}
 use Rattle.layout.specs.Stretch.{stretchOf, shape, Stretches, stretches, dimension-accepted}
 use Rattle.marking.specs.Made.{column, inOrder, madeDimension, madeFirst}
+use Rattle.marking.specs.MadeDimension.{made-length}
 use Rattle.marking.specs.Making.{Given, given, MarksOf}
 use Rattle.marking.proofs.make_dimensions.Statement.{statement}
 use Rattle.marking.proofs.make_dimensions.Tie as tie
@@ -49,25 +50,25 @@ module _ {d b n : ℕ} {vectors : List ℤ} {room : ℕ} (is : Given d b n vecto
         let shaped = shape d b (is .shaped) in
         record {
           of-column = record { few = shaped .few; among = among; count = is .count .below };
-          some = is .count .above;
-          bits = stretch .few-bits;
-          fits = omega (arith, ends, part-length (s .offset) marks);
+          shares = record { some = is .count .above; few = is .count .below; bits = stretch .few-bits; fits = omega (arith, ends, part-length (s .offset) marks) };
           components = is .components;
         }
 
     turn : (last : List ℤ) → length last ≡ length (midOf (s .offset) (length marks - s .offset) marks)
-        → take (2 ^ s .bits + 1) last ≡ madeDimension n (s .bits) (inOrder (column d n vectors t)) → take (firstMarks d b t) marks ≡ madeFirst d b n vectors t
+        → last ≡ madeDimension n (s .bits) (inOrder (column d n vectors t)) ++ drop (2 ^ s .bits + 1) (midOf (s .offset) (length marks - s .offset) marks) → take (firstMarks d b t) marks ≡ madeFirst d b n vectors t
         → take (firstMarks d b (t + 1)) (putMid (s .offset) (length marks - s .offset) marks last) ≡ madeFirst d b n vectors (t + 1)
     unfolding madeFirst
     turn last kept made so-far =
         let o = s .offset in
         let m = 2 ^ s .bits + 1 in
         let start : t + 1 - 1 ≡ t = omega arith in
+        let own = made-length n (s .bits) (inOrder (column d n vectors t)) in
+        let front : take m last ≡ madeDimension n (s .bits) (inOrder (column d n vectors t)) = ap (take m) made ∙ take-at _ _ m own in
         let before : take o marks ≡ madeFirst d b n vectors t = rw (stretch .offset-is, start) so-far in
         let bits : s .bits ≡ bitsOf d b (suc t) = stretch .bits-are ∙ ap (bitsOf d b) (add-one t) in
         ap (λ (k : ℕ). take k (putMid o (length marks - o) marks last)) (sym (stretch .end))
         ∙ written o m (length marks - o) marks last (omega (arith, ends)) (omega (arith, ends, part-length o marks))
-        ∙ ap₂ _++_ before (made ∙ ap (λ (w : ℕ). madeDimension n w (inOrder (column d n vectors t))) bits)
+        ∙ ap₂ _++_ before (front ∙ ap (λ (w : ℕ). madeDimension n w (inOrder (column d n vectors t))) bits)
         ∙ ap (madeFirst d b n vectors) (sym (add-one t))
 
 -- the call's facts, and the stretch's law at a turn

@@ -1,31 +1,22 @@
 -- `key` meets its contract: the sum fits, and is not negative. Assumes nothing.
 use mathlib.Core.Path.{_≡_, ap, _∙_, subst⁻¹}
-use Prim.Native.Nat.{suc, _+_, _-_, _^_, _≤_}
-use native.Mathlib.Nat.{add-comm}
+use Prim.Native.Nat.{_^_}
 use native.Mathlib.Omega.{arith}
-use borrow.Author.Tests.{le-ltb}
 use lib.Dec.{T}
-use lib.IntN.{ℤ, pos, negsuc, natAbs, _+ℤ_}
+use lib.IntN.{ℤ, pos, natAbs, _+ℤ_}
 use lib.Signed.{nonNeg}
 use mir.Syntax.{w32, w64}
 use mir.Val.{Fits, SFits, toZ, ofZ}
 use mir.ValLaws.{toZ-ofZ}
-use Rattle.whole.specs.Keys.{keyOf, key-fits}
+use Rattle.whole.specs.Keys.{keyOf, key-fits, key-sum}
 use Rattle.whole.proofs.ReadBack.{back, back-fits}
 use Rattle.whole.proofs.key.Statement.{statement}
 use Rattle.whole.proofs.key.Tie as tie
 
-sum : (z : ℤ) → SFits w32 z → z +ℤ pos (2 ^ 31) ≡ pos (keyOf z)
-unfolding keyOf
-sum (pos n) f = ap pos (add-comm n (2 ^ 31))
-sum (negsuc n) f =
-    let bound : suc n ≤ 2 ^ 31 = omega (arith, f .sfits) in
-    rw (le-ltb (2 ^ 31) (suc n) bound)
-
 -- the sum as the code has it
 module _ (z : ℤ) (f : SFits w32 z) where
   sum-back : toZ w64 (ofZ w64 (toZ w32 (ofZ w32 z))) +ℤ pos (2 ^ 31) ≡ pos (keyOf z)
-  sum-back = ap (λ (y : ℤ). y +ℤ pos (2 ^ 31)) (back z f) ∙ sum z f
+  sum-back = ap (λ (y : ℤ). y +ℤ pos (2 ^ 31)) (back z f) ∙ key-sum z (f .sfits)
 
   sum-fits : SFits w64 (toZ w64 (ofZ w64 (toZ w32 (ofZ w32 z))) +ℤ pos (2 ^ 31))
   sum-fits = subst⁻¹ (SFits w64) sum-back (record { sfits = omega (arith, key-fits z (f .sfits)) })

@@ -13,24 +13,24 @@ use Rattle.reading.proofs.value.in_range.Statement.{statement}
 use Rattle.reading.proofs.value.in_range.Tie as tie
 
 -- what holds of a number read back holds of the number
-told : (P : ℤ → Type 0) {z : ℤ} → SFits w32 z → P (toZ w32 (ofZ w32 z)) → P z
-told P {z} fits = subst P (toZ-ofZ w32 z fits)
+read-back : (P : ℤ → Type 0) {z : ℤ} → SFits w32 z → P (toZ w32 (ofZ w32 z)) → P z
+read-back P {z} fits = subst P (toZ-ofZ w32 z fits)
 
 returns : tie.Need-returns
 returns c =
-    sym (below-range (c .before .args .z) (told (λ z. ltZ z leastComponent ≡ true) (c .before .fits .z) (c .if1 .taken)))
+    sym (below-range (c .before .args .z) (read-back (λ z. ltZ z leastComponent ≡ true) (c .before .fits .z) (c .if1 .taken)))
 
 returns-2 : tie.Need-returns-2
 returns-2 c =
     let z = c .before .before .args .z in
-    sym (above-range z (told (λ z. ltZ greatestComponent z ≡ true) (c .before .before .fits .z) (c .if2 .taken)))
+    sym (above-range z (read-back (λ z. ltZ greatestComponent z ≡ true) (c .before .before .fits .z) (c .if2 .taken)))
 
 returns-3 : tie.Need-returns-3
 returns-3 c =
     let z = c .before .before .args .z in
     let fits = c .before .before .fits .z in
     ap Component (toZ-ofZ w32 z fits)
-    ∙ sym (within-range z (told (λ z. ltZ z leastComponent ≡ false) fits (c .before .if1 .left)) (told (λ z. ltZ greatestComponent z ≡ false) fits (c .if2 .left)))
+    ∙ sym (within-range z (read-back (λ z. ltZ z leastComponent ≡ false) fits (c .before .if1 .left)) (read-back (λ z. ltZ greatestComponent z ≡ false) fits (c .if2 .left)))
 
 pub in-range-spec : {M : Type 1} → statement M
 in-range-spec = tie.close (tie.spec returns returns-2 returns-3)

@@ -4,7 +4,7 @@ use mathlib.Core.List.{List, _++_, append-nil}
 use Prim.Native.Nat.{ℕ, suc, _+_, _-_, _≤_}
 use native.Mathlib.Omega.{arith}
 use lib.ListN.{length, take, replicate, length-set}
-use Rattle.records.specs.Written.{written-one}
+use Rattle.limits.specs.Written.{written-one}
 use Rattle.writing.proofs.put.write_zeros.Statement.{statement}
 use Rattle.writing.proofs.put.write_zeros.Tie as tie
 
