@@ -17,14 +17,12 @@ use Rattle.limits.specs.Limits.{isDimensionCount, isBits, isComponent}
 use Rattle.whole.specs.Components.{areComponents}
 use Rattle.order.specs.Pair.{Pair}
 use Rattle.order.specs.Members.{_∈_}
-use Rattle.order.specs.Counted.{counted}
-use Rattle.selection.specs.Theorems.{reads-among}
 use Rattle.layout.specs.Layout.{firstMarks}
 use Rattle.codes.specs.Codes.{codeLength}
 use Rattle.codes.specs.PackLaws.{length-packed}
 use Rattle.approximation.specs.VectorCauses.{packVectorsCauses}
 use Rattle.approximation.specs.OwnCodes.{own-good}
-use Rattle.search.specs.Search.{numbersIn, distanceIn, lowIn, inOwnCells, scanned, searched, searchCauses}
+use Rattle.search.specs.Search.{inOwnCells, scanned, searched, searchCauses}
 use Rattle.search.specs.Search.{Library as Searchable}
 use Rattle.search.specs.Ready.{roomOf}
 use Rattle.search.specs.Accepted.{accepts, lengths-exact}
@@ -40,8 +38,9 @@ use Rattle.records.specs.RowLaws.{both}
 use Rattle.library.specs.Library.{Library, readLibrary}
 use Rattle.loading.specs.Load.{recordsCauses as libraryCauses}
 use Rattle.query.specs.Query.{isReading, readingOf, readingCauses, recordsCauses as queryCauses, componentsOf, nextRecord}
-use Rattle.text.specs.Text.{line, entryLines, refusedText}
-use Rattle.matching.specs.Answer.{searchable}
+use Rattle.text.specs.Text.{line}
+use Rattle.matching.specs.Answer.{searchable, refusedText, entryLines}
+use Rattle.matching.specs.Lines.{read-below}
 use Rattle.matching.specs.Match.{behind, kLength, kOf, matchCauses, matchText}
 use Rattle.loading.specs.Loaded.{loaded-shape, loaded-count, marks-count, components-count, loaded-marks, loaded-components}
 use Rattle.matching.specs.Packed.{packed-inside, packed-own}
@@ -100,11 +99,6 @@ module _ (bytes : List ℕ) (accepted : first (libraryCauses (readLibrary bytes)
   packs =
       rw (dimensions, bits, loaded-count bytes accepted, eq-eqb (length (l .components)) (l .n * l .d) (components-count bytes accepted), eq-eqb (codeLength (l .b) (l .n)) (codeLength (l .b) (l .n)) refl, eq-eqb (length (l .marks)) (firstMarks (l .d) (l .b) (l .d)) (marks-count bytes accepted), loaded-components bytes accepted, loaded-marks bytes accepted, packed-inside bytes accepted)
 
-  read-below : (query : List ℤ) (k i : ℕ) → i ∈ searched (searchable l) query k .reads → i < l .n
-  read-below query k i m =
-      let s = searchable l in
-      omega (arith, (counted 0 (l .n) (reads-among k (lowIn s query) (distanceIn s query) (numbersIn s) m)) .below)
-
   pub searches : (query : List ℤ) (k : ℕ) → length query ≡ l .d → areComponents query ≡ true → leb 1 k && leb k (l .n) ≡ true
       → first (searchCauses (searchable l) query k (roomOf k k (l .n))) ≡ Accepted
   searches query k size components neighbours =
@@ -128,7 +122,7 @@ module _ (bytes : List ℕ) (accepted : first (libraryCauses (readLibrary bytes)
         components = components;
         marks = loaded-marks bytes accepted;
         codes = own-good own;
-        cells = cells-own s own (searched s query k .reads) (read-below query k);
+        cells = cells-own s own (searched s query k .reads) (read-below s query k);
       })
 
   entries-are-the-scan : (query : List ℤ) (k : ℕ) → searched (searchable l) query k .best ≡ scanned (searchable l) query k

@@ -37,7 +37,7 @@ use Rattle.loading.specs.Load.{recordCauses, headCauses, markCauses, zeroBeyond
 use Rattle.region.specs.Region.{inMarks}
 use Rattle.partition.specs.Marks.{dimensionMarks}
 use Rattle.query.specs.Query.{isReading, readingOf, readingCauses, recordsCauses as queryCauses, nextRecord}
-use Rattle.text.specs.Text.{refusedText}
+use Rattle.matching.specs.Answer.{refusedText}
 use Rattle.matching.specs.Match.{behind, kLength, kCauses, matchCauses, matchText}
 use Rattle.matching.specs.Alike.{Alike, alike-take, alike-drop, same-number, same-value, same-kind, record-most, vector-length, same-frame}
 

@@ -15,8 +15,7 @@ use Rattle.library.specs.Library.{Library, libraryLength, readLibrary}
 use Rattle.loading.specs.Load.{recordsCauses as libraryCauses}
 use Rattle.query.specs.Query.{recordsCauses as queryCauses, componentsOf}
 use Rattle.matching.specs.declared.Printed.{Printed}
-use Rattle.text.specs.Text.{refusedText}
-use Rattle.matching.specs.Answer.{answerText}
+use Rattle.matching.specs.Answer.{refusedText, answerText}
 
 -- ---- what stands where
 

@@ -23,8 +23,8 @@ use Rattle.limits.specs.Tests.{between}
 use Rattle.whole.specs.Components.{areComponents, component-at}
 use Rattle.order.specs.Pair.{Pair}
 use Rattle.order.specs.Members.{_∈_}
-use Rattle.order.specs.Counted.{counted, counted-length}
-use Rattle.selection.specs.Theorems.{reads-among, reads-count, best-length, best-entries}
+use Rattle.order.specs.Counted.{counted-length}
+use Rattle.selection.specs.Theorems.{reads-count, best-length, best-entries}
 use Rattle.cells.specs.Cells.{vectorAt}
 use Rattle.step.specs.Step.{gap, squared, squared-le}
 use Rattle.step.specs.Places.{gap-size}
@@ -41,8 +41,9 @@ use Rattle.library.specs.Library.{Library, markTotal, vectorPlace, settingsAt, 
 use Rattle.loading.specs.Load.{recordsCauses as libraryCauses}
 use Rattle.query.specs.Query.{recordsCauses as queryCauses, componentsOf}
 use Rattle.text.specs.TextLaws.{decimal-length}
-use Rattle.text.specs.Text.{line, entryLine, entryLines, refusedText}
-use Rattle.matching.specs.Answer.{searchable, answerText}
+use Rattle.text.specs.Text.{line}
+use Rattle.matching.specs.Answer.{searchable, refusedText, entryLine, entryLines, answerText}
+use Rattle.matching.specs.Lines.{best-below}
 use Rattle.matching.specs.Match.{behind, kLength, kOf, kCauses, causesWith, matchText, textRoom}
 use Rattle.loading.specs.Loaded.{shaped, loaded-count, loaded-components}
 use Rattle.matching.specs.Answerable.{query-components}
@@ -167,9 +168,8 @@ module _ (bytes : List ℕ) (accepted : first (libraryCauses (readLibrary bytes)
   short : (p : Pair) → p ∈ searched s query k .best → Short p
   short p m =
       let entry = best-entries k (lowIn s query) (distanceIn s query) (numbersIn s) m in
-      let among = counted 0 (l .n) (reads-among k (lowIn s query) (distanceIn s query) (numbersIn s) (entry .its-number)) in
       record {
-        number = omega (arith, among .below, few);
+        number = omega (arith, best-below s query k p m, few);
         distance = rw (entry .its-key) (distance-below (l .d) (p .number) query (l .components) (shaped bytes accepted .few) of-query (loaded-components bytes accepted));
       }
 

@@ -29,8 +29,7 @@ use Rattle.library.specs.Library.{Library, libraryWith, markTotal, libraryLengt
 use Rattle.loading.specs.Load.{marksRoom, settingsRoom, componentsRoom, recordsCauses as libraryCauses, loadCauses, counts, filled}
 use Rattle.loading.specs.Loaded.{loaded-shape, loaded-count, shaped, marks-count, settings-count, components-count, loaded-within}
 use Rattle.query.specs.Query.{queryCauses as lentCauses, recordsCauses as queryCauses, componentsOf}
-use Rattle.text.specs.Text.{refusedText}
-use Rattle.matching.specs.Answer.{searchable, answerText}
+use Rattle.matching.specs.Answer.{searchable, refusedText, answerText}
 use Rattle.matching.specs.Match.{behind, kLength, kOf, kCauses, matchText}
 use Rattle.matching.specs.Answerable.{packs, searches}
 
@@ -43,14 +42,15 @@ restText l rest =
 abbrev pub queryText : Library → ℕ → List ℕ → List ℕ
 queryText l k bytes = outcome (first (queryCauses (l .d) bytes)) (answerText l (componentsOf (l .d) bytes) k) refusedText
 
--- what the library can be asked: packing takes it, and the search takes it with any query and any k that pass
+-- what the library can be asked: packing takes it, the search takes it with any query and any k that pass, and each vector has settings
 pub record Ready (l : Library) : Type 0 where
   pub of-packing : first (packVectorsCauses (l .d) (l .b) (l .n) (l .components) (l .marks) (codeLength (l .b) (l .n))) ≡ Accepted
   pub of-search : (query : List ℤ) (k : ℕ) → length query ≡ l .d → areComponents query ≡ true → leb 1 k && leb k (l .n) ≡ true
       → first (searchCauses (searchable l) query k (roomOf k k (l .n))) ≡ Accepted
+  pub of-settings : length (l .settings) ≡ l .n
 
 pub ready : (input : List ℕ) → first (libraryCauses (readLibrary input) input) ≡ Accepted → Ready (readLibrary input)
-ready input passes = record { of-packing = packs input passes; of-search = searches input passes }
+ready input passes = record { of-packing = packs input passes; of-search = searches input passes; of-settings = settings-count input passes }
 
 -- ---- a step that refuses, and one that passes
 

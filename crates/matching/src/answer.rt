@@ -1,11 +1,13 @@
 // The answer of a match: the nearest vectors of a loaded library, as text.
 use crate::found::find;
+use crate::lines::put_answer;
 use limits::MAX_DIMENSION_BITS;
 use limits::MAX_DIMENSIONS;
 use limits::MAX_VECTORS;
 use search::search::read_count;
-use text::put_answer;
 ghost use mathlib.Core.Path.{_≡_};
+ghost use Prim.Native.Nat.{_≤_};
+ghost use lib.ListN.{length};
 ghost use Rattle.refusal.specs.declared.Verdict.the-variants.{Accepted};
 ghost use Rattle.refusal.specs.First.{first};
 ghost use Rattle.codes.specs.Codes.{codeLength};
@@ -33,6 +35,8 @@ pub(crate) fn answer(
 ) -> usize
     requires { ⌜ first (packVectorsCauses d b n (now components) (now marks) (codeLength b n)) ≡ Accepted ⌝ }
     requires { ⌜ first (searchCauses (searchable (libraryWith d b n (now marks) (now settings) (now components))) (now query) k (roomOf k k n)) ≡ Accepted ⌝ }
+    requires { ⌜ length (now settings) ≡ n ⌝ }
+    requires { ⌜ length (answerText (libraryWith d b n (now marks) (now settings) (now components)) (now query) k) ≤ length (now text) ⌝ }
     ensures { λ r. ⌜ Puts (answerText (libraryWith d b n (now (marks .entry)) (now (settings .entry)) (now (components .entry))) (now (query .entry)) k) 0
         (now (text .entry)) (now (text .exit)) r ⌝ }
 {
@@ -67,6 +71,9 @@ fn answer_coded(
     text: &mut [u8],
 ) -> usize
     requires { ⌜ first (searchCauses (library d b n (now marks) (now codes) (now components)) (now query) k (roomOf k k n)) ≡ Accepted ⌝ }
+    requires { ⌜ length (now settings) ≡ n ⌝ }
+    requires { ⌜ length (answerLines (now settings) k
+        (searched (library d b n (now marks) (now codes) (now components)) (now query) k)) ≤ length (now text) ⌝ }
     ensures { λ r. ⌜ Puts (answerLines (now (settings .entry)) k
         (searched (library d b n (now (marks .entry)) (now (codes .entry)) (now (components .entry))) (now (query .entry)) k)) 0
         (now (text .entry)) (now (text .exit)) r ⌝ }

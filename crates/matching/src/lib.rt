@@ -1,8 +1,10 @@
 // A match (document 01, "The program"): the bytes of a library, k and a query in, text out. `run` is the whole program.
 mod answer;
 mod found;
+mod lines;
 mod parts;
 
+use crate::lines::put_refusal;
 use crate::parts::match_rest;
 use limits::MAX_VECTORS;
 use loading::COMPONENTS_ROOM;
@@ -11,8 +13,8 @@ use loading::SETTINGS_ROOM;
 use loading::load;
 use refusal::Refusal;
 use refusal::Verdict;
-use text::put_refusal;
 ghost use mathlib.Core.Path.{_≡_};
+ghost use Prim.Native.Nat.{_≤_};
 ghost use lib.ListN.{length};
 ghost use Rattle.refusal.specs.First.{first};
 ghost use Rattle.loading.specs.Load.{marksRoom, settingsRoom, componentsRoom, filled};
@@ -63,6 +65,7 @@ fn match_input(
     text: &mut [u8],
 ) -> usize
     requires { ⌜ (length (now marks) ≡ marksRoom) × (length (now settings) ≡ settingsRoom) × (length (now components) ≡ componentsRoom) ⌝ }
+    requires { ⌜ length (matchText (now input)) ≤ length (now text) ⌝ }
     ensures { λ r. ⌜ Puts (matchText (now (input .entry))) 0 (now (text .entry)) (now (text .exit)) r ⌝ }
 {
     let loaded = load(input, marks, settings, components);
@@ -96,6 +99,7 @@ fn match_loaded(
     text: &mut [u8],
 ) -> usize
     requires { ⌜ Holds (now input) d b n used (now marks) (now settings) (now components) ⌝ }
+    requires { ⌜ length (matchText (now input)) ≤ length (now text) ⌝ }
     ensures { λ r. ⌜ Puts (matchText (now (input .entry))) 0 (now (text .entry)) (now (text .exit)) r ⌝ }
 {
     let m = layout::marks_length(d, b);

@@ -61,7 +61,7 @@ answer-coded-requires : tie.Need-answer-coded-requires
 answer-coded-requires c κs =
     let back = c .before .before .before in
     let s = back .before .before .before .before in
-    rw (codes-are back) (s .pre .1)
+    (rw (codes-are back) (s .pre .1 .0), (s .pre .1 .1 .0, rw (codes-are back) (s .pre .1 .1 .1)))
 
 returns : tie.Need-returns
 returns c =
