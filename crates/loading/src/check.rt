@@ -4,8 +4,8 @@ use crate::values::component_bits;
 use crate::values::counts_of;
 use crate::values::mark_at;
 use crate::values::mark_key;
+use crate::values::regions;
 use library::check_counts;
-use library::ends_of;
 use library::lies;
 use library::mark_place;
 use library::vector_place;
@@ -72,8 +72,8 @@ fn check_marks(bytes: &[u8]) -> Verdict
     let counts = counts_of(bytes);
     let mut t = 0;
     while t < counts.d {
-        let ends = ends_of(counts.d, counts.b, t + 1);
-        match check_dimension(bytes, ends.first, ends.last - ends.first + 1) {
+        let stretch = layout::stretch_of(counts.d, counts.b, t + 1);
+        match check_dimension(bytes, stretch.offset, regions(stretch.bits) + 1) {
             Verdict::Accepted => {
                 t += 1;
             }
@@ -160,9 +160,11 @@ fn read_ends(bytes: &[u8], d: usize, b: usize, lows: &mut [i32], highs: &mut [i3
 {
     let mut t = 0;
     while t < d {
-        let ends = ends_of(d, b, t + 1);
-        lows[t] = mark_at(bytes, ends.first);
-        highs[t] = mark_at(bytes, ends.last);
+        let stretch = layout::stretch_of(d, b, t + 1);
+        let first = stretch.offset;
+        let last = first + regions(stretch.bits);
+        lows[t] = mark_at(bytes, first);
+        highs[t] = mark_at(bytes, last);
         t += 1;
     }
 }

@@ -1,5 +1,4 @@
 // Whether a library can be written.
-use library::ends_of;
 use library::library_length;
 use library::lies;
 use limits::MAX_DIMENSIONS;
@@ -8,13 +7,13 @@ use refusal::Verdict;
 ghost use mathlib.Core.Path.{_≡_};
 ghost use mathlib.Core.Bool.{true};
 ghost use mathlib.Core.List.{[], _++_};
-ghost use Prim.Native.Nat.{_+_, _*_, _≤_};
+ghost use Prim.Native.Nat.{_+_, _*_, _^_, _≤_};
 ghost use lib.IntN.{pos};
 ghost use lib.Dec.{eqb};
 ghost use lib.ListN.{length, getD, drop};
 ghost use Rattle.refusal.specs.declared.Verdict.the-variants.{Accepted};
 ghost use Rattle.refusal.specs.First.{first};
-ghost use Rattle.limits.specs.Limits.{maxVectors};
+ghost use Rattle.limits.specs.Limits.{maxDimensionBits, maxVectors};
 ghost use Rattle.layout.specs.Stretch.{shapeCauses};
 ghost use Rattle.library.specs.Each.{tabulate, every};
 ghost use Rattle.library.specs.Library.{libraryWith};
@@ -107,11 +106,21 @@ fn fill_ends(d: usize, b: usize, marks: &[i32], lows: &mut [i32], highs: &mut [i
 {
     let mut t = 0;
     while t < d {
-        let ends = ends_of(d, b, t + 1);
-        lows[t] = whole::at(marks, ends.first);
-        highs[t] = whole::at(marks, ends.last);
+        let stretch = layout::stretch_of(d, b, t + 1);
+        let first = stretch.offset;
+        let last = first + regions(stretch.bits);
+        lows[t] = whole::at(marks, first);
+        highs[t] = whole::at(marks, last);
         t += 1;
     }
+}
+
+// The number of regions of a dimension with w bits.
+fn regions(w: usize) -> usize
+    requires { ⌜ w ≤ maxDimensionBits ⌝ }
+    ensures { λ r. ⌜ r ≡ 2 ^ w ⌝ }
+{
+    1usize << w
 }
 
 // Whether each of n vectors lies between the ends.
