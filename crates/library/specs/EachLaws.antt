@@ -12,6 +12,7 @@ use lib.Seq.{drop-at, drop-cons, take-add, ext-getD, getD-drop, set-at, append-s
 use Rattle.refusal.specs.declared.Refusal.{Refusal}
 use Rattle.refusal.specs.declared.Verdict.the-variants.{Accepted, Refused}
 use Rattle.refusal.specs.First.{Row, first}
+use Rattle.limits.specs.Tests.{All, all-each, all-fails}
 use Rattle.records.specs.RowLaws.{go-on, stop, Both, both}
 use Rattle.library.specs.Each.{each, tabulate, every}
 
@@ -98,17 +99,12 @@ module _ {A : Type 0} where
 
 -- ---- tests of the first n numbers
 
-pub every-at : (n : ℕ) (test : ℕ → Bool) → every n test ≡ true → (i : ℕ) → i < n → test i ≡ true
+every-tests : (test : ℕ → Bool) → All (λ n. every n test) test
 unfolding every
-every-at zero test all i h = absurd (omega arith)
-every-at (suc n) test all i h = go (last-or-below h) (λ all' h'. every-at n test all' i h')
-  where
-    parts : (every n test ≡ true) × (test n ≡ true)
-    parts = and-eq-true-iff (every n test) (test n) .0 all
+every-tests test = record { next = λ n. refl }
 
-    go : (i ≡ n) ⊎ (i < n) → (every n test ≡ true → i < n → test i ≡ true) → test i ≡ true
-    go (inl e) before = rw e (parts .1)
-    go (inr l) before = before (parts .0) l
+pub every-at : (n : ℕ) (test : ℕ → Bool) → every n test ≡ true → (i : ℕ) → i < n → test i ≡ true
+every-at n test all i h = all-each (every-tests test) n i h all
 
 pub every-all : (n : ℕ) (test : ℕ → Bool) → ((i : ℕ) → i < n → test i ≡ true) → every n test ≡ true
 unfolding every
@@ -116,11 +112,7 @@ every-all zero test all = refl
 every-all (suc n) test all = and-eq-true-iff (every n test) (test n) .1 (every-all n test (λ i h. all i (omega arith)), all n (omega arith))
 
 pub every-fails : (n : ℕ) (test : ℕ → Bool) (i : ℕ) → i < n → test i ≡ false → every n test ≡ false
-every-fails n test i h fails = go (every n test) refl
-  where
-    go : (all : Bool) → every n test ≡ all → all ≡ false
-    go true e = sym (every-at n test e i h) ∙ fails
-    go false e = refl
+every-fails n test i h fails = all-fails (every-tests test) n i h fails
 
 pub every-same : (n : ℕ) (test other : ℕ → Bool) → ((i : ℕ) → i < n → test i ≡ other i) → every n test ≡ every n other
 unfolding every

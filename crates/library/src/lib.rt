@@ -1,4 +1,5 @@
-// The library file (document 01, "Library file"): its counts, and where its records stand in its bytes. `loading` and `writing` read and write it.
+// The library file (document 01, "Library file"): its counts, and where its records stand in its bytes. `loading` reads it and `writing`
+// writes it.
 use records::END_LENGTH;
 use records::HEAD_LENGTH;
 use records::MARK_LENGTH;

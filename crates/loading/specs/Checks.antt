@@ -30,7 +30,6 @@ betweenCauses d lows highs bytes = recordCauses vectorKind bytes (ownCauses d lo
 pub vectors-between : {d b m n : ℕ} {lows highs : List ℤ} (bytes : List ℕ) → HeadOf bytes d b n → m ≡ markTotal d b → EndMarks d b (markAt bytes) lows highs
     → each n (λ i. betweenCauses d lows highs (drop (vectorPlace m i) bytes)) ≡ vectorsCauses (readLibrary bytes) bytes
 vectors-between {d} {b} {m} {n} {lows} {highs} bytes is total ends =
-    let l = readLibrary bytes in
     let shaped = is .of-shape in
     let marks = tabulate (markTotal d b) (markAt bytes) in
     let law = inside-between d b marks (markAt bytes) (tabulate-length (markTotal d b) (markAt bytes)) (λ i h. tabulate-at (markTotal d b) (markAt bytes) (pos 0) i h) ends in

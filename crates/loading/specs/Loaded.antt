@@ -31,6 +31,7 @@ use Rattle.records.specs.RowLaws.{both}
 use Rattle.records.specs.Frame.{frameCauses, framed}
 use Rattle.library.specs.EachLaws.{tabulate-length, tabulate-at, every-at, every-all, accepted-at}
 use Rattle.library.specs.Library.{Library, markTotal, componentIn, libraryLength, vectorPlace, markPlace, markAt, settingsAt, storedAt, componentAt, readLibrary}
+use Rattle.library.specs.Read.{mark-read}
 use Rattle.library.specs.Tests.{inside}
 use Rattle.library.specs.MarkLaws.{good-each, part-length, part-at}
 use Rattle.loading.specs.Load.{headCauses, markCauses, markWrong, zeroBeyond, vectorCauses, marksCauses, vectorsCauses, endCauses, recordsCauses}
@@ -126,10 +127,6 @@ module _ (bytes : List ℕ) (accepted : first (recordsCauses (readLibrary bytes)
 
   -- ---- the marks
 
-  mark-read : (p : ℕ) → p < total → getD (l .marks) p (pos 0) ≡ markAt bytes p
-  unfolding readLibrary
-  mark-read p h = tabulate-at total (markAt bytes) (pos 0) p h
-
   module _ (t : ℕ) (among : t < l .d) where
     abbrev from : ℕ
     from = firstMarks (l .d) (l .b) t
@@ -145,7 +142,7 @@ module _ (bytes : List ℕ) (accepted : first (recordsCauses (readLibrary bytes)
 
     read : (i : ℕ) → i < count → getD part i (pos 0) ≡ markAt bytes (from + i)
     unfolding firstMarks
-    read i h = part-at (l .d) (l .b) (l .marks) marks-count t among i h ∙ mark-read (from + i) (omega (arith, marks-within (l .d) (l .b) (l .d) t among))
+    read i h = part-at (l .d) (l .b) (l .marks) marks-count t among i h ∙ mark-read bytes (from + i) (omega (arith, marks-within (l .d) (l .b) (l .d) t among))
 
     right : (i : ℕ) → i < count → (not (isMark (markAt bytes (from + i))) ≡ false) × (ltb 0 i && ltZ (markAt bytes (from + i)) (markAt bytes (from + i - 1)) ≡ false)
     right i h =

@@ -38,7 +38,7 @@ pub(crate) fn mark_at(bytes: &[u8], i: usize) -> i32
     signed(u32_at(bytes, mark_place(i as u32) + 1), 0x8000_0000)
 }
 
-// The key of that mark.
+// The key of the mark of a number, from 0.
 pub(crate) fn mark_key(bytes: &[u8], i: usize) -> u64
     requires { ⌜ i < 2 ^ 32 ⌝ }
     ensures { λ r. ⌜ r ≡ keyOf (markAt (now (bytes .entry)) i) ⌝ }
@@ -63,7 +63,7 @@ pub(crate) fn component_bits(bytes: &[u8], at: usize, t: usize) -> u32
     bytes[i] as u32 + 256 * bytes[i + 1] as u32
 }
 
-// Component t of that vector.
+// Component t of the vector whose record begins at an index and is whole.
 pub(crate) fn component_at(bytes: &[u8], at: usize, t: usize) -> i32
     requires { ⌜ (at + recordLength vectorKind ≤ length (now bytes)) × (t < maxDimensions) ⌝ }
     ensures { λ r. ⌜ r ≡ storedAt (drop at (now (bytes .entry))) t ⌝ }

@@ -28,18 +28,19 @@ use Rattle.reading.specs.Intake.{causes}
 use Rattle.records.specs.Records.{headKind, markKind, vectorKind, endKind, freshKind, heldKind, lostKind, formats, widthsAmong, widthsOf, sum, recordLength, isKind, kindOf, valueOf}
 use Rattle.records.specs.Frame.{frameCauses, framed}
 use Rattle.records.specs.RowLaws.{go-on, stop, both}
-use Rattle.library.specs.Each.{tabulate, every}
-use Rattle.library.specs.EachLaws.{each-same}
+use Rattle.library.specs.Each.{tabulate}
+use Rattle.library.specs.EachLaws.{each-same, every-same}
 use Rattle.library.specs.Library.{Library, markTotal, markPlace, vectorPlace, libraryLength, headValue, markAt, storedAt, readLibrary}
 use Rattle.library.specs.Tests.{inside}
-use Rattle.library.specs.Sizes.{mark-place, vector-place, library-length, marks-few}
+use Rattle.library.specs.Sizes.{mark-place, vector-place, library-length, vector-length, marks-few}
+use Rattle.library.specs.Read.{marks-read}
 use Rattle.loading.specs.Load.{recordCauses, headCauses, markCauses, zeroBeyond, componentsCauses, vectorCauses, marksCauses, vectorsCauses, endCauses}
 use Rattle.region.specs.Region.{inMarks}
 use Rattle.partition.specs.Marks.{dimensionMarks}
 use Rattle.query.specs.Query.{isReading, readingOf, readingCauses, recordsCauses as queryCauses, nextRecord}
 use Rattle.matching.specs.Answer.{refusedText}
 use Rattle.matching.specs.Match.{behind, kLength, kCauses, matchCauses, matchText}
-use Rattle.matching.specs.Alike.{Alike, alike-take, alike-drop, same-number, same-value, same-kind, record-most, vector-length, same-frame}
+use Rattle.matching.specs.Alike.{Alike, alike-take, alike-drop, same-number, same-value, same-kind, record-most, same-frame}
 
 -- the longest library, k, and a held reading for each dimension
 unfoldable pub longestMatch : ℕ
@@ -147,11 +148,6 @@ too-long-query (suc d) {m} {a} {b} is long =
 
 -- ---- the library
 
-every-same : (n : ℕ) (f g : ℕ → Bool) → ((t : ℕ) → f t ≡ g t) → every n f ≡ every n g
-unfolding every
-every-same zero f g same = refl
-every-same (suc n) f g same = rw (every-same n f g same, same n)
-
 head-length : recordLength headKind ≡ 5
 unfolding recordLength sum widthsOf widthsAmong formats
 head-length = refl
@@ -169,11 +165,11 @@ same-components : (d b : ℕ) (marks : List ℤ) {m : ℕ} {one other : List ℕ
 unfolding zeroBeyond inside storedAt
 same-components d b marks {m} {one} {other} is room =
     let value : (t : ℕ) → valueOf vectorKind (suc t) one ≡ valueOf vectorKind (suc t) other = λ t. same-value vectorKind (suc t) is (rw vector-length room) in
-    rw (every-same maxDimensions (λ t. ltb t d || eqb (valueOf vectorKind (suc t) one) 0) (λ t. ltb t d || eqb (valueOf vectorKind (suc t) other) 0) (λ t. rw (value t)), every-same d (λ t. inMarks (dimensionMarks d b marks (suc t)) (toZ w16 (valueOf vectorKind (suc t) one))) (λ t. inMarks (dimensionMarks d b marks (suc t)) (toZ w16 (valueOf vectorKind (suc t) other))) (λ t. rw (value t)))
-
-marks-read : (bytes : List ℕ) → readLibrary bytes .marks ≡ tabulate (markTotal (readLibrary bytes .d) (readLibrary bytes .b)) (markAt bytes)
-unfolding readLibrary
-marks-read bytes = refl
+    let zero : List ℕ → ℕ → Bool = λ bytes t. ltb t d || eqb (valueOf vectorKind (suc t) bytes) 0 in
+    let lies : List ℕ → ℕ → Bool = λ bytes t. inMarks (dimensionMarks d b marks (suc t)) (toZ w16 (valueOf vectorKind (suc t) bytes)) in
+    let zeros = every-same maxDimensions (zero one) (zero other) (λ t h. rw (value t)) in
+    let insides = every-same d (lies one) (lies other) (λ t h. rw (value t)) in
+    rw (zeros, insides)
 
 same-k-causes : (n : ℕ) {m : ℕ} {a b : List ℕ} → Alike m a b → kLength ≤ m → kCauses n a ≡ kCauses n b
 same-k-causes n {m} {a} {b} is room =

@@ -57,8 +57,8 @@ matchText input = textWith (readLibrary input) input
 
 -- ---- the output
 
--- the output is lent for the longest text: line one has two counts, and each of its entries a number, settings and a distance: 3, 3, 3, 10
--- and 12 digits, each with the byte behind it
+-- the output is lent at an upper bound on the length of a text: line one has two counts, and each of its entries a number, settings and a
+-- distance, of at most 3, 3, 3, 10 and 12 digits, each with the byte behind it
 abbrev pub textRoom : ℕ
 textRoom = (4 + 4) + maxVectors * (4 + 11 + 13)
 

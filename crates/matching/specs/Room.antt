@@ -1,4 +1,4 @@
--- No text is longer than what the output is lent for. Assumes nothing.
+-- No text is longer than the bound for which the output is lent. Assumes nothing.
 use mathlib.Core.Path.{_≡_, refl}
 use mathlib.Core.Bool.{true, _&&_, and-eq-true-iff}
 use mathlib.Core.List.{List, [], _∷_, List·Memᴰ·head, List·Memᴰ·tail}
@@ -35,8 +35,8 @@ use Rattle.records.specs.ByteLaws.{bytes-drop}
 use Rattle.records.specs.Records.{vectorKind}
 use Rattle.records.specs.RecordLaws.{value-below, vector-widths}
 use Rattle.records.specs.RowLaws.{both}
-use Rattle.library.specs.Each.{tabulate}
-use Rattle.library.specs.EachLaws.{tabulate-at, tabulate-past}
+use Rattle.library.specs.EachLaws.{tabulate-past}
+use Rattle.library.specs.Read.{settings-read, setting-read}
 use Rattle.library.specs.Library.{Library, markTotal, vectorPlace, settingsAt, readLibrary}
 use Rattle.loading.specs.Load.{recordsCauses as libraryCauses}
 use Rattle.query.specs.Query.{recordsCauses as queryCauses, componentsOf}
@@ -131,10 +131,6 @@ refused-room cause =
 
 -- ---- the answer
 
-settings-read : (bytes : List ℕ) → readLibrary bytes .settings ≡ tabulate (readLibrary bytes .n) (settingsAt (markTotal (readLibrary bytes .d) (readLibrary bytes .b)) bytes)
-unfolding readLibrary
-settings-read bytes = refl
-
 settings-below : (bytes : List ℕ) → AreBytes bytes → (i : ℕ) → getD (readLibrary bytes .settings) i 0 < 10 ^ 10
 settings-below bytes are i = go (decLt i (readLibrary bytes .n))
   where
@@ -143,7 +139,7 @@ settings-below bytes are i = go (decLt i (readLibrary bytes .n))
         let l = readLibrary bytes in
         let place = vectorPlace (markTotal (l .d) (l .b)) i in
         let below : settingsAt (markTotal (l .d) (l .b)) bytes i < 2 ^ 32 = unfold settingsAt in rw vector-widths at (value-below vectorKind 0 (drop place bytes) (bytes-drop place bytes are) (rw vector-widths (lit< tt))) in
-        rw (settings-read bytes, tabulate-at (l .n) (settingsAt (markTotal (l .d) (l .b)) bytes) 0 i less) (omega arith)
+        rw (setting-read bytes i less) (omega arith)
     go (no more) =
         let l = readLibrary bytes in
         rw (settings-read bytes, tabulate-past (l .n) (settingsAt (markTotal (l .d) (l .b)) bytes) 0 i (omega arith)) (lit< tt)

@@ -18,10 +18,10 @@ ghost use Rattle.library.specs.Library.{libraryWith};
 ghost use Rattle.text.specs.Puts.{Puts};
 ghost use Rattle.matching.specs.Answer.{searchable, answerLines, answerText};
 
-// The most bytes of codes.
+// The most bytes that codes have.
 const CODES_ROOM: usize = MAX_VECTORS * MAX_DIMENSION_BITS * MAX_DIMENSIONS / 8;
 
-// The answer to a query.
+// The text of the answer to a query.
 pub(crate) fn answer(
     d: usize,
     b: usize,
@@ -57,7 +57,7 @@ pub(crate) fn answer(
     )
 }
 
-// The same with the codes.
+// The text of the answer to a query, with the codes of the vectors.
 fn answer_coded(
     d: usize,
     b: usize,

@@ -25,16 +25,17 @@ ghost use Rattle.matching.specs.Steps.{Holds};
 // How many bytes k has.
 pub const K_LENGTH: usize = 2;
 
-// The longest text: two counts, then for each entry a number, settings and a distance, each with the byte behind it.
+// An upper bound on the length of a text, for which the output is lent: two counts, then for each entry a number, settings and a distance,
+// each at its most digits with the byte behind it. No text needs all of it.
 pub const TEXT_ROOM: usize = (4 + 4) + MAX_VECTORS * (4 + 11 + 13);
 
-// What a match answers: nothing refuses the output, or the cause that does, and how many bytes of it the text has.
+// What a match answers: nothing refuses the output, or the cause that does, and how many bytes the text has.
 pub struct Printed {
     pub verdict: Verdict,
     pub length: usize,
 }
 
-// The text of a match, into the front of the output.
+// The text of a match is written into the front of the output.
 pub fn run(input: &[u8], output: &mut [u8]) -> Printed
     ensures { λ r. ⌜ r ≡ printed (first (roomCauses (length (now (output .entry))))) (matchText (now (input .entry))) ⌝ }
     ensures { λ _. ⌜ now (output .exit)
@@ -56,7 +57,7 @@ pub fn run(input: &[u8], output: &mut [u8]) -> Printed
     }
 }
 
-// The same with buffers for the library.
+// The text of a match, with buffers for its library.
 fn match_input(
     input: &[u8],
     marks: &mut [i32],

@@ -51,7 +51,7 @@ pub(crate) fn match_rest(
     }
 }
 
-// Whether k is there, and from 1 to n.
+// Whether k is there, and is from 1 to n.
 fn check_k(rest: &[u8], n: usize) -> Verdict
     ensures { λ r. ⌜ r ≡ first (kCauses n (now (rest .entry))) ⌝ }
 {

@@ -8,7 +8,7 @@ use native.Mathlib.Omega.{arith}
 use borrow.Author.Tests.{eq-eqb, eqb-true, not-false, le-ltb}
 use lib.Dec.{lit<, eqb, ltb}
 use lib.IntN.{pos}
-use lib.ListN.{length, getD, take, drop, length-replicate, getD-replicate}
+use lib.ListN.{length, getD, take, drop}
 use lib.Seq.{drop-drop, take-add}
 use mir.Syntax.{w16, w32}
 use mir.Val.{ofZ}
@@ -27,9 +27,11 @@ use Rattle.records.specs.Frame.{frameCauses, framed}
 use Rattle.library.specs.Each.{each}
 use Rattle.library.specs.EachLaws.{each-same, each-parts, tabulate-at, tabulate-past, every-at, every-all}
 use Rattle.library.specs.Library.{Library, markTotal, headBytes, markBytes, vectorValues, vectorBytes, endBytes, componentIn, libraryBytes, markPlace, vectorPlace, libraryLength, headValue, markAt, settingsAt, storedAt, readLibrary}
+use Rattle.library.specs.Read.{mark-read, setting-read}
 use Rattle.library.specs.MarkLaws.{numbered}
 use Rattle.library.specs.Tests.{inside}
 use Rattle.loading.specs.Load.{recordCauses, zeroBeyond, recordsCauses}
+use Rattle.loading.specs.ReadLaws.{component-below}
 use Rattle.loading.specs.Loaded.{Passes, passes, component-read, loaded-shape, loaded-count, marks-count, settings-count, components-count, loaded-components, loaded-marks, loaded-inside}
 use Rattle.writing.specs.Write.{shapedCauses, writeCauses}
 
@@ -86,10 +88,6 @@ module _ (bytes : List ℕ) (are : AreBytes bytes) (rows : first (recordsCauses 
 
   -- ---- the marks
 
-  marks-read : (i : ℕ) → i < total → getD (l .marks) i (pos 0) ≡ markAt bytes i
-  unfolding readLibrary
-  marks-read i h = tabulate-at total (markAt bytes) (pos 0) i h
-
   mark-again : (i : ℕ) → i < total → markBytes (getD (l .marks) i (pos 0)) ≡ take (recordLength markKind) (drop (markPlace i) bytes)
   unfolding markAt
   mark-again i h =
@@ -99,14 +97,10 @@ module _ (bytes : List ℕ) (are : AreBytes bytes) (rows : first (recordsCauses 
       let rest-are : AreBytes rest = bytes-drop (markPlace i) bytes are in
       let below : valueOf markKind 0 rest < 2 ^ 32 = rw mark-widths at (value-below markKind 0 rest rest-are (rw mark-widths (lit< tt))) in
       let value : ofZ w32 (markAt bytes i) ≡ valueOf markKind 0 rest = ofZ-toZ w32 (valueOf markKind 0 rest) (record { fits = below }) in
-      rw (marks-read i h)
+      rw (mark-read bytes i h)
       (record-again markKind (ofZ w32 (markAt bytes i) ∷ []) rest _ rest-are (rw (← of .is) at passes-there) (rw mark-widths (one-value (λ j. valueOf markKind j rest) value)))
 
   -- ---- the vectors
-
-  settings-read : (i : ℕ) → i < l .n → getD (l .settings) i 0 ≡ settingsAt total bytes i
-  unfolding readLibrary
-  settings-read i h = tabulate-at (l .n) (settingsAt total bytes) 0 i h
 
   -- one vector's record
   module _ (i : ℕ) (h : i < l .n) where
@@ -127,15 +121,9 @@ module _ (bytes : List ℕ) (are : AreBytes bytes) (rows : first (recordsCauses 
         let here = every-at maxDimensions (λ t. ltb t (l .d) || eqb (valueOf vectorKind (suc t) rest) 0) zeros t within in
         eqb-true (valueOf vectorKind (suc t) rest) 0 (rw (le-ltb t (l .d) past) at here)
 
-    width-at : (t : ℕ) → t < maxDimensions → valueOf vectorKind (suc t) rest < 2 ^ 16
-    width-at t within =
-        let there : suc t < length (widthsOf vectorKind) = rw vector-widths (omega (arith, length-replicate {A = ℕ} maxDimensions 2)) in
-        let two : getD (widthsOf vectorKind) (suc t) 0 ≡ 2 = rw vector-widths (getD-replicate {A = ℕ} maxDimensions t 2 0 within) in
-        rw two at (value-below vectorKind (suc t) rest rest-are there)
-
     value-same : (j : ℕ) → j < suc maxDimensions → getD values j 0 ≡ valueOf vectorKind j rest
     unfolding settingsAt storedAt
-    value-same zero k = settings-read i h
+    value-same zero k = setting-read bytes i h
     value-same (suc t) k = go (decLt t (l .d))
       where
         within : t < maxDimensions
@@ -146,7 +134,10 @@ module _ (bytes : List ℕ) (are : AreBytes bytes) (rows : first (recordsCauses 
 
         go : Dec (t < l .d) → getD values (suc t) 0 ≡ valueOf vectorKind (suc t) rest
         go (yes less) =
-            tabulate-at (l .d) stored 0 t less ∙ ap (ofZ w16) (component-read bytes rows i t h less) ∙ ofZ-toZ w16 (valueOf vectorKind (suc t) rest) (record { fits = width-at t within })
+            let below = component-below bytes are (vectorPlace total i) t within in
+            tabulate-at (l .d) stored 0 t less
+            ∙ ap (ofZ w16) (component-read bytes rows i t h less)
+            ∙ ofZ-toZ w16 (valueOf vectorKind (suc t) rest) (record { fits = below })
         go (no more) =
             let past : l .d ≤ t = omega arith in
             tabulate-past (l .d) stored 0 t past ∙ sym (beyond t within past)

@@ -22,7 +22,7 @@ ghost use Rattle.library.specs.Ends.{Table, lies, between, firstMark, lastMark}
 ghost use Rattle.writing.specs.Sized.{Dimensioned, Sized};
 ghost use Rattle.writing.specs.Write.{valueCauses, shapedCauses, writeCauses};
 
-// Whether a library can be written to so many bytes.
+// The first cause for which a library cannot be written to so many bytes.
 pub(crate) fn check_library(
     d: usize,
     b: usize,
@@ -40,6 +40,7 @@ pub(crate) fn check_library(
     }
 }
 
+// The first cause for which a library whose shape passes cannot be written to so many bytes.
 fn check_shaped(
     d: usize,
     b: usize,
@@ -70,7 +71,7 @@ fn check_shaped(
     check_values(d, b, n, marks, components)
 }
 
-// The components, the marks, and each vector against the marks.
+// The first cause of the components, the marks, and the vectors against the marks.
 fn check_values(d: usize, b: usize, n: usize, marks: &[i32], components: &[i32]) -> Verdict
     requires { ⌜ Sized d b n (now marks) (now components) ⌝ }
     ensures { λ r. ⌜ r ≡ first (valueCauses (libraryWith d b n (now (marks .entry)) [] (now (components .entry)))) ⌝ }
@@ -98,7 +99,7 @@ fn all_inside(d: usize, b: usize, n: usize, marks: &[i32], components: &[i32]) -
     all_between(d, n, &lows, &highs, components)
 }
 
-// The first and the last mark of each dimension, into the fronts of two buffers.
+// The first and the last mark of each dimension are copied into the fronts of two buffers.
 fn fill_ends(d: usize, b: usize, marks: &[i32], lows: &mut [i32], highs: &mut [i32])
     requires { ⌜ (Dimensioned d b (now marks)) × (d ≤ length (now lows)) × (d ≤ length (now highs)) ⌝ }
     ensures { λ _. ⌜ now (lows .exit) ≡ tabulate d (firstMark d b (λ i. getD (now (marks .entry)) i (pos 0))) ++ drop d (now (lows .entry)) ⌝ }
@@ -123,7 +124,7 @@ fn regions(w: usize) -> usize
     1usize << w
 }
 
-// Whether each of n vectors lies between the ends.
+// Whether each of n vectors lies between the ends of the marks.
 fn all_between(d: usize, n: usize, lows: &[i32], highs: &[i32], components: &[i32]) -> bool
     requires { ⌜ (Table d (now lows) (now highs)) × (n ≤ maxVectors) × (n * d ≤ length (now components)) ⌝ }
     ensures { λ r. ⌜ r ≡ every n (λ i. between d (now (lows .entry)) (now (highs .entry)) (λ t. getD (now (components .entry)) (i * d + t) (pos 0))) ⌝ }
@@ -138,7 +139,7 @@ fn all_between(d: usize, n: usize, lows: &[i32], highs: &[i32], components: &[i3
     true
 }
 
-// Whether the d components from an index on do, each. The answers are gathered in a number, so that the loop has no branch.
+// Whether the d components from an index on lie, each, between the ends of their dimension's marks. The answers are gathered in a number, so that the loop has no branch.
 fn is_between(d: usize, lows: &[i32], highs: &[i32], components: &[i32], from: usize) -> bool
     requires { ⌜ (Table d (now lows) (now highs)) × (from + d ≤ length (now components)) ⌝ }
     ensures { λ r. ⌜ r ≡ between d (now (lows .entry)) (now (highs .entry)) (λ t. getD (now (components .entry)) (from + t) (pos 0)) ⌝ }

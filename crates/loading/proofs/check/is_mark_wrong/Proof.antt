@@ -43,9 +43,7 @@ in-range c =
     rw (key-mark (markAt (args .bytes .now) (args .p)), least known, le-leb (keyOf (markAt (args .bytes .now) (args .p))) (2 ^ 31 + 32768) (omega (arith, c .before .key2 .ensures, known .before .before .mark-key .ensures, c .if2 .left)))
 
 returns-3 : tie.Need-returns-3
-returns-3 c =
-    let args = c .before .before .before .before .before .before .before .args in
-    rw (in-range (c .before), c .if3 .taken)
+returns-3 c = rw (in-range (c .before), c .if3 .taken)
 
 returns-4 : tie.Need-returns-4
 returns-4 c =

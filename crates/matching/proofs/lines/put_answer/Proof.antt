@@ -1,9 +1,9 @@
 -- `put_answer` meets its contract: the entries stand behind line one. Assumes nothing.
-use mathlib.Core.Path.{_≡_, _∙_}
+use mathlib.Core.Path.{_∙_}
 use mathlib.Core.List.{[], _∷_}
 use native.Mathlib.Omega.{arith}
 use borrow.Author.Needs.{needs}
-use lib.ListN.{length, take, length-append}
+use lib.ListN.{take, length-append}
 use Rattle.text.specs.Text.{line}
 use Rattle.text.specs.Puts.{Puts, puts-length, puts-more, front-puts}
 use Rattle.matching.specs.Answer.{entryLines}
