@@ -27,7 +27,8 @@ abbrev pub betweenCauses : ℕ → List ℤ → List ℤ → List ℕ → List R
 betweenCauses d lows highs bytes = recordCauses vectorKind bytes (ownCauses d lows highs bytes)
 
 -- they are the vector's causes
-pub vectors-between : {d b m n : ℕ} {lows highs : List ℤ} (bytes : List ℕ) → HeadOf bytes d b n → m ≡ markTotal d b → EndMarks d b (markAt bytes) lows highs
+pub vectors-between : {d b m n : ℕ} {lows highs : List ℤ} (bytes : List ℕ) → HeadOf bytes d b n → m ≡ markTotal d b
+    → EndMarks d b (markAt bytes) lows highs
     → each n (λ i. betweenCauses d lows highs (drop (vectorPlace m i) bytes)) ≡ vectorsCauses (readLibrary bytes) bytes
 vectors-between {d} {b} {m} {n} {lows} {highs} bytes is total ends =
     let shaped = is .of-shape in
@@ -38,5 +39,6 @@ vectors-between {d} {b} {m} {n} {lows} {highs} bytes is total ends =
 
 -- the verdict on the frame of the record at a place, by the kind that was found there
 pub frame-at : {verdict : Verdict} {found at place : ℕ} (kind : ℕ) (bytes : List ℕ) → at ≡ place → found ≡ getD bytes at 0
-    → verdict ≡ first (frameCauses (eqb found kind) (drop at bytes)) → verdict ≡ first (frameCauses (eqb (kindOf (drop place bytes)) kind) (drop place bytes))
+    → verdict ≡ first (frameCauses (eqb found kind) (drop at bytes))
+    → verdict ≡ first (frameCauses (eqb (kindOf (drop place bytes)) kind) (drop place bytes))
 frame-at {place = place} kind bytes at-is found-is is = is ∙ rw (found-is, at-is, ← kind-at bytes place)

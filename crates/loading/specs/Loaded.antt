@@ -30,11 +30,13 @@ use Rattle.records.specs.Records.{headKind, markKind, vectorKind, endKind, reco
 use Rattle.records.specs.RowLaws.{both}
 use Rattle.records.specs.Frame.{frameCauses, framed}
 use Rattle.library.specs.EachLaws.{tabulate-length, tabulate-at, every-at, every-all, accepted-at}
-use Rattle.library.specs.Library.{Library, markTotal, componentIn, libraryLength, vectorPlace, markPlace, markAt, settingsAt, storedAt, componentAt, readLibrary}
+use Rattle.library.specs.Library.{Library, markTotal, componentIn, libraryLength, vectorPlace, markPlace, markAt, settingsAt, storedAt}
+use Rattle.library.specs.Library.{componentAt, readLibrary}
 use Rattle.library.specs.Read.{mark-read}
 use Rattle.library.specs.Tests.{inside}
 use Rattle.library.specs.MarkLaws.{good-each, part-length, part-at}
-use Rattle.loading.specs.Load.{headCauses, markCauses, markWrong, zeroBeyond, vectorCauses, marksCauses, vectorsCauses, endCauses, recordsCauses}
+use Rattle.loading.specs.Load.{headCauses, markCauses, markWrong, zeroBeyond, vectorCauses, marksCauses, vectorsCauses, endCauses}
+use Rattle.loading.specs.Load.{recordsCauses}
 
 -- ---- marks and components
 
@@ -144,7 +146,8 @@ module _ (bytes : List ℕ) (accepted : first (recordsCauses (readLibrary bytes)
     unfolding firstMarks
     read i h = part-at (l .d) (l .b) (l .marks) marks-count t among i h ∙ mark-read bytes (from + i) (omega (arith, marks-within (l .d) (l .b) (l .d) t among))
 
-    right : (i : ℕ) → i < count → (not (isMark (markAt bytes (from + i))) ≡ false) × (ltb 0 i && ltZ (markAt bytes (from + i)) (markAt bytes (from + i - 1)) ≡ false)
+    right : (i : ℕ) → i < count
+        → (not (isMark (markAt bytes (from + i))) ≡ false) × (ltb 0 i && ltZ (markAt bytes (from + i)) (markAt bytes (from + i - 1)) ≡ false)
     right i h =
         let rest = drop (markPlace (from + i)) bytes in
         let own = both (frameCauses (eqb (kindOf rest) markKind) rest) _ (passes bytes l accepted .mark t i among h) .back in
@@ -159,7 +162,8 @@ module _ (bytes : List ℕ) (accepted : first (recordsCauses (readLibrary bytes)
     rises i h =
         let within : suc i < count = omega (arith, size) in
         let before : from + suc i - 1 ≡ from + i = omega arith in
-        let not-below : ltZ (markAt bytes (from + suc i)) (markAt bytes (from + i)) ≡ false = rw (before, lt-ltb 0 (suc i) (omega arith)) at (right (suc i) within .1) in
+        let not-below : ltZ (markAt bytes (from + suc i)) (markAt bytes (from + i)) ≡ false =
+        rw (before, lt-ltb 0 (suc i) (omega arith)) at (right (suc i) within .1) in
         rw (read i (omega arith), read (suc i) within, leZ-not (markAt bytes (from + suc i)) (markAt bytes (from + i)), not-below)
 
     good-part : goodDimension part ≡ true

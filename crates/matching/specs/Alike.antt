@@ -69,7 +69,8 @@ record-most kind =
     (sum-cond (eqb kind 4) 68 _ _ (lit≤ tt) (sum-cond (eqb kind 5) 68 _ _ (lit≤ tt) (sum-cond (eqb kind 6) 68 _ _ (lit≤ tt) (sum-cond (eqb kind 7) 68 _ [] (lit≤ tt) (lit≤ tt))))))) in
     omega arith
 
-pub same-frame : (placed : Bool) {m : ℕ} {a b : List ℕ} → Alike m a b → recordLength (kindOf a) ≤ m → frameCauses placed a ≡ frameCauses placed b
+pub same-frame : (placed : Bool) {m : ℕ} {a b : List ℕ} → Alike m a b → recordLength (kindOf a) ≤ m
+    → frameCauses placed a ≡ frameCauses placed b
 unfolding frameCauses recordLength
 same-frame placed {m} {a} {b} is room =
     let some : 0 < m = omega arith in

@@ -135,7 +135,8 @@ pub printed-is-the-scan : (input : List ℕ) → first (matchCauses input) ≡ A
     let rest = behind l input in
     let k = kOf rest in
     let query = componentsOf (l .d) (drop kLength rest) in
-    matchText input ≡ line k (length (searched (searchable l) query k .reads) ∷ []) ++ entryLines (l .settings) (scanned (searchable l) query k)
+    matchText input
+    ≡ line k (length (searched (searchable l) query k .reads) ∷ []) ++ entryLines (l .settings) (scanned (searchable l) query k)
 unfolding matchText matchCauses
 printed-is-the-scan input accepted =
     let l = readLibrary input in

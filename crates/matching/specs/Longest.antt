@@ -25,7 +25,8 @@ use Rattle.layout.specs.Layout.{bitsOf, markCount, firstMarks}
 use Rattle.layout.specs.Laws.{marks-within}
 use Rattle.layout.specs.Stretch.{shapeCauses, Shape, shape}
 use Rattle.reading.specs.Intake.{causes}
-use Rattle.records.specs.Records.{headKind, markKind, vectorKind, endKind, freshKind, heldKind, lostKind, formats, widthsAmong, widthsOf, sum, recordLength, isKind, kindOf, valueOf}
+use Rattle.records.specs.Records.{headKind, markKind, vectorKind, endKind, freshKind, heldKind, lostKind, formats, widthsAmong, widthsOf}
+use Rattle.records.specs.Records.{sum, recordLength, isKind, kindOf, valueOf}
 use Rattle.records.specs.Frame.{frameCauses, framed}
 use Rattle.records.specs.RowLaws.{go-on, stop, both}
 use Rattle.library.specs.Each.{tabulate}
@@ -34,7 +35,8 @@ use Rattle.library.specs.Library.{Library, markTotal, markPlace, vectorPlace, l
 use Rattle.library.specs.Tests.{inside}
 use Rattle.library.specs.Sizes.{mark-place, vector-place, library-length, vector-length, marks-few}
 use Rattle.library.specs.Read.{marks-read}
-use Rattle.loading.specs.Load.{recordCauses, headCauses, markCauses, zeroBeyond, componentsCauses, vectorCauses, marksCauses, vectorsCauses, endCauses}
+use Rattle.loading.specs.Load.{recordCauses, headCauses, markCauses, zeroBeyond, componentsCauses, vectorCauses, marksCauses, vectorsCauses}
+use Rattle.loading.specs.Load.{endCauses}
 use Rattle.region.specs.Region.{inMarks}
 use Rattle.partition.specs.Marks.{dimensionMarks}
 use Rattle.query.specs.Query.{isReading, readingOf, readingCauses, recordsCauses as queryCauses, nextRecord}
@@ -57,7 +59,8 @@ pub record BothRefuse (rows more : List Row) : Type 0 where
   pub other : first more ≡ Refused cause
 
 -- rows in front that are the same: they refuse in both, or neither
-in-front : (rows rows' more more' : List Row) → first rows ≡ first rows' → (first rows ≡ Accepted → BothRefuse more more') → BothRefuse (rows ++ more) (rows' ++ more')
+in-front : (rows rows' more more' : List Row) → first rows ≡ first rows' → (first rows ≡ Accepted → BothRefuse more more')
+    → BothRefuse (rows ++ more) (rows' ++ more')
 in-front rows rows' more more' same rest = go (first rows) refl
   where
     go : (v : Verdict) → first rows ≡ v → BothRefuse (rows ++ more) (rows' ++ more')
@@ -107,7 +110,8 @@ same-reading {m} {a} {b} is room =
     rw (same-kind is (omega arith), same-value freshKind 0 is (rw fresh-length (omega arith)), same-value heldKind 0 is (rw held-length (omega arith)), same-value heldKind 1 is (rw held-length (omega arith)))
 
 -- a kind that is no reading's is refused whatever follows
-misplaced : (bytes : List ℕ) → 0 < length bytes → isReading (kindOf bytes) ≡ false → first (readingCauses bytes) ≡ Refused (cond (isKind (kindOf bytes)) Misplaced Kind)
+misplaced : (bytes : List ℕ) → 0 < length bytes → isReading (kindOf bytes) ≡ false
+    → first (readingCauses bytes) ≡ Refused (cond (isKind (kindOf bytes)) Misplaced Kind)
 unfolding readingCauses
 misplaced bytes some not-reading = stop (frameCauses (isReading (kindOf bytes)) bytes) (causes (readingOf bytes)) (go (isKind (kindOf bytes)) refl)
   where
@@ -128,7 +132,8 @@ same-first {m} {a} {b} is room = go (isReading (kindOf a)) refl
 reading-there : (bytes : List ℕ) → first (readingCauses bytes) ≡ Accepted → isReading (kindOf bytes) ≡ true
 unfolding readingCauses
 reading-there bytes accepted =
-    framed (isReading (kindOf bytes)) bytes (both (frameCauses (isReading (kindOf bytes)) bytes) (causes (readingOf bytes)) accepted .front) .there
+    framed (isReading (kindOf bytes)) bytes
+    (both (frameCauses (isReading (kindOf bytes)) bytes) (causes (readingOf bytes)) accepted .front) .there
 
 -- more bytes than d readings can have
 too-long-query : (d : ℕ) {m : ℕ} {a b : List ℕ} → Alike m a b → d * 6 < m → BothRefuse (queryCauses d a) (queryCauses d b)
@@ -143,7 +148,8 @@ too-long-query (suc d) {m} {a} {b} is long =
     in-front (readingCauses a) (readingCauses b) (queryCauses d (nextRecord a)) (queryCauses d (nextRecord b)) (same-first is six)
     (λ accepted.
     let short = reading-most (kindOf a) (reading-there a accepted) in
-    let behind : Alike (m - recordLength (kindOf a)) (nextRecord a) (nextRecord b) = rw (← same-kind is (omega arith)) (alike-drop (recordLength (kindOf a)) is) in
+    let behind : Alike (m - recordLength (kindOf a)) (nextRecord a) (nextRecord b) =
+    rw (← same-kind is (omega arith)) (alike-drop (recordLength (kindOf a)) is) in
     too-long-query d behind (omega (arith, suc-mul d 6)))
 
 -- ---- the library
@@ -157,14 +163,17 @@ unfolding recordLength sum widthsOf widthsAmong formats
 mark-length = refl
 
 -- a record with room for the longest behind its place, and the same causes of its own
-same-record : (kind : ℕ) {m : ℕ} {a b : List ℕ} (own own' : List Row) → Alike m a b → 69 ≤ m → own ≡ own' → recordCauses kind a own ≡ recordCauses kind b own'
+same-record : (kind : ℕ) {m : ℕ} {a b : List ℕ} (own own' : List Row) → Alike m a b → 69 ≤ m → own ≡ own'
+    → recordCauses kind a own ≡ recordCauses kind b own'
 same-record kind {m} {a} {b} own own' is room same =
     rw (same-frame (eqb (kindOf a) kind) is (omega (arith, record-most (kindOf a), vector-length)), same-kind is (omega arith), same)
 
-same-components : (d b : ℕ) (marks : List ℤ) {m : ℕ} {one other : List ℕ} → Alike m one other → 69 ≤ m → componentsCauses d b marks one ≡ componentsCauses d b marks other
+same-components : (d b : ℕ) (marks : List ℤ) {m : ℕ} {one other : List ℕ} → Alike m one other → 69 ≤ m
+    → componentsCauses d b marks one ≡ componentsCauses d b marks other
 unfolding zeroBeyond inside storedAt
 same-components d b marks {m} {one} {other} is room =
-    let value : (t : ℕ) → valueOf vectorKind (suc t) one ≡ valueOf vectorKind (suc t) other = λ t. same-value vectorKind (suc t) is (rw vector-length room) in
+    let value : (t : ℕ) → valueOf vectorKind (suc t) one ≡ valueOf vectorKind (suc t) other =
+    λ t. same-value vectorKind (suc t) is (rw vector-length room) in
     let zero : List ℕ → ℕ → Bool = λ bytes t. ltb t d || eqb (valueOf vectorKind (suc t) bytes) 0 in
     let lies : List ℕ → ℕ → Bool = λ bytes t. inMarks (dimensionMarks d b marks (suc t)) (toZ w16 (valueOf vectorKind (suc t) bytes)) in
     let zeros = every-same maxDimensions (zero one) (zero other) (λ t h. rw (value t)) in
@@ -249,7 +258,8 @@ module _ (a b : List ℕ) (is : Alike (suc longestMatch) a b) where
         (each-same (one .d) _ _
         (λ t among.
         let room = marks-within (one .d) (one .b) (one .d) t among in
-        each-same (markCount (one .d) (one .b) (suc t)) _ _ (λ i within. same-mark-causes (firstMarks (one .d) (one .b) t) i (unfold firstMarks in omega (arith, few-marks)))))
+        each-same (markCount (one .d) (one .b) (suc t)) _ _
+        (λ i within. same-mark-causes (firstMarks (one .d) (one .b) t) i (unfold firstMarks in omega (arith, few-marks)))))
 
     same-vector : (i : ℕ) → i < one .n → vectorCauses one a i ≡ vectorCauses other b i
     same-vector i few =
@@ -283,7 +293,8 @@ module _ (a b : List ℕ) (is : Alike (suc longestMatch) a b) where
 
     long-query : BothRefuse (queryCauses (one .d) (drop kLength (behind one a))) (queryCauses (other .d) (drop kLength (behind other b)))
     long-query =
-        subst (λ (d : ℕ). BothRefuse (queryCauses (one .d) (drop kLength (behind one a))) (queryCauses d (drop kLength (behind other b)))) same-d
+        subst
+        (λ (d : ℕ). BothRefuse (queryCauses (one .d) (drop kLength (behind one a))) (queryCauses d (drop kLength (behind other b)))) same-d
         (too-long-query (one .d) (alike-drop kLength rest-alike) (omega (arith, used-few, shaped .few)))
 
     behind-head : BothRefuse (marksCauses one a ++ (vectorsCauses one a ++ (endCauses one a ++ (kCauses (one .n) (behind one a) ++ queryCauses (one .d) (drop kLength (behind one a))))))
@@ -307,7 +318,8 @@ module _ (a b : List ℕ) (is : Alike (suc longestMatch) a b) where
 -- ---- the theorem
 
 -- An input longer than that is refused, by the cause that its first 45,929 bytes give ..
-pub longer-is-refused : (input : List ℕ) → longestMatch < length input → BothRefuse (matchCauses input) (matchCauses (take (suc longestMatch) input))
+pub longer-is-refused : (input : List ℕ) → longestMatch < length input
+    → BothRefuse (matchCauses input) (matchCauses (take (suc longestMatch) input))
 longer-is-refused input long = both-refuse input (take (suc longestMatch) input) (alike-take (suc longestMatch) input long)
 
 -- .. so the text is that of those bytes ..

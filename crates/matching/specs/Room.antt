@@ -13,7 +13,8 @@ use lib.Signed.{mag, leZ}
 use lib.ListN.{length, getD, drop, length-append}
 use lib.Seq.{getD-take, getD-drop}
 use Rattle.refusal.specs.declared.Refusal.{Refusal}
-use Rattle.refusal.specs.declared.Refusal.the-variants.{Dimension, Bits, Count, Neighbours, Length, Component, Mark, Outside, Code, Cell, Kind, Truncated, Stale, NotANumber, OutOfRange, Trailing, Misplaced}
+use Rattle.refusal.specs.declared.Refusal.the-variants.{Dimension, Bits, Count, Neighbours, Length, Component, Mark, Outside, Code, Cell}
+use Rattle.refusal.specs.declared.Refusal.the-variants.{Kind, Truncated, Stale, NotANumber, OutOfRange, Trailing, Misplaced}
 use Rattle.refusal.specs.declared.Verdict.{Verdict}
 use Rattle.refusal.specs.declared.Verdict.the-variants.{Accepted, Refused}
 use Rattle.refusal.specs.Refusal.{numberOf}
@@ -54,7 +55,8 @@ component-size : (z : ℤ) → isComponent z ≡ true → mag z ≤ 32767
 component-size (pos n) is = leb-true n 32767 is
 component-size (negsuc n) is = leb-true n 32767 (and-eq-true-iff (leZ leastComponent (negsuc n)) true .0 is .0)
 
-first-distance : (query vector : List ℤ) (d : ℕ) → ((t : ℕ) → t < d → isComponent (getD query t (pos 0)) ≡ true) → ((t : ℕ) → t < d → isComponent (getD vector t (pos 0)) ≡ true)
+first-distance : (query vector : List ℤ) (d : ℕ) → ((t : ℕ) → t < d → isComponent (getD query t (pos 0)) ≡ true)
+    → ((t : ℕ) → t < d → isComponent (getD vector t (pos 0)) ≡ true)
     → firstDistance query vector d ≤ d * (65535 * 65535)
 unfolding firstDistance
 first-distance query vector zero of-query of-vector = omega arith
@@ -62,11 +64,13 @@ first-distance query vector (suc t) of-query of-vector =
     let before = first-distance query vector t (λ i h. of-query i (omega arith)) (λ i h. of-vector i (omega arith)) in
     let q = getD query t (pos 0) in
     let z = getD vector t (pos 0) in
-    let near : gap q z ≤ 65535 = omega (arith, gap-size q z, component-size q (of-query t (omega arith)), component-size z (of-vector t (omega arith))) in
+    let near : gap q z ≤ 65535 =
+    omega (arith, gap-size q z, component-size q (of-query t (omega arith)), component-size z (of-vector t (omega arith))) in
     let here : squared (gap q z) ≤ 65535 * 65535 = squared-le near in
     omega arith
 
-distance-below : (d i : ℕ) (query vectors : List ℤ) → d ≤ maxDimensions → areComponents query ≡ true → areComponents vectors ≡ true → distanceOf d query (vectorAt d vectors i) < 10 ^ 12
+distance-below : (d i : ℕ) (query vectors : List ℤ) → d ≤ maxDimensions → areComponents query ≡ true → areComponents vectors ≡ true
+    → distanceOf d query (vectorAt d vectors i) < 10 ^ 12
 distance-below d i query vectors few of-query of-vectors =
     let sum = first-distance query (vectorAt d vectors i) d (λ t h. component-at query of-query t)
     (λ t h. rw (getD-take d (drop (i * d) vectors) t (pos 0) h, getD-drop (i * d) vectors t (pos 0)) (component-at vectors of-vectors (i * d + t))) in
@@ -89,7 +93,8 @@ entry-room settings p small is =
     let distance = decimal-length 11 (p .key) (is .distance) in
     simp length-append (omega arith)
 
-entries-room : (settings : List ℕ) (ps : List Pair) → ((i : ℕ) → getD settings i 0 < 10 ^ 10) → ((p : Pair) → p ∈ ps → Short p) → length (entryLines settings ps) ≤ length ps * 28
+entries-room : (settings : List ℕ) (ps : List Pair) → ((i : ℕ) → getD settings i 0 < 10 ^ 10) → ((p : Pair) → p ∈ ps → Short p)
+    → length (entryLines settings ps) ≤ length ps * 28
 unfolding entryLines
 entries-room settings [] small short = omega arith
 entries-room settings (p ∷ ps) small short =
@@ -174,7 +179,8 @@ module _ (bytes : List ℕ) (accepted : first (libraryCauses (readLibrary bytes)
       let one = first-room k (length (searched s query k .reads)) (omega (arith, few)) (omega (arith, count-few, few)) in
       let entries = entries-room (l .settings) (searched s query k .best) (settings-below bytes are) short in
       let most : length (searched s query k .best) * 28 ≤ maxVectors * 28 = mul-le-mul-right 28 (le-trans best-few few) in
-      rw (length-append (line k (length (searched s query k .reads) ∷ [])) (entryLines (l .settings) (searched s query k .best))) (omega arith)
+      rw (length-append (line k (length (searched s query k .reads) ∷ [])) (entryLines (l .settings) (searched s query k .best)))
+      (omega arith)
 
 -- no text is longer
 pub text-room : (input : List ℕ) → AreBytes input → length (matchText input) ≤ textRoom
@@ -191,6 +197,7 @@ text-room input are = go (first (causesWith l input)) refl
         let rest = both (kCauses (l .n) (behind l input)) (queryCauses (l .d) (drop kLength (behind l input))) (library .back) in
         let neighbours = passed _ Neighbours [] (passed _ Truncated _ (rest .front) .rest) in
         let k = kOf (behind l input) in
-        answer-room input (library .front) are (componentsOf (l .d) (drop kLength (behind l input))) (query-components (l .d) (drop kLength (behind l input)) (rest .back)) k
+        answer-room input (library .front) are (componentsOf (l .d) (drop kLength (behind l input)))
+        (query-components (l .d) (drop kLength (behind l input)) (rest .back)) k
         (between 1 k (l .n) (not-false (leb 1 k && leb k (l .n)) (neighbours .fails)) .below)
     go (Refused cause) e = refused-room cause

@@ -50,7 +50,8 @@ framed placed bytes accepted =
     }
 
 -- a record that is written is whole
-pub record-framed : {placed : Bool} (kind : ℕ) (values rest : List ℕ) → isKind kind ≡ true → placed ≡ true → Framed placed (recordBytes kind values ++ rest)
+pub record-framed : {placed : Bool} (kind : ℕ) (values rest : List ℕ) → isKind kind ≡ true → placed ≡ true
+    → Framed placed (recordBytes kind values ++ rest)
 unfolding recordBytes
 record-framed kind values rest known there =
     let size = length-append (recordBytes kind values) rest in

@@ -30,7 +30,8 @@ use Rattle.library.specs.EachLaws.{Begins, each-accepted, every-at, every-all}
 use Rattle.library.specs.Library.{Library, markTotal, componentIn, libraryBytes, vectorPlace, componentAt}
 use Rattle.library.specs.Tests.{inside}
 use Rattle.library.specs.MarkLaws.{numbered, good-range, good-rise}
-use Rattle.loading.specs.Load.{marksRoom, settingsRoom, componentsRoom, recordCauses, headCauses, markWrong, markCauses, zeroBeyond, vectorCauses, marksCauses, vectorsCauses, endCauses, loadCauses}
+use Rattle.loading.specs.Load.{marksRoom, settingsRoom, componentsRoom, recordCauses, headCauses, markWrong, markCauses, zeroBeyond}
+use Rattle.loading.specs.Load.{vectorCauses, marksCauses, vectorsCauses, endCauses, loadCauses}
 use Rattle.writing.specs.Writable.{Writable, component-fits}
 use Rattle.round_trip.specs.Places.{head-there, mark-there, vector-there, end-there}
 use Rattle.round_trip.specs.ReadWritten.{Storable, mark-value, component-value, beyond-value, read-written}
@@ -116,7 +117,8 @@ module _ (l : Library) (room : ℕ) (w : Writable l room) (settings : (i : ℕ) 
   unfolding zeroBeyond
   zero-beyond i h = every-all maxDimensions _ (λ t k. go t k (decLt t (l .d)))
     where
-      go : (t : ℕ) → t < maxDimensions → Dec (t < l .d) → ltb t (l .d) || eqb (valueOf vectorKind (suc t) (drop (vectorPlace total i) bytes)) 0 ≡ true
+      go : (t : ℕ) → t < maxDimensions → Dec (t < l .d)
+          → ltb t (l .d) || eqb (valueOf vectorKind (suc t) (drop (vectorPlace total i) bytes)) 0 ≡ true
       go t k (yes less) = rw (lt-ltb t (l .d) less)
       go t k (no more) =
           let past : l .d ≤ t = omega arith in

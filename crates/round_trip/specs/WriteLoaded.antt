@@ -20,23 +20,27 @@ use Rattle.limits.specs.Limits.{maxDimensions}
 use Rattle.layout.specs.Stretch.{shapeCauses}
 use Rattle.records.specs.Bytes.{AreBytes}
 use Rattle.records.specs.ByteLaws.{bytes-drop}
-use Rattle.records.specs.Records.{headKind, markKind, vectorKind, endKind, formats, widthsAmong, widthsOf, recordLength, recordBytes, kindOf, valueOf}
+use Rattle.records.specs.Records.{headKind, markKind, vectorKind, endKind, formats, widthsAmong, widthsOf, recordLength, recordBytes}
+use Rattle.records.specs.Records.{kindOf, valueOf}
 use Rattle.records.specs.RecordLaws.{value-below, written-read, head-widths, mark-widths, vector-widths}
 use Rattle.records.specs.RowLaws.{both, go-on}
 use Rattle.records.specs.Frame.{frameCauses, framed}
 use Rattle.library.specs.Each.{each}
 use Rattle.library.specs.EachLaws.{each-same, each-parts, tabulate-at, tabulate-past, every-at, every-all}
-use Rattle.library.specs.Library.{Library, markTotal, headBytes, markBytes, vectorValues, vectorBytes, endBytes, componentIn, libraryBytes, markPlace, vectorPlace, libraryLength, headValue, markAt, settingsAt, storedAt, readLibrary}
+use Rattle.library.specs.Library.{Library, markTotal, headBytes, markBytes, vectorValues, vectorBytes, endBytes, componentIn, libraryBytes}
+use Rattle.library.specs.Library.{markPlace, vectorPlace, libraryLength, headValue, markAt, settingsAt, storedAt, readLibrary}
 use Rattle.library.specs.Read.{mark-read, setting-read}
 use Rattle.library.specs.MarkLaws.{numbered}
 use Rattle.library.specs.Tests.{inside}
 use Rattle.loading.specs.Load.{recordCauses, zeroBeyond, recordsCauses}
 use Rattle.loading.specs.ReadLaws.{component-below}
-use Rattle.loading.specs.Loaded.{Passes, passes, component-read, loaded-shape, loaded-count, marks-count, settings-count, components-count, loaded-components, loaded-marks, loaded-inside}
+use Rattle.loading.specs.Loaded.{Passes, passes, component-read, loaded-shape, loaded-count, marks-count, settings-count, components-count}
+use Rattle.loading.specs.Loaded.{loaded-components, loaded-marks, loaded-inside}
 use Rattle.writing.specs.Write.{shapedCauses, writeCauses}
 
 -- writing accepts a library that was loaded
-pub loaded-writable : (bytes : List ℕ) → first (recordsCauses (readLibrary bytes) bytes) ≡ Accepted → let l = readLibrary bytes in first (writeCauses l (libraryLength (l .d) (l .b) (l .n))) ≡ Accepted
+pub loaded-writable : (bytes : List ℕ) → first (recordsCauses (readLibrary bytes) bytes) ≡ Accepted → let l = readLibrary bytes in
+    first (writeCauses l (libraryLength (l .d) (l .b) (l .n))) ≡ Accepted
 unfolding first
 loaded-writable bytes rows =
     let l = readLibrary bytes in
@@ -47,14 +51,16 @@ loaded-writable bytes rows =
 
 -- the bytes of a record that passes, from its values
 record-again : (kind : ℕ) (values bytes : List ℕ) (own : List Row) → AreBytes bytes → first (recordCauses kind bytes own) ≡ Accepted
-    → ((i : ℕ) → i < length (widthsOf kind) → getD values i 0 ≡ valueOf kind i bytes) → recordBytes kind values ≡ take (recordLength kind) bytes
+    → ((i : ℕ) → i < length (widthsOf kind) → getD values i 0 ≡ valueOf kind i bytes)
+    → recordBytes kind values ≡ take (recordLength kind) bytes
 record-again kind values bytes own are accepted same =
     let is = framed (eqb (kindOf bytes) kind) bytes (both (frameCauses (eqb (kindOf bytes) kind) bytes) own accepted .front) in
     let kind-is = eqb-true (kindOf bytes) kind (is .there) in
     written-read kind values bytes are kind-is (rw kind-is at (is .whole)) same
 
 -- parts of a list that stand one behind the other
-one-behind-the-other : (size n place : ℕ) (f : ℕ → List ℕ) (bytes : List ℕ) → ((i : ℕ) → i < n → f i ≡ take size (drop (place + i * size) bytes))
+one-behind-the-other : (size n place : ℕ) (f : ℕ → List ℕ) (bytes : List ℕ)
+    → ((i : ℕ) → i < n → f i ≡ take size (drop (place + i * size) bytes))
     → take place bytes ++ each n f ≡ take (place + n * size) bytes
 one-behind-the-other size n place f bytes same =
     let parts = each-same n f (λ i. take size (drop (i * size) (drop place bytes))) (λ i h. same i h ∙ ap (take size) (sym (drop-drop (i * size) place bytes))) in

@@ -13,7 +13,8 @@ use Rattle.library.proofs.check_counts.Statement.{statement}
 use Rattle.library.proofs.check_counts.Tie as tie
 
 -- behind a shape that passes, the count is what is left to test
-shape-passes : (c : tie.After-is-vector-count) → let args = c .before .before .before .before .args in first (shapeCauses (args .d) (args .b)) ≡ Accepted
+shape-passes : (c : tie.After-is-vector-count) → let args = c .before .before .before .before .args in
+    first (shapeCauses (args .d) (args .b)) ≡ Accepted
 shape-passes c = sym (c .before .before .before .check-shape .ensures) ∙ c .before .enum-told .given .1
 
 returns : tie.Need-returns

@@ -22,7 +22,8 @@ match-loaded-requires c κs =
     (loaded-holds input (pre .0 .0) (pre .0 .1) (pre .0 .2) (of .0) accepted _ _ _ (of .1 .0) (of .1 .1 .0) (of .1 .1 .1), pre .1)
 
 -- the library is refused
-refused-is : (c : tie.After-verdict) → let load = c .before .before .before .before .before .before in matchText (start load .args .input .now) ≡ refusedText (c .verdict .given .0 .0)
+refused-is : (c : tie.After-verdict) → let load = c .before .before .before .before .before .before in
+    matchText (start load .args .input .now) ≡ refusedText (c .verdict .given .0 .0)
 refused-is c =
     let load = c .before .before .before .before .before .before in
     let pre = start load .pre in

@@ -11,7 +11,8 @@ use Rattle.library.specs.Library.{libraryWith, markTotal}
 use Rattle.library.specs.Sizes.{marks-length-is}
 use Rattle.matching.specs.Match.{matchText}
 use Rattle.text.specs.Puts.{puts-length, puts-same}
-use Rattle.matching.specs.Steps.{restText, begins-within, held-shape, held-few, held-within, held-marks, held-settings, held-components, held-ready, held-text}
+use Rattle.matching.specs.Steps.{restText, begins-within, held-shape, held-few, held-within, held-marks, held-settings}
+use Rattle.matching.specs.Steps.{held-components, held-ready, held-text}
 use Rattle.matching.proofs.match_loaded.Statement.{statement}
 use Rattle.matching.proofs.match_loaded.Tie as tie
 

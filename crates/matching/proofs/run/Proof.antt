@@ -20,7 +20,8 @@ use Rattle.matching.proofs.run.Tie as tie
 returns : tie.Need-returns
 returns c =
     let s = c .before .before .before in
-    let refused : first (roomCauses (length (s .args .output .now))) ≡ Refused Length = first-here Length [] (ap not (ne-eqb _ textRoom (c .if1 .taken))) in
+    let refused : first (roomCauses (length (s .args .output .now))) ≡ Refused Length =
+    first-here Length [] (ap not (ne-eqb _ textRoom (c .if1 .taken))) in
     (sym (outcome-refused _ _ refused), sym (outcome-refused _ _ refused))
 
 -- the output has room
@@ -34,7 +35,8 @@ returns-2 c =
     let put = c .before .before .before .before .before in
     let tested = put .before .before .before .before .before in
     let s = tested .before .before .before in
-    let accepted : first (roomCauses (length (s .args .output .now))) ≡ Accepted = first-next Length [] (ap not (eq-eqb _ textRoom (tested .if1 .left))) ∙ first-none in
+    let accepted : first (roomCauses (length (s .args .output .now))) ≡ Accepted =
+    first-next Length [] (ap not (eq-eqb _ textRoom (tested .if1 .left))) ∙ first-none in
     let front = puts-front (put .match-input .ensures) in (
       ap {B = Printed} (λ n. record { verdict = Accepted; length = n }) (front .0) ∙ sym (outcome-accepted _ _ accepted),
       front .1 ∙ front-fits _ (s .args .output .now) (room tested) ∙ sym (outcome-accepted _ _ accepted),

@@ -33,7 +33,9 @@ returns c =
     sym (at-end (args .placed) (args .bytes .now) (args .at) (c .if1 .taken))
 
 -- the kind is known or not
-kind-known : (c : tie.After-is-kind) → c .is-kind .result ≡ isKind (getD (c .before .before .before .before .args .bytes .now) (c .before .before .before .before .args .at) 0)
+kind-known : (c : tie.After-is-kind)
+    → c .is-kind .result
+    ≡ isKind (getD (c .before .before .before .before .args .bytes .now) (c .before .before .before .before .args .at) 0)
 kind-known c = rw (← c .before .byte-at .ensures) (c .is-kind .ensures)
 
 returns-2 : tie.Need-returns-2
@@ -50,7 +52,8 @@ returns-3 c =
 
 -- the body's end is what is left to test
 last-test : (c : tie.After-record-length) → let args = c .before .before .before .before .before .before .before .args in
-    first (frameCauses (args .placed) (drop (args .at) (args .bytes .now))) ≡ first ((ltb (length (args .bytes .now) - args .at) (c .record-length .result) ⇒ Truncated) ∷ [])
+    first (frameCauses (args .placed) (drop (args .at) (args .bytes .now)))
+    ≡ first ((ltb (length (args .bytes .now) - args .at) (c .record-length .result) ⇒ Truncated) ∷ [])
 unfolding first
 last-test c =
     let known = c .before .before .before in

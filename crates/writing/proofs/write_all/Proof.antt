@@ -61,13 +61,15 @@ put-byte-requires c κs =
     omega (arith, c .vector-place .ensures, vector-place (length (start .args .marks .now)) (start .args .n), whole start, head .write-head .kept, marks .write-marks .kept, vectors .write-vectors .kept)
 
 -- the buffer's length is kept by all four
-kept : (c : tie.After-put-byte) → let start = c .before .before .before .before .before .before .before .before .before .before .before .before .before .before .before .before .before in
+kept : (c : tie.After-put-byte)
+    → let start = c .before .before .before .before .before .before .before .before .before .before .before .before .before .before .before .before .before in
     length (c .put-byte .last .0) ≡ length (start .args .bytes .now)
 kept c =
     let vectors = c .before .before .before .before .before in
     let marks = vectors .before .before .before .before in
     let head = marks .before .before .before .before in
-    c .put-byte .kept .0 ∙ vectors .write-vectors .kept .1 .1 .1 .1 .1 .0 ∙ marks .write-marks .kept .1 .0 ∙ head .write-head .kept .1 .1 .1 .0
+    c .put-byte .kept .0 ∙ vectors .write-vectors .kept .1 .1 .1 .1 .1 .0 ∙ marks .write-marks .kept .1 .0
+    ∙ head .write-head .kept .1 .1 .1 .0
 
 returns : tie.Need-returns
 unfolding libraryBytes

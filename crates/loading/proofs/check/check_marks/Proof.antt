@@ -28,7 +28,8 @@ abbrev μ-loop : tie.MeasureT-loop
 μ-loop bytes counts t₀ t = counts .d - t
 
 -- the head
-head : (c : tie.After-counts-of Inv-loop μ-loop) → let counts = c .counts-of .result in HeadOf (c .before .before .args .bytes .now) (counts .d) (counts .b) (counts .n)
+head : (c : tie.After-counts-of Inv-loop μ-loop) → let counts = c .counts-of .result in
+    HeadOf (c .before .before .args .bytes .now) (counts .d) (counts .b) (counts .n)
 head c =
     let start = c .before .before in
     let is = c .counts-of .ensures in
@@ -38,7 +39,8 @@ regions-requires : tie.Need-regions-requires Inv-loop μ-loop
 regions-requires c κs =
     let now = c .before .before .before in
     let counts = now .before .counts-of .result in
-    stretch-bits (counts .d) (counts .b) (now .loop .t) (head (now .before) .of-shape .shape-passes) (c .before .if1 .taken) (c .stretch-of .ensures)
+    stretch-bits (counts .d) (counts .b) (now .loop .t) (head (now .before) .of-shape .shape-passes) (c .before .if1 .taken)
+    (c .stretch-of .ensures)
 
 -- the turn of the loop, and the numbers of its dimension's first and last mark
 module _ (c : tie.After-regions Inv-loop μ-loop) where
@@ -51,18 +53,21 @@ module _ (c : tie.After-regions Inv-loop μ-loop) where
   abbrev counts : Counts
   counts = now .before .counts-of .result
 
-  ends-are : let s = c .before .stretch-of .result in EndsAt (counts .d) (counts .b) (now .loop .t) (s .offset) (s .offset + c .regions .result)
+  ends-are : let s = c .before .stretch-of .result in
+      EndsAt (counts .d) (counts .b) (now .loop .t) (s .offset) (s .offset + c .regions .result)
   ends-are =
       let passes = head (now .before) .of-shape .shape-passes in
       ends-at (counts .d) (counts .b) (now .loop .t) passes (turn .if1 .taken) (c .before .stretch-of .ensures) (c .regions .ensures)
 
 -- the verdict on a dimension
 here : (c : tie.After-check-dimension Inv-loop μ-loop) → let at = c .before in
-    c .check-dimension .result ≡ first (causes (now at .before .before .before .args .bytes .now) (counts at .d) (counts at .b) (now at .loop .t))
+    c .check-dimension .result
+    ≡ first (causes (now at .before .before .before .args .bytes .now) (counts at .d) (counts at .b) (now at .loop .t))
 here c =
     let at = c .before in
     let is = ends-are at in
-    let count : at .regions .result + 1 ≡ markCount (counts at .d) (counts at .b) (suc (now at .loop .t)) = omega (arith, is .first-is, is .last-is) in
+    let count : at .regions .result + 1 ≡ markCount (counts at .d) (counts at .b) (suc (now at .loop .t)) =
+    omega (arith, is .first-is, is .last-is) in
     let bytes = now at .before .before .before .args .bytes .now in
     c .check-dimension .ensures ∙ ap₂ (λ (m from : ℕ). first (each m (markCauses bytes from))) count (is .first-is)
 

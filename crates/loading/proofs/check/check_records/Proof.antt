@@ -27,10 +27,12 @@ module _ (bytes : List ℕ) where
 head-passes : (c : tie.After-enum-told) → first (head (c .before .before .before .before .args .bytes .now)) ≡ Accepted
 head-passes c = sym (c .before .before .check-head .ensures) ∙ c .enum-told .given .1
 
-to-marks-pass : (c : tie.After-enum-told3) → let bytes = c .before .before .before .before .before .before .before .args .bytes .now in first (head bytes ++ marks bytes) ≡ Accepted
+to-marks-pass : (c : tie.After-enum-told3) → let bytes = c .before .before .before .before .before .before .before .args .bytes .now in
+    first (head bytes ++ marks bytes) ≡ Accepted
 to-marks-pass c =
     let bytes = c .before .before .before .before .before .before .before .args .bytes .now in
-    go-on (head bytes) (marks bytes) (head-passes (c .before .before .before)) ∙ sym (c .before .before .check-marks .ensures) ∙ c .enum-told3 .given .1
+    go-on (head bytes) (marks bytes) (head-passes (c .before .before .before)) ∙ sym (c .before .before .check-marks .ensures)
+    ∙ c .enum-told3 .given .1
 
 returns : tie.Need-returns
 returns c =
@@ -43,7 +45,8 @@ returns-2 c =
     let found = c .before .before in
     let bytes = found .before .before .before .before .before .args .bytes .now in
     let refused = go-on (head bytes) (marks bytes) (head-passes (found .before)) ∙ sym (found .check-marks .ensures) ∙ c .enum-told4 .given .1 in
-    c .enum-told4 .given .1 ∙ sym (stop (head bytes ++ marks bytes ++ vectors bytes) (end bytes) (stop (head bytes ++ marks bytes) (vectors bytes) refused))
+    c .enum-told4 .given .1
+    ∙ sym (stop (head bytes ++ marks bytes ++ vectors bytes) (end bytes) (stop (head bytes ++ marks bytes) (vectors bytes) refused))
 
 returns-3 : tie.Need-returns-3
 returns-3 c =

@@ -18,11 +18,13 @@ returns : tie.Need-returns
 unfolding keyOf
 returns c =
     let args = c .before .before .before .before .args in
-    let below : keyOf (markAt (args .bytes .now) (args .p)) < 2 ^ 31 - 32768 = omega (arith, c .before .key .ensures, c .before .before .mark-key .ensures, c .if1 .taken) in
+    let below : keyOf (markAt (args .bytes .now) (args .p)) < 2 ^ 31 - 32768 =
+    omega (arith, c .before .key .ensures, c .before .before .mark-key .ensures, c .if1 .taken) in
     rw (key-mark (markAt (args .bytes .now) (args .p)), lt-leb (2 ^ 31 - 32768) _ below)
 
 -- the mark's key is at least the least mark's
-least : (c : tie.Else1) → let args = c .before .before .before .before .args in leb (2 ^ 31 - 32768) (keyOf (markAt (args .bytes .now) (args .p))) ≡ true
+least : (c : tie.Else1) → let args = c .before .before .before .before .args in
+    leb (2 ^ 31 - 32768) (keyOf (markAt (args .bytes .now) (args .p))) ≡ true
 unfolding keyOf
 least c = le-leb (2 ^ 31 - 32768) (keyOf (markAt (c .before .before .before .before .args .bytes .now) (c .before .before .before .before .args .p))) (omega (arith, c .before .key .ensures, c .before .before .mark-key .ensures, c .if1 .left))
 
@@ -31,11 +33,13 @@ unfolding keyOf
 returns-2 c =
     let known = c .before .before in
     let args = known .before .before .before .before .args in
-    let above : 2 ^ 31 + 32768 < keyOf (markAt (args .bytes .now) (args .p)) = omega (arith, c .before .key2 .ensures, known .before .before .mark-key .ensures, c .if2 .taken) in
+    let above : 2 ^ 31 + 32768 < keyOf (markAt (args .bytes .now) (args .p)) =
+    omega (arith, c .before .key2 .ensures, known .before .before .mark-key .ensures, c .if2 .taken) in
     rw (key-mark (markAt (args .bytes .now) (args .p)), least known, lt-leb _ (2 ^ 31 + 32768) above)
 
 -- the mark is in range
-in-range : (c : tie.Else2) → let args = c .before .before .before .before .before .before .args in isMark (markAt (args .bytes .now) (args .p)) ≡ true
+in-range : (c : tie.Else2) → let args = c .before .before .before .before .before .before .args in
+    isMark (markAt (args .bytes .now) (args .p)) ≡ true
 unfolding keyOf
 in-range c =
     let known = c .before .before in

@@ -38,7 +38,8 @@ unfolding zeroBeyond
 returns c =
     let now = c .before .before .before in
     let args = now .before .before .args in
-    sym (every-fails maxDimensions (test (args .d) (drop (args .at) (args .bytes .now))) (now .loop .t) (c .before .before .loop-test .taken)
+    sym
+    (every-fails maxDimensions (test (args .d) (drop (args .at) (args .bytes .now))) (now .loop .t) (c .before .before .loop-test .taken)
     (here (c .before) ∙ ne-eqb _ _ (c .if1 .taken)))
 
 loop-again : tie.Need-loop-again Inv-loop μ-loop

@@ -34,9 +34,11 @@ module _ (c : tie.After-regions Inv-loop μ-loop) where
   abbrev start : tie.Start Inv-loop μ-loop
   start = now .before .before
 
-  ends-are : let s = c .before .stretch-of .result in EndsAt (start .args .d) (start .args .b) (now .loop .t) (s .offset) (s .offset + c .regions .result)
+  ends-are : let s = c .before .stretch-of .result in
+      EndsAt (start .args .d) (start .args .b) (now .loop .t) (s .offset) (s .offset + c .regions .result)
   ends-are =
-      ends-at (start .args .d) (start .args .b) (now .loop .t) (start .pre .0) (turn .loop-test .taken) (c .before .stretch-of .ensures) (c .regions .ensures)
+      ends-at (start .args .d) (start .args .b) (now .loop .t) (start .pre .0) (turn .loop-test .taken) (c .before .stretch-of .ensures)
+      (c .regions .ensures)
 
   low-room : now .loop .t < length (now .loop .lows)
   low-room = omega (arith, start .pre .1, turn .loop-test .taken, now .loop .inv .low .room)
@@ -57,13 +59,15 @@ loop-again c =
     let args = start ends .args in
     let at = now ends .loop in
     ending-next (args .d) (args .b) (markAt (args .bytes .now)) (args .lows .now) (args .highs .now) (at .t) (pre .1) (pre .2)
-    (turn ends .loop-test .taken) (ends-are ends) (given (low .mark-at .ok) (low .mark-at .ensures)) (given (c .mark-at2 .ok) (c .mark-at2 .ensures)) (at .inv)
+    (turn ends .loop-test .taken) (ends-are ends) (given (low .mark-at .ok) (low .mark-at .ensures))
+    (given (c .mark-at2 .ok) (c .mark-at2 .ensures)) (at .inv)
 
 returns : tie.Need-returns Inv-loop μ-loop
 returns c =
     let now = c .before in
     let args = now .before .before .args in
-    ending-end (args .d) (args .b) (markAt (args .bytes .now)) (args .lows .now) (args .highs .now) (now .loop .t) (c .loop-test .left) (now .loop .inv)
+    ending-end (args .d) (args .b) (markAt (args .bytes .now)) (args .lows .now) (args .highs .now) (now .loop .t) (c .loop-test .left)
+    (now .loop .inv)
 
 pub read-ends-spec : {M : Type 1} → statement M
 read-ends-spec =

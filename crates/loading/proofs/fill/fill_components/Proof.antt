@@ -68,7 +68,8 @@ loop-again c =
       omega (arith, inside .loop-test .taken),
       rw next
           (filling-more (args .n * args .d) (component bytes (args .m) (args .d)) (args .components .now) (now .i * args .d) (args .d) (storedAt (drop (vectorPlace (args .m) (now .i)) bytes))
-          (row inside) (vector .fill-vector .kept .1 .1 .1 .1 .0) is (λ t h. rw (digits-div (now .i) h, digits-mod (now .i) h)) (now .inv .1)),
+          (row inside) (vector .fill-vector .kept .1 .1 .1 .1 .0) is (λ t h. rw (digits-div (now .i) h, digits-mod (now .i) h))
+          (now .inv .1)),
     )
 
 returns : tie.Need-returns Inv-loop μ-loop
@@ -76,7 +77,8 @@ returns c =
     let now = c .before .loop in
     let args = c .before .before .before .args in
     let all : now .i ≡ args .n = omega (arith, now .inv .0, c .loop-test .left) in
-    filling-end (args .n * args .d) (component (args .bytes .now) (args .m) (args .d)) (args .components .now) (args .n * args .d) (omega arith) (rw all at (now .inv .1))
+    filling-end (args .n * args .d) (component (args .bytes .now) (args .m) (args .d)) (args .components .now) (args .n * args .d)
+    (omega arith) (rw all at (now .inv .1))
 
 pub fill-components-spec : {M : Type 1} → statement M
 fill-components-spec =

@@ -37,11 +37,14 @@ codes-hold c = omega (arith, few (c .before .before))
 codes-within : tie.Need-array-share-prefix-codes
 codes-within c =
     let back = c .before in
-    back-within _ _ (back .pack-vectors .last .1 .1 .1 .1 .1 .0) (codes-hold (back .before .before)) (back .pack-vectors .kept .1 .1 .1 .1 .1 .0)
+    back-within _ _ (back .pack-vectors .last .1 .1 .1 .1 .1 .0) (codes-hold (back .before .before))
+    (back .pack-vectors .kept .1 .1 .1 .1 .1 .0)
 
 -- what packing gives for a buffer of the right length
-packed-are : (d b n : ℕ) (vectors marks : List ℤ) (old : List ℕ) {new : List ℕ} (room : ℕ) → first (packVectorsCauses d b n vectors marks (codeLength b n)) ≡ Accepted → room ≡ codeLength b n
-    → new ≡ outcome (first (packVectorsCauses d b n vectors marks room)) (vectorCodes d b n marks vectors) (λ _. old) → new ≡ vectorCodes d b n marks vectors
+packed-are : (d b n : ℕ) (vectors marks : List ℤ) (old : List ℕ) {new : List ℕ} (room : ℕ)
+    → first (packVectorsCauses d b n vectors marks (codeLength b n)) ≡ Accepted → room ≡ codeLength b n
+    → new ≡ outcome (first (packVectorsCauses d b n vectors marks room)) (vectorCodes d b n marks vectors) (λ _. old)
+    → new ≡ vectorCodes d b n marks vectors
 packed-are d b n vectors marks old room accepted exact new-is =
     new-is ∙ outcome-accepted _ _ (ap (λ (m : ℕ). first (packVectorsCauses d b n vectors marks m)) exact ∙ accepted)
 

@@ -82,7 +82,8 @@ put-answer-requires c κs =
     let found = count .before .before .before .find in
     let s = start count in
     let a = s .args in (
-      listed (given s) (a .query .now) (a .k) (found .result .entries) (found .ensures) (a .settings .now) (few-neighbours s) (s .pre .1 .0),
+      listed (given s) (a .query .now) (a .k) (found .result .entries) (found .ensures) (a .settings .now) (few-neighbours s)
+          (s .pre .1 .0),
       rw (text-is count) (s .pre .1 .1),
     )
 

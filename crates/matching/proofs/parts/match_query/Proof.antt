@@ -52,12 +52,14 @@ module _ (c : tie.After-query2) (is : c .query2 .result ≡ Accepted) where
   passes : first (recordsCauses (s .args .d) (s .args .bytes .now)) ≡ Accepted
   passes = sym (verdict-is c) ∙ is
 
-  components-are : take (s .args .d) (query-back c ++ drop (s .args .d) (replicate 32 (pos 0))) ≡ componentsOf (s .args .d) (s .args .bytes .now)
+  components-are : take (s .args .d) (query-back c ++ drop (s .args .d) (replicate 32 (pos 0)))
+      ≡ componentsOf (s .args .d) (s .args .bytes .now)
   components-are =
       shared-is _ _ (query-back c) (query-holds (c .before .before)) (c .query2 .kept .1 .1 .0)
       ∙ c .query2 .ensures .1 ∙ outcome-accepted _ _ (sym (c .query2 .ensures .0) ∙ is)
 
-  text-is : answerText (given s) (take (s .args .d) (query-back c ++ drop (s .args .d) (replicate 32 (pos 0)))) (s .args .k) ≡ queryText (given s) (s .args .k) (s .args .bytes .now)
+  text-is : answerText (given s) (take (s .args .d) (query-back c ++ drop (s .args .d) (replicate 32 (pos 0)))) (s .args .k)
+      ≡ queryText (given s) (s .args .k) (s .args .bytes .now)
   text-is = ap (λ (query : List ℤ). answerText (given s) query (s .args .k)) components-are ∙ sym (outcome-accepted _ refusedText passes)
 
 answer-requires : tie.Need-answer-requires

@@ -18,10 +18,12 @@ use Rattle.matching.proofs.parts.match_rest.Statement.{statement}
 use Rattle.matching.proofs.parts.match_rest.Tie as tie
 
 -- k passes
-accepted : (c : tie.After-enum-told) → let start = c .before .before .before .before .before .before in first (kCauses (start .args .n) (start .args .rest .now)) ≡ Accepted
+accepted : (c : tie.After-enum-told) → let start = c .before .before .before .before .before .before in
+    first (kCauses (start .args .n) (start .args .rest .now)) ≡ Accepted
 accepted c = sym (c .before .before .check-k .ensures) ∙ c .enum-told .given .1
 
-there : (c : tie.After-u16-at) → let start = c .before .before .before .before .before .before .before in kLength ≤ length (start .args .rest .now)
+there : (c : tie.After-u16-at) → let start = c .before .before .before .before .before .before .before in
+    kLength ≤ length (start .args .rest .now)
 there c =
     let start = c .before .before .before .before .before .before .before in
     k-there (start .args .n) (start .args .rest .now) (accepted (c .before))
@@ -47,7 +49,8 @@ match-query-requires c κs =
     ((s .pre .0, among), rw (text-is u) (s .pre .1))
 
 -- k is refused
-refused-is : (c : tie.After-cause) → let s = c .before .before .before .before .before .before in restText (given s) (s .args .rest .now) ≡ refusedText (c .cause .given .0 .0)
+refused-is : (c : tie.After-cause) → let s = c .before .before .before .before .before .before in
+    restText (given s) (s .args .rest .now) ≡ refusedText (c .cause .given .0 .0)
 refused-is c =
     let s = c .before .before .before .before .before .before in
     k-refused (given s) (s .args .rest .now) (sym (c .before .before .check-k .ensures) ∙ c .cause .given .1)

@@ -17,7 +17,8 @@ few c = shape (c .args .d) (c .args .b) (c .pre .of-marks .shape-passes) .few
 
 -- the buffers hold the ends
 ends : (c : tie.After-fill-ends) → let args = c .before .before .before .args in
-    EndMarks (args .d) (args .b) (λ i. getD (args .marks .now) i (pos 0)) (c .fill-ends .last .1 .1 .1 .0) (c .fill-ends .last .1 .1 .1 .1 .0)
+    EndMarks (args .d) (args .b) (λ i. getD (args .marks .now) i (pos 0)) (c .fill-ends .last .1 .1 .1 .0)
+    (c .fill-ends .last .1 .1 .1 .1 .0)
 ends c = record { rest = _; rest' = _; lows-are = c .fill-ends .ensures .0; highs-are = c .fill-ends .ensures .1 }
 
 all-between-requires : tie.Need-all-between-requires

@@ -63,7 +63,8 @@ length-is c =
     let count = c .before .before .before .before .before in
     let start = count .before .before .before in
     let passes : first (countsCauses (start .args .d) (start .args .b) (start .args .n)) ≡ Accepted =
-    go-on (shapeCauses (start .args .d) (start .args .b)) ((not (isVectorCount (start .args .n)) ⇒ Count) ∷ []) (start .pre) ∙ rw (← count .before .is-vector-count .ensures, count .if1 .left) in
+    go-on (shapeCauses (start .args .d) (start .args .b)) ((not (isVectorCount (start .args .n)) ⇒ Count) ∷ []) (start .pre)
+    ∙ rw (← count .before .is-vector-count .ensures, count .if1 .left) in
     c .library-length .ensures ∙ outcome-accepted _ _ passes
 
 returns-5 : tie.Need-returns-5
@@ -98,7 +99,8 @@ mul-if4 : tie.Need-mul-if4
 mul-if4 c =
     let marks = c .before .before in
     let start = marks .before .before .before .before in
-    let product : start .args .n * start .args .d ≤ 16384 = mul-le-mul (few (marks .before)) (shape (start .args .d) (start .args .b) (start .pre) .few) in
+    let product : start .args .n * start .args .d ≤ 16384 =
+    mul-le-mul (few (marks .before)) (shape (start .args .d) (start .args .b) (start .pre) .few) in
     omega arith
 
 pub check-shaped-spec : {M : Type 1} → statement M

@@ -31,7 +31,8 @@ regions-requires : tie.Need-regions-requires Inv-loop μ-loop
 regions-requires c κs =
     let now = c .before .before in
     let start = now .before in
-    stretch-bits (start .args .d) (start .args .b) (now .loop .t) (start .pre .0 .shape-passes) (c .before .loop-test .taken) (c .stretch-of .ensures)
+    stretch-bits (start .args .d) (start .args .b) (now .loop .t) (start .pre .0 .shape-passes) (c .before .loop-test .taken)
+    (c .stretch-of .ensures)
 
 -- the numbers of the ends
 ends-are : (c : tie.After-regions Inv-loop μ-loop) → let s = c .before .stretch-of .result in
@@ -42,7 +43,8 @@ ends-are c =
     let stretch = c .before in
     let now = stretch .before .before in
     let start = now .before in
-    ends-at (start .args .d) (start .args .b) (now .loop .t) (start .pre .0 .shape-passes) (stretch .before .loop-test .taken) (stretch .stretch-of .ensures)
+    ends-at (start .args .d) (start .args .b) (now .loop .t) (start .pre .0 .shape-passes) (stretch .before .loop-test .taken)
+    (stretch .stretch-of .ensures)
     (c .regions .ensures)
 
 -- the turn of the loop, and the room that the buffers have for it
@@ -67,14 +69,17 @@ loop-again c =
     let now = tested .before in
     let start = now .before in
     let args = start .args in
-    ending-next (args .d) (args .b) (mark (args .marks .now)) (args .lows .now) (args .highs .now) (now .loop .t) (start .pre .1) (start .pre .2)
-    (tested .loop-test .taken) (ends-are ends) (given (low .at .ok) (low .at .ensures)) (given (c .at2 .ok) (c .at2 .ensures)) (now .loop .inv)
+    ending-next (args .d) (args .b) (mark (args .marks .now)) (args .lows .now) (args .highs .now) (now .loop .t) (start .pre .1)
+    (start .pre .2)
+    (tested .loop-test .taken) (ends-are ends) (given (low .at .ok) (low .at .ensures)) (given (c .at2 .ok) (c .at2 .ensures))
+    (now .loop .inv)
 
 returns : tie.Need-returns Inv-loop μ-loop
 returns c =
     let now = c .before in
     let args = now .before .args in
-    ending-end (args .d) (args .b) (mark (args .marks .now)) (args .lows .now) (args .highs .now) (now .loop .t) (c .loop-test .left) (now .loop .inv)
+    ending-end (args .d) (args .b) (mark (args .marks .now)) (args .lows .now) (args .highs .now) (now .loop .t) (c .loop-test .left)
+    (now .loop .inv)
 
 pub fill-ends-spec : {M : Type 1} → statement M
 fill-ends-spec =

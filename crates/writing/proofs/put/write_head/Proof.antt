@@ -41,7 +41,8 @@ returns c =
     let two = three .before .before .before .before in
     let one = two .before .before .before .before in
     let args = one .before .before .before .args in
-    rw (mark-place 0, four .put-pair .ensures, three .put-byte3 .ensures, two .put-byte2 .ensures, one .put-byte .ensures) (head-parts (args .d) (args .b) (args .n))
+    rw (mark-place 0, four .put-pair .ensures, three .put-byte3 .ensures, two .put-byte2 .ensures, one .put-byte .ensures)
+    (head-parts (args .d) (args .b) (args .n))
 
 pub write-head-spec : {M : Type 1} → statement M
 write-head-spec =

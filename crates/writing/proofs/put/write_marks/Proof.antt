@@ -61,12 +61,14 @@ loop-again c =
     let next : place at + 1 + 4 ≡ markPlace (i + 1) = omega (arith, place-is at, mark-place (i + 1)) in
     let parts = both-parts (take (place at) (now .loop .bytes)) _ _ (one .put-byte .ensures) (two .put-quad .ensures) in
     let mark = toZ-ofZ w32 (getD marks i (pos 0)) (record { sfits = two .before .before .bits-of-arg .given }) in
-    let start : take (place at) (now .loop .bytes) ≡ take (markPlace i) (now .loop .bytes) = ap (λ (p : ℕ). take p (now .loop .bytes)) (at .mark-place .ensures) in
+    let start : take (place at) (now .loop .bytes) ≡ take (markPlace i) (now .loop .bytes) =
+    ap (λ (p : ℕ). take p (now .loop .bytes)) (at .mark-place .ensures) in
     record {
       few = omega (arith, at .before .loop-test .taken);
       room = two .put-quad .kept .0 ∙ one .put-byte .kept .0 ∙ now .loop .inv .room;
       so-far =
-          each-grows (take (markPlace 0) (now .before .before .args .bytes .now)) i (λ i. markBytes (getD marks i (pos 0))) (now .loop .inv .so-far)
+          each-grows (take (markPlace 0) (now .before .before .args .bytes .now)) i (λ i. markBytes (getD marks i (pos 0)))
+          (now .loop .inv .so-far)
           (rw (next, start, mark-parts (rw mark at (two .before .bits-of .ensures))) at parts);
     }
 

@@ -72,7 +72,8 @@ loop-again c =
       few = omega (arith, at .before .loop-test .taken);
       room = one .write-vector .kept .1 .1 .1 .1 .1 .0 ∙ now .loop .inv .room;
       so-far =
-          each-grows (take (vectorPlace (args .m) 0) (args .bytes .now)) i (vector (args .d) (args .settings .now) (args .components .now)) (now .loop .inv .so-far)
+          each-grows (take (vectorPlace (args .m) 0) (args .bytes .now)) i (vector (args .d) (args .settings .now) (args .components .now))
+          (now .loop .inv .so-far)
           (rw (next, at .vector-place .ensures) at (one .write-vector .ensures));
     }
 
