@@ -46,7 +46,8 @@ module _ {A : Type 0} (n : ℕ) (f : ℕ → A) (old : List A) where
       record {
         few = within;
         room = kept ∙ at .room;
-        so-far = is ∙ rw (front, rest, part, each-add k d (λ i. f i ∷ [])) (sym (append-assoc (tabulate k f) (tabulate d (λ t. f (k + t))) (drop (k + d) old)));
+        so-far = is ∙ rw (front, rest, part, each-add k d (λ i. f i ∷ []))
+            (sym (append-assoc (tabulate k f) (tabulate d (λ t. f (k + t))) (drop (k + d) old)));
       }
 
 -- The same from an index on: what stands before it is kept too.
@@ -72,7 +73,15 @@ module _ {A : Type 0} (n : ℕ) (f : ℕ → A) (from : ℕ) (old : List A) wher
         few = omega arith;
         room = simp length-set (at .room);
         so-far =
-            rw (is, at .so-far, ← append-assoc (take from old) (tabulate i f) (drop (from + i) old), drop-cons old (from + i) (f i) (omega arith), set-at front (getD old (from + i) (f i)) (drop (suc (from + i)) old) (f i) (from + i) long, next, add-one i)
+            rw (
+              is,
+              at .so-far,
+              ← append-assoc (take from old) (tabulate i f) (drop (from + i) old),
+              drop-cons old (from + i) (f i) (omega arith),
+              set-at front (getD old (from + i) (f i)) (drop (suc (from + i)) old) (f i) (from + i) long,
+              next,
+              add-one i,
+            )
             (simp append-assoc);
       }
 
@@ -101,4 +110,5 @@ module _ (d b : ℕ) (mark : ℕ → ℤ) (lows₀ highs₀ : List ℤ) where
 
   pub ending-end : {lows highs : List ℤ} (t : ℕ) → d ≤ t → Ending d b mark lows₀ highs₀ lows highs t
       → (lows ≡ tabulate d (firstMark d b mark) ++ drop d lows₀) × (highs ≡ tabulate d (lastMark d b mark) ++ drop d highs₀)
-  ending-end t all at = (filling-end d (firstMark d b mark) lows₀ t all (at .low), filling-end d (lastMark d b mark) highs₀ t all (at .high))
+  ending-end t all at =
+      (filling-end d (firstMark d b mark) lows₀ t all (at .low), filling-end d (lastMark d b mark) highs₀ t all (at .high))

@@ -72,7 +72,9 @@ module _ (d b : ℕ) (marks : List ℤ) (whole : length marks ≡ firstMarks d b
 
   pub part-at : (i : ℕ) → i < markCount d b (suc t)
       → getD (dimensionMarks d b marks (suc t)) i (pos 0) ≡ getD marks (firstMarks d b t + i) (pos 0)
-  part-at i h = rw (part-is, getD-take (markCount d b (suc t)) (drop (firstMarks d b t) marks) i (pos 0) h) (getD-drop (firstMarks d b t) marks i (pos 0))
+  part-at i h =
+      rw (part-is, getD-take (markCount d b (suc t)) (drop (firstMarks d b t) marks) i (pos 0) h)
+      (getD-drop (firstMarks d b t) marks i (pos 0))
 
   -- a value lies inside a dimension's marks where it is at least the first and below the last
   pub in-marks-at : (v : ℤ)
@@ -96,4 +98,6 @@ module _ (d b : ℕ) (marks : List ℤ) (whole : length marks ≡ firstMarks d b
         → ltZ (getD marks (firstMarks d b t + suc i) (pos 0)) (getD marks (firstMarks d b t + i) (pos 0)) ≡ false
     good-rise i h =
         let rises = marks-rise (dimensionMarks d b marks (suc t)) good-part i (suc i) (omega arith) (omega (arith, part-length)) in
-        rw (part-at i (omega arith), part-at (suc i) h) at (ltZ-not (getD (dimensionMarks d b marks (suc t)) (suc i) (pos 0)) (getD (dimensionMarks d b marks (suc t)) i (pos 0)) ∙ ap not rises)
+        rw (part-at i (omega arith), part-at (suc i) h) at
+        (ltZ-not (getD (dimensionMarks d b marks (suc t)) (suc i) (pos 0)) (getD (dimensionMarks d b marks (suc t)) i (pos 0))
+        ∙ ap not rises)

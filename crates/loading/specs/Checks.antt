@@ -33,9 +33,12 @@ pub vectors-between : {d b m n : ℕ} {lows highs : List ℤ} (bytes : List ℕ)
 vectors-between {d} {b} {m} {n} {lows} {highs} bytes is total ends =
     let shaped = is .of-shape in
     let marks = tabulate (markTotal d b) (markAt bytes) in
-    let law = inside-between d b marks (markAt bytes) (tabulate-length (markTotal d b) (markAt bytes)) (λ i h. tabulate-at (markTotal d b) (markAt bytes) (pos 0) i h) ends in
+    let law =
+    inside-between d b marks (markAt bytes) (tabulate-length (markTotal d b) (markAt bytes))
+    (λ i h. tabulate-at (markTotal d b) (markAt bytes) (pos 0) i h) ends in
     rw (is .n-is)
-    (each-same n _ _ (λ i h. rw (total, shaped .d-is, shaped .b-is, marks-are bytes shaped, law (storedAt (drop (vectorPlace (markTotal d b) i) bytes)))))
+    (each-same n _ _
+    (λ i h. rw (total, shaped .d-is, shaped .b-is, marks-are bytes shaped, law (storedAt (drop (vectorPlace (markTotal d b) i) bytes)))))
 
 -- the verdict on the frame of the record at a place, by the kind that was found there
 pub frame-at : {verdict : Verdict} {found at place : ℕ} (kind : ℕ) (bytes : List ℕ) → at ≡ place → found ≡ getD bytes at 0

@@ -30,7 +30,8 @@ pub loadable : (marks settings components : ℕ) (bytes : List ℕ) → first (l
 unfolding loadCauses
 loadable marks settings components bytes accepted =
     let lengths = passed _ Length _ accepted in
-    let all = and-eq-true-iff (eqb marks marksRoom) (eqb settings settingsRoom && eqb components componentsRoom) .0 (not-false _ (lengths .fails)) in
+    let all =
+    and-eq-true-iff (eqb marks marksRoom) (eqb settings settingsRoom && eqb components componentsRoom) .0 (not-false _ (lengths .fails)) in
     let later = and-eq-true-iff (eqb settings settingsRoom) (eqb components componentsRoom) .0 (all .1) in
     record {
       marks-count = eqb-true _ _ (all .0);

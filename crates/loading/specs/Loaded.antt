@@ -1,5 +1,5 @@
--- What holds of a library whose records pass: every record has passed its own causes, all of it is there, its marks are good, its components
--- in range, and its vectors inside the marks. So writing accepts it. Assumes nothing.
+-- What holds of a library whose records pass: every record has passed its own causes, all of it is there, its marks are good, its
+-- components in range, and its vectors inside the marks. So writing accepts it. Assumes nothing.
 use mathlib.Core.Path.{_≡_, refl, _∙_}
 use mathlib.Core.Bool.{Bool, true, false, not, _&&_, _||_}
 use mathlib.Core.List.{List, [], _∷_, _++_}
@@ -51,7 +51,11 @@ unfolding goodDimension notAbove
 good-dimension [] range rise = refl
 good-dimension (m ∷ []) range rise = rw (range 0 (omega arith))
 good-dimension (m ∷ next ∷ ms) range rise =
-    rw (range 0 (omega arith), rise 0 (omega arith), good-dimension (next ∷ ms) (λ i h. range (suc i) (omega arith)) (λ i h. rise (suc i) (omega arith)))
+    rw (
+      range 0 (omega arith),
+      rise 0 (omega arith),
+      good-dimension (next ∷ ms) (λ i h. range (suc i) (omega arith)) (λ i h. rise (suc i) (omega arith)),
+    )
 
 -- a number of 16 bits is a component
 bits-component : (x : ℕ) → isComponent (toZ w16 x) ≡ true
@@ -122,7 +126,8 @@ module _ (bytes : List ℕ) (accepted : first (recordsCauses (readLibrary bytes)
   unfolding libraryLength recordLength
   loaded-within =
       let place = vectorPlace total (l .n) in
-      let frame = both (frameCauses (eqb (kindOf (drop place bytes)) endKind) (drop place bytes)) [] (passes bytes l accepted .end) .front in
+      let frame =
+      both (frameCauses (eqb (kindOf (drop place bytes)) endKind) (drop place bytes)) [] (passes bytes l accepted .end) .front in
       let is = framed (eqb (kindOf (drop place bytes)) endKind) (drop place bytes) frame in
       let kind = eqb-true (kindOf (drop place bytes)) endKind (is .there) in
       omega (arith, rw (kind, length-drop place bytes) at (is .whole))
@@ -144,10 +149,13 @@ module _ (bytes : List ℕ) (accepted : first (recordsCauses (readLibrary bytes)
 
     read : (i : ℕ) → i < count → getD part i (pos 0) ≡ markAt bytes (from + i)
     unfolding firstMarks
-    read i h = part-at (l .d) (l .b) (l .marks) marks-count t among i h ∙ mark-read bytes (from + i) (omega (arith, marks-within (l .d) (l .b) (l .d) t among))
+    read i h =
+        part-at (l .d) (l .b) (l .marks) marks-count t among i h
+        ∙ mark-read bytes (from + i) (omega (arith, marks-within (l .d) (l .b) (l .d) t among))
 
     right : (i : ℕ) → i < count
-        → (not (isMark (markAt bytes (from + i))) ≡ false) × (ltb 0 i && ltZ (markAt bytes (from + i)) (markAt bytes (from + i - 1)) ≡ false)
+        → (not (isMark (markAt bytes (from + i))) ≡ false)
+        × (ltb 0 i && ltZ (markAt bytes (from + i)) (markAt bytes (from + i - 1)) ≡ false)
     right i h =
         let rest = drop (markPlace (from + i)) bytes in
         let own = both (frameCauses (eqb (kindOf rest) markKind) rest) _ (passes bytes l accepted .mark t i among h) .back in
@@ -170,7 +178,9 @@ module _ (bytes : List ℕ) (accepted : first (recordsCauses (readLibrary bytes)
     good-part = good-dimension part in-range rises
 
   pub loaded-marks : goodMarks (l .d) (l .b) (l .marks) ≡ true
-  loaded-marks = good-each (l .d) (l .b) (l .marks) (l .d) ∙ every-all (l .d) (λ t. goodDimension (dimensionMarks (l .d) (l .b) (l .marks) (suc t))) good-part
+  loaded-marks =
+      good-each (l .d) (l .b) (l .marks) (l .d)
+      ∙ every-all (l .d) (λ t. goodDimension (dimensionMarks (l .d) (l .b) (l .marks) (suc t))) good-part
 
   -- ---- the vectors
 
@@ -187,7 +197,8 @@ module _ (bytes : List ℕ) (accepted : first (recordsCauses (readLibrary bytes)
   unfolding storedAt
   loaded-components =
       all-components (l .components)
-      (λ k h. rw (component-at k (rw components-count at h)) (bits-component (valueOf vectorKind (suc (k % l .d)) (drop (vectorPlace total (k / l .d)) bytes))))
+      (λ k h. rw (component-at k (rw components-count at h))
+      (bits-component (valueOf vectorKind (suc (k % l .d)) (drop (vectorPlace total (k / l .d)) bytes))))
 
   pub vector-inside : (i : ℕ) → i < l .n → inside (l .d) (l .b) (l .marks) (componentAt total bytes i) ≡ true
   vector-inside i h =
@@ -199,4 +210,6 @@ module _ (bytes : List ℕ) (accepted : first (recordsCauses (readLibrary bytes)
   unfolding inside
   loaded-inside i h =
       every-all (l .d) (λ t. inMarks (dimensionMarks (l .d) (l .b) (l .marks) (suc t)) (componentIn l i t))
-      (λ t k. rw (component-read i t h k) (every-at (l .d) (λ t. inMarks (dimensionMarks (l .d) (l .b) (l .marks) (suc t)) (componentAt total bytes i t)) (vector-inside i h) t k))
+      (λ t k. rw (component-read i t h k)
+      (every-at (l .d) (λ t. inMarks (dimensionMarks (l .d) (l .b) (l .marks) (suc t)) (componentAt total bytes i t))
+      (vector-inside i h) t k))

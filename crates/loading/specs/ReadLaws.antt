@@ -61,7 +61,13 @@ component-value bytes at t few =
     let within : suc t < length (widthsOf vectorKind) = rw vector-widths (omega (arith, length-replicate {A = ℕ} maxDimensions 2)) in
     let place : at + suc (4 + 2 * t) ≡ at + 5 + 2 * t = omega arith in
     value-at vectorKind (suc t) (drop at bytes) within
-    ∙ rw (vector-widths, getD-replicate {A = ℕ} maxDimensions t 2 0 few, sum-twos maxDimensions t (omega arith), drop-drop (suc (4 + 2 * t)) at bytes, place)
+    ∙ rw (
+      vector-widths,
+      getD-replicate {A = ℕ} maxDimensions t 2 0 few,
+      sum-twos maxDimensions t (omega arith),
+      drop-drop (suc (4 + 2 * t)) at bytes,
+      place,
+    )
 
 -- ---- signed values
 

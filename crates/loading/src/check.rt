@@ -32,7 +32,8 @@ ghost use Rattle.library.specs.Each.{each, tabulate};
 ghost use Rattle.library.specs.Library.{vectorPlace, markAt, storedAt, readLibrary};
 ghost use Rattle.library.specs.Ends.{Table, between, firstMark, lastMark};
 ghost use Rattle.library.specs.Tests.{inside};
-ghost use Rattle.loading.specs.Load.{headCauses, markWrong, markCauses, zeroBeyond, marksCauses, vectorsCauses, endCauses, recordsCauses};
+ghost use Rattle.loading.specs.Load.{headCauses, markWrong, markCauses, zeroBeyond, marksCauses, vectorsCauses, endCauses};
+ghost use Rattle.loading.specs.Load.{recordsCauses};
 ghost use Rattle.loading.specs.Checks.{ownCauses, betweenCauses};
 
 // The first cause of a library's records.
@@ -140,7 +141,8 @@ fn is_mark_wrong(bytes: &[u8], p: usize, i: usize) -> bool
     key < mark_key(bytes, p - 1)
 }
 
-// The first cause of the vectors, for a head that passes. Each component is held against the ends of its dimension's marks, which are read once.
+// The first cause of the vectors, for a head that passes. Each component is held against the ends of its dimension's marks, which are
+// read once.
 fn check_vectors(bytes: &[u8]) -> Verdict
     requires { ⌜ first (headCauses (readLibrary (now bytes)) (now bytes)) ≡ Accepted ⌝ }
     ensures { λ r. ⌜ r ≡ first (vectorsCauses (readLibrary (now (bytes .entry))) (now (bytes .entry))) ⌝ }
@@ -173,7 +175,8 @@ fn read_ends(bytes: &[u8], d: usize, b: usize, lows: &mut [i32], highs: &mut [i3
 // The first cause of n vectors, whose records stand behind m marks.
 fn check_each(bytes: &[u8], d: usize, m: usize, n: usize, lows: &[i32], highs: &[i32]) -> Verdict
     requires { ⌜ (Table d (now lows) (now highs)) × (m < 2 ^ 32) × (n < 2 ^ 32) ⌝ }
-    ensures { λ r. ⌜ r ≡ first (each n (λ i. betweenCauses d (now (lows .entry)) (now (highs .entry)) (drop (vectorPlace m i) (now (bytes .entry))))) ⌝ }
+    ensures { λ r. ⌜ r
+        ≡ first (each n (λ i. betweenCauses d (now (lows .entry)) (now (highs .entry)) (drop (vectorPlace m i) (now (bytes .entry))))) ⌝ }
 {
     let mut i = 0;
     while i < n {

@@ -37,7 +37,8 @@ pub(crate) fn fill_settings(bytes: &[u8], m: usize, n: usize, settings: &mut [u3
 
 // The d components of each of n vectors, whose records stand behind m marks, are read into the front of the buffer.
 pub(crate) fn fill_components(bytes: &[u8], m: usize, d: usize, n: usize, components: &mut [i32])
-    requires { ⌜ (m < 2 ^ 32) × (d ≤ maxDimensions) × (n ≤ maxVectors) × (n * d ≤ length (now components)) × (vectorPlace m n ≤ length (now bytes)) ⌝ }
+    requires { ⌜ (m < 2 ^ 32) × (d ≤ maxDimensions) × (n ≤ maxVectors) × (n * d ≤ length (now components))
+        × (vectorPlace m n ≤ length (now bytes)) ⌝ }
     ensures { λ _. ⌜ now (components .exit)
         ≡ tabulate (n * d) (λ k. componentAt m (now (bytes .entry)) (k / d) (k % d)) ++ drop (n * d) (now (components .entry)) ⌝ }
 {
@@ -58,7 +59,8 @@ pub(crate) fn fill_components(bytes: &[u8], m: usize, d: usize, n: usize, compon
 fn fill_vector(bytes: &[u8], at: usize, d: usize, from: usize, components: &mut [i32])
     requires { ⌜ (at + recordLength vectorKind ≤ length (now bytes)) × (d ≤ maxDimensions) × (from + d ≤ length (now components)) ⌝ }
     ensures { λ _. ⌜ now (components .exit)
-        ≡ take from (now (components .entry)) ++ (tabulate d (storedAt (drop at (now (bytes .entry)))) ++ drop (from + d) (now (components .entry))) ⌝ }
+        ≡ take from (now (components .entry))
+        ++ (tabulate d (storedAt (drop at (now (bytes .entry)))) ++ drop (from + d) (now (components .entry))) ⌝ }
 {
     let mut t = 0;
     while t < d {

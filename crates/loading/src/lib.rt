@@ -40,16 +40,20 @@ pub const COMPONENTS_ROOM: usize = MAX_VECTORS * MAX_DIMENSIONS;
 // The library that the bytes begin with is loaded into the fronts of the buffers.
 pub fn load(bytes: &[u8], marks: &mut [i32], settings: &mut [u32], components: &mut [i32]) -> Loaded
     ensures { λ r. ⌜ r ≡ counts
-        (first (loadCauses (length (now (marks .entry))) (length (now (settings .entry))) (length (now (components .entry))) (now (bytes .entry))))
+        (first (loadCauses (length (now (marks .entry))) (length (now (settings .entry))) (length (now (components .entry)))
+        (now (bytes .entry))))
         (readLibrary (now (bytes .entry))) ⌝ }
     ensures { λ _. ⌜ now (marks .exit) ≡ filled
-        (first (loadCauses (length (now (marks .entry))) (length (now (settings .entry))) (length (now (components .entry))) (now (bytes .entry))))
+        (first (loadCauses (length (now (marks .entry))) (length (now (settings .entry))) (length (now (components .entry)))
+        (now (bytes .entry))))
         ((readLibrary (now (bytes .entry))) .marks) (now (marks .entry)) ⌝ }
     ensures { λ _. ⌜ now (settings .exit) ≡ filled
-        (first (loadCauses (length (now (marks .entry))) (length (now (settings .entry))) (length (now (components .entry))) (now (bytes .entry))))
+        (first (loadCauses (length (now (marks .entry))) (length (now (settings .entry))) (length (now (components .entry)))
+        (now (bytes .entry))))
         ((readLibrary (now (bytes .entry))) .settings) (now (settings .entry)) ⌝ }
     ensures { λ _. ⌜ now (components .exit) ≡ filled
-        (first (loadCauses (length (now (marks .entry))) (length (now (settings .entry))) (length (now (components .entry))) (now (bytes .entry))))
+        (first (loadCauses (length (now (marks .entry))) (length (now (settings .entry))) (length (now (components .entry)))
+        (now (bytes .entry))))
         ((readLibrary (now (bytes .entry))) .components) (now (components .entry)) ⌝ }
 {
     match check_load(bytes, marks.len(), settings.len(), components.len()) {

@@ -21,7 +21,9 @@ pub(crate) struct Counts {
 }
 
 pub(crate) fn counts_of(bytes: &[u8]) -> Counts
-    ensures { λ r. ⌜ (r .d ≡ headValue (now (bytes .entry)) 0) × (r .b ≡ headValue (now (bytes .entry)) 1) × (r .n ≡ headValue (now (bytes .entry)) 2) ⌝ }
+    ensures { λ r. ⌜ (r .d ≡ headValue (now (bytes .entry)) 0)
+        × (r .b ≡ headValue (now (bytes .entry)) 1)
+        × (r .n ≡ headValue (now (bytes .entry)) 2) ⌝ }
 {
     Counts {
         d: byte_at(bytes, 1) as usize,

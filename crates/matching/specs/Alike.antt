@@ -66,7 +66,9 @@ record-most kind =
     sum-cond (eqb kind 1) 68 _ _ (lit≤ tt)
     (sum-cond (eqb kind 2) 68 _ _ (lit≤ tt)
     (sum-cond (eqb kind 3) 68 _ _ (lit≤ tt)
-    (sum-cond (eqb kind 4) 68 _ _ (lit≤ tt) (sum-cond (eqb kind 5) 68 _ _ (lit≤ tt) (sum-cond (eqb kind 6) 68 _ _ (lit≤ tt) (sum-cond (eqb kind 7) 68 _ [] (lit≤ tt) (lit≤ tt))))))) in
+    (sum-cond (eqb kind 4) 68 _ _ (lit≤ tt)
+    (sum-cond (eqb kind 5) 68 _ _ (lit≤ tt)
+    (sum-cond (eqb kind 6) 68 _ _ (lit≤ tt) (sum-cond (eqb kind 7) 68 _ [] (lit≤ tt) (lit≤ tt))))))) in
     omega arith
 
 pub same-frame : (placed : Bool) {m : ℕ} {a b : List ℕ} → Alike m a b → recordLength (kindOf a) ≤ m
@@ -74,4 +76,10 @@ pub same-frame : (placed : Bool) {m : ℕ} {a b : List ℕ} → Alike m a b → 
 unfolding frameCauses recordLength
 same-frame placed {m} {a} {b} is room =
     let some : 0 < m = omega arith in
-    rw (ne-eqb (length a) 0 (λ e. omega (arith, is .one-has)), ne-eqb (length b) 0 (λ e. omega (arith, is .other-has)), le-ltb (length a) (recordLength (kindOf a)) (omega (arith, is .one-has)), ← same-kind is some, le-ltb (length b) (recordLength (kindOf a)) (omega (arith, is .other-has)))
+    rw (
+      ne-eqb (length a) 0 (λ e. omega (arith, is .one-has)),
+      ne-eqb (length b) 0 (λ e. omega (arith, is .other-has)),
+      le-ltb (length a) (recordLength (kindOf a)) (omega (arith, is .one-has)),
+      ← same-kind is some,
+      le-ltb (length b) (recordLength (kindOf a)) (omega (arith, is .other-has)),
+    )

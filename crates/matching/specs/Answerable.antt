@@ -91,12 +91,24 @@ module _ (bytes : List ℕ) (accepted : first (libraryCauses (readLibrary bytes)
   dimensions = not-false _ (passed (not (isDimensionCount (l .d))) _ _ (loaded-shape bytes accepted) .fails)
 
   bits : isBits (l .d) (l .b) ≡ true
-  bits = not-false _ (passed (not (isBits (l .d) (l .b))) _ _ (passed (not (isDimensionCount (l .d))) _ _ (loaded-shape bytes accepted) .rest) .fails)
+  bits =
+      not-false _
+      (passed (not (isBits (l .d) (l .b))) _ _ (passed (not (isDimensionCount (l .d))) _ _ (loaded-shape bytes accepted) .rest) .fails)
 
   pub packs : first (packVectorsCauses (l .d) (l .b) (l .n) (l .components) (l .marks) (codeLength (l .b) (l .n))) ≡ Accepted
   unfolding first
   packs =
-      rw (dimensions, bits, loaded-count bytes accepted, eq-eqb (length (l .components)) (l .n * l .d) (components-count bytes accepted), eq-eqb (codeLength (l .b) (l .n)) (codeLength (l .b) (l .n)) refl, eq-eqb (length (l .marks)) (firstMarks (l .d) (l .b) (l .d)) (marks-count bytes accepted), loaded-components bytes accepted, loaded-marks bytes accepted, packed-inside bytes accepted)
+      rw (
+        dimensions,
+        bits,
+        loaded-count bytes accepted,
+        eq-eqb (length (l .components)) (l .n * l .d) (components-count bytes accepted),
+        eq-eqb (codeLength (l .b) (l .n)) (codeLength (l .b) (l .n)) refl,
+        eq-eqb (length (l .marks)) (firstMarks (l .d) (l .b) (l .d)) (marks-count bytes accepted),
+        loaded-components bytes accepted,
+        loaded-marks bytes accepted,
+        packed-inside bytes accepted,
+      )
 
   pub searches : (query : List ℤ) (k : ℕ) → length query ≡ l .d → areComponents query ≡ true → leb 1 k && leb k (l .n) ≡ true
       → first (searchCauses (searchable l) query k (roomOf k k (l .n))) ≡ Accepted
@@ -145,4 +157,5 @@ printed-is-the-scan input accepted =
     let query = componentsOf (l .d) (drop kLength rest) in
     let library = both (libraryCauses l input) _ accepted .front in
     outcome-accepted _ refusedText accepted
-    ∙ ap (λ (ps : List Pair). line k (length (searched (searchable l) query k .reads) ∷ []) ++ entryLines (l .settings) ps) (entries-are-the-scan input library query k)
+    ∙ ap (λ (ps : List Pair). line k (length (searched (searchable l) query k .reads) ∷ []) ++ entryLines (l .settings) ps)
+    (entries-are-the-scan input library query k)

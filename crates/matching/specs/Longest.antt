@@ -107,13 +107,19 @@ reading-most kind is = fresh (eqb kind freshKind) refl
 same-reading : {m : ℕ} {a b : List ℕ} → Alike m a b → 6 ≤ m → readingOf a ≡ readingOf b
 unfolding readingOf
 same-reading {m} {a} {b} is room =
-    rw (same-kind is (omega arith), same-value freshKind 0 is (rw fresh-length (omega arith)), same-value heldKind 0 is (rw held-length (omega arith)), same-value heldKind 1 is (rw held-length (omega arith)))
+    rw (
+      same-kind is (omega arith),
+      same-value freshKind 0 is (rw fresh-length (omega arith)),
+      same-value heldKind 0 is (rw held-length (omega arith)),
+      same-value heldKind 1 is (rw held-length (omega arith)),
+    )
 
 -- a kind that is no reading's is refused whatever follows
 misplaced : (bytes : List ℕ) → 0 < length bytes → isReading (kindOf bytes) ≡ false
     → first (readingCauses bytes) ≡ Refused (cond (isKind (kindOf bytes)) Misplaced Kind)
 unfolding readingCauses
-misplaced bytes some not-reading = stop (frameCauses (isReading (kindOf bytes)) bytes) (causes (readingOf bytes)) (go (isKind (kindOf bytes)) refl)
+misplaced bytes some not-reading =
+    stop (frameCauses (isReading (kindOf bytes)) bytes) (causes (readingOf bytes)) (go (isKind (kindOf bytes)) refl)
   where
     go : (t : Bool) → isKind (kindOf bytes) ≡ t → first (frameCauses (isReading (kindOf bytes)) bytes) ≡ Refused (cond t Misplaced Kind)
     go true e = unfold first frameCauses in rw (ne-eqb (length bytes) 0 (λ z. omega arith), e, not-reading)
@@ -126,8 +132,12 @@ same-first {m} {a} {b} is room = go (isReading (kindOf a)) refl
     kinds = same-kind is (omega arith)
 
     go : (t : Bool) → isReading (kindOf a) ≡ t → first (readingCauses a) ≡ first (readingCauses b)
-    go true e = unfold readingCauses in rw (same-frame (isReading (kindOf a)) is (omega (arith, reading-most (kindOf a) e)), kinds, same-reading is room)
-    go false e = misplaced a (omega (arith, is .one-has)) e ∙ ap (λ (kind : ℕ). Refused (cond (isKind kind) Misplaced Kind)) kinds ∙ sym (misplaced b (omega (arith, is .other-has)) (rw kinds at e))
+    go true e =
+        unfold readingCauses in rw
+        (same-frame (isReading (kindOf a)) is (omega (arith, reading-most (kindOf a) e)), kinds, same-reading is room)
+    go false e =
+        misplaced a (omega (arith, is .one-has)) e ∙ ap (λ (kind : ℕ). Refused (cond (isKind kind) Misplaced Kind)) kinds
+        ∙ sym (misplaced b (omega (arith, is .other-has)) (rw kinds at e))
 
 reading-there : (bytes : List ℕ) → first (readingCauses bytes) ≡ Accepted → isReading (kindOf bytes) ≡ true
 unfolding readingCauses
@@ -182,7 +192,11 @@ same-components d b marks {m} {one} {other} is room =
 
 same-k-causes : (n : ℕ) {m : ℕ} {a b : List ℕ} → Alike m a b → kLength ≤ m → kCauses n a ≡ kCauses n b
 same-k-causes n {m} {a} {b} is room =
-    rw (le-ltb (length a) kLength (omega (arith, is .one-has)), le-ltb (length b) kLength (omega (arith, is .other-has)), same-number kLength is room)
+    rw (
+      le-ltb (length a) kLength (omega (arith, is .one-has)),
+      le-ltb (length b) kLength (omega (arith, is .other-has)),
+      same-number kLength is room,
+    )
 
 -- with room for the longest match and one byte more
 module _ (a b : List ℕ) (is : Alike (suc longestMatch) a b) where
@@ -266,7 +280,8 @@ module _ (a b : List ℕ) (is : Alike (suc longestMatch) a b) where
         let place = vector-place (markTotal (one .d) (one .b)) i in
         let rest = from (vectorPlace (markTotal (one .d) (one .b)) i) (omega (arith, few-marks, few-vectors)) in
         rw (← same-d, ← same-b, ← same-marks-list)
-        (same-record vectorKind _ _ rest (omega (arith, few-marks, few-vectors)) (same-components (one .d) (one .b) (one .marks) rest (omega (arith, few-marks, few-vectors))))
+        (same-record vectorKind _ _ rest (omega (arith, few-marks, few-vectors))
+        (same-components (one .d) (one .b) (one .marks) rest (omega (arith, few-marks, few-vectors))))
 
     same-vectors : vectorsCauses one a ≡ vectorsCauses other b
     same-vectors = rw (← same-n) (each-same (one .n) _ _ same-vector)
@@ -275,7 +290,8 @@ module _ (a b : List ℕ) (is : Alike (suc longestMatch) a b) where
     same-end =
         let place = vector-place (markTotal (one .d) (one .b)) (one .n) in
         rw (← same-d, ← same-b, ← same-n)
-        (same-record endKind [] [] (from (vectorPlace (markTotal (one .d) (one .b)) (one .n)) (omega (arith, few-marks, few-vectors))) (omega (arith, few-marks, few-vectors)) refl)
+        (same-record endKind [] [] (from (vectorPlace (markTotal (one .d) (one .b)) (one .n)) (omega (arith, few-marks, few-vectors)))
+        (omega (arith, few-marks, few-vectors)) refl)
 
     -- ---- k and the query
 
@@ -297,8 +313,13 @@ module _ (a b : List ℕ) (is : Alike (suc longestMatch) a b) where
         (λ (d : ℕ). BothRefuse (queryCauses (one .d) (drop kLength (behind one a))) (queryCauses d (drop kLength (behind other b)))) same-d
         (too-long-query (one .d) (alike-drop kLength rest-alike) (omega (arith, used-few, shaped .few)))
 
-    behind-head : BothRefuse (marksCauses one a ++ (vectorsCauses one a ++ (endCauses one a ++ (kCauses (one .n) (behind one a) ++ queryCauses (one .d) (drop kLength (behind one a))))))
-        (marksCauses other b ++ (vectorsCauses other b ++ (endCauses other b ++ (kCauses (other .n) (behind other b) ++ queryCauses (other .d) (drop kLength (behind other b))))))
+    behind-head : BothRefuse
+        (marksCauses one a ++
+        (vectorsCauses one a ++
+        (endCauses one a ++ (kCauses (one .n) (behind one a) ++ queryCauses (one .d) (drop kLength (behind one a))))))
+        (marksCauses other b ++
+        (vectorsCauses other b ++
+        (endCauses other b ++ (kCauses (other .n) (behind other b) ++ queryCauses (other .d) (drop kLength (behind other b))))))
     behind-head =
         in-front _ _ _ _ (ap first same-marks)
         (λ _. in-front _ _ _ _ (ap first same-vectors)
@@ -312,7 +333,8 @@ module _ (a b : List ℕ) (is : Alike (suc longestMatch) a b) where
       record {
         cause = refused .cause;
         one = ap first (regroup (headCauses one a) (marksCauses one a) (vectorsCauses one a) (endCauses one a) _) ∙ refused .one;
-        other = ap first (regroup (headCauses other b) (marksCauses other b) (vectorsCauses other b) (endCauses other b) _) ∙ refused .other;
+        other = ap first (regroup (headCauses other b) (marksCauses other b) (vectorsCauses other b) (endCauses other b) _)
+            ∙ refused .other;
       }
 
 -- ---- the theorem
@@ -353,11 +375,13 @@ pub record Front (text before after : List ℕ) (r : ℕ) : Type 0 where
   pub size : r ≡ length text
 
 pub front-within : {text before after : List ℕ} {r : ℕ} → Front text before after r → r ≤ length after
-front-within {text} {before} {after} front = omega (arith, front .size, ap length (front .is) ∙ length-append text (drop (length text) before))
+front-within {text} {before} {after} front =
+    omega (arith, front .size, ap length (front .is) ∙ length-append text (drop (length text) before))
 
 -- the text of whatever input these bytes were read of
 abbrev pub PrintsRead : List ℕ → List ℕ → List ℕ → ℕ → Type 0
 PrintsRead bytes before after r = (input : List ℕ) → take (suc longestMatch) input ≡ bytes → Front (matchText input) before after r
 
 pub prints-read : {bytes before after : List ℕ} {r : ℕ} → Front (matchText bytes) before after r → PrintsRead bytes before after r
-prints-read {before = before} {after} {r} front input read = subst (λ (text : List ℕ). Front text before after r) (ap matchText (sym read) ∙ read-text input) front
+prints-read {before = before} {after} {r} front input read =
+    subst (λ (text : List ℕ). Front text before after r) (ap matchText (sym read) ∙ read-text input) front

@@ -67,4 +67,5 @@ roomCauses room = (not (eqb room textRoom) ⇒ Length) ∷ []
 
 -- how many bytes the text has; refused, none is written
 abbrev pub printed : Verdict → List ℕ → Printed
-printed verdict text = outcome verdict (record { verdict = Accepted; length = length text }) (λ cause. record { verdict = Refused cause; length = 0 })
+printed verdict text =
+    outcome verdict (record { verdict = Accepted; length = length text }) (λ cause. record { verdict = Refused cause; length = 0 })

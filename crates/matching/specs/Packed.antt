@@ -54,4 +54,6 @@ module _ (bytes : List ℕ) (accepted : first (libraryCauses (readLibrary bytes)
       (component-inside (q / l .d) (q % l .d) (div-lt-iff-lt-mul some .1 within) (mod-lt q some))))
 
   pub packed-own : Own (l .d) (l .b) (l .n) (l .marks) (vectorCodes (l .d) (l .b) (l .n) (l .marks) (l .components)) (l .components)
-  packed-own = own-codes (l .d) (l .b) (l .n) (shaped bytes accepted .some) (l .marks) (l .components) (components-count bytes accepted) packed-inside
+  packed-own =
+      own-codes (l .d) (l .b) (l .n) (shaped bytes accepted .some) (l .marks) (l .components)
+      (components-count bytes accepted) packed-inside

@@ -73,7 +73,8 @@ distance-below : (d i : ℕ) (query vectors : List ℤ) → d ≤ maxDimensions 
     → distanceOf d query (vectorAt d vectors i) < 10 ^ 12
 distance-below d i query vectors few of-query of-vectors =
     let sum = first-distance query (vectorAt d vectors i) d (λ t h. component-at query of-query t)
-    (λ t h. rw (getD-take d (drop (i * d) vectors) t (pos 0) h, getD-drop (i * d) vectors t (pos 0)) (component-at vectors of-vectors (i * d + t))) in
+    (λ t h. rw (getD-take d (drop (i * d) vectors) t (pos 0) h, getD-drop (i * d) vectors t (pos 0))
+    (component-at vectors of-vectors (i * d + t))) in
     let most : d * (65535 * 65535) ≤ maxDimensions * (65535 * 65535) = mul-le-mul-right (65535 * 65535) few in
     omega arith
 
@@ -143,7 +144,9 @@ settings-below bytes are i = go (decLt i (readLibrary bytes .n))
     go (yes less) =
         let l = readLibrary bytes in
         let place = vectorPlace (markTotal (l .d) (l .b)) i in
-        let below : settingsAt (markTotal (l .d) (l .b)) bytes i < 2 ^ 32 = unfold settingsAt in rw vector-widths at (value-below vectorKind 0 (drop place bytes) (bytes-drop place bytes are) (rw vector-widths (lit< tt))) in
+        let below : settingsAt (markTotal (l .d) (l .b)) bytes i < 2 ^ 32 =
+        unfold settingsAt in rw vector-widths at
+        (value-below vectorKind 0 (drop place bytes) (bytes-drop place bytes are) (rw vector-widths (lit< tt))) in
         rw (setting-read bytes i less) (omega arith)
     go (no more) =
         let l = readLibrary bytes in
@@ -171,7 +174,9 @@ module _ (bytes : List ℕ) (accepted : first (libraryCauses (readLibrary bytes)
       let entry = best-entries k (lowIn s query) (distanceIn s query) (numbersIn s) m in
       record {
         number = omega (arith, best-below s query k p m, few);
-        distance = rw (entry .its-key) (distance-below (l .d) (p .number) query (l .components) (shaped bytes accepted .few) of-query (loaded-components bytes accepted));
+        distance = rw (entry .its-key)
+            (distance-below (l .d) (p .number) query (l .components) (shaped bytes accepted .few) of-query
+            (loaded-components bytes accepted));
       }
 
   answer-room : length (answerText l query k) ≤ textRoom
@@ -191,7 +196,8 @@ text-room input are = go (first (causesWith l input)) refl
     l = readLibrary input
 
     go : (v : Verdict) → first (causesWith l input) ≡ v
-        → length (outcome v (answerText l (componentsOf (l .d) (drop kLength (behind l input))) (kOf (behind l input))) refusedText) ≤ textRoom
+        → length (outcome v
+        (answerText l (componentsOf (l .d) (drop kLength (behind l input))) (kOf (behind l input))) refusedText) ≤ textRoom
     go Accepted e =
         let library = both (libraryCauses l input) _ e in
         let rest = both (kCauses (l .n) (behind l input)) (queryCauses (l .d) (drop kLength (behind l input))) (library .back) in

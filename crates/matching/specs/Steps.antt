@@ -51,7 +51,12 @@ pub record Ready (l : Library) : Type 0 where
   pub of-settings : length (l .settings) ≡ l .n
 
 pub ready : (input : List ℕ) → first (libraryCauses (readLibrary input) input) ≡ Accepted → Ready (readLibrary input)
-ready input passes = record { of-packing = packs input passes; of-search = searches input passes; of-settings = settings-count input passes }
+ready input passes = record {
+  of-packing =
+      packs input passes;
+  of-search = searches input passes;
+  of-settings = settings-count input passes;
+}
 
 -- ---- a step that refuses, and one that passes
 
@@ -140,7 +145,8 @@ counts-verdict (Refused cause) l = refl
 pub filled-begins : {A : Type 0} (v : Verdict) (new old : List A) → v ≡ Accepted → Begins new (filled v new old)
 filled-begins v new old accepted = rw accepted (take-at new (drop (length new) old) (length new) refl)
 
-module _ {input : List ℕ} {d b n used : ℕ} {marks : List ℤ} {settings : List ℕ} {components : List ℤ} (is : Holds input d b n used marks settings components) where
+module _ {input : List ℕ} {d b n used : ℕ} {marks : List ℤ} {settings : List ℕ} {components : List ℤ}
+    (is : Holds input d b n used marks settings components) where
   abbrev l : Library
   l = readLibrary input
 
@@ -184,7 +190,8 @@ module _ {input : List ℕ} {d b n used : ℕ} {marks : List ℤ} {settings : Li
 
 -- ---- what loading tells
 
-module _ (input : List ℕ) {room-marks room-settings room-components : ℕ} (of-marks : room-marks ≡ marksRoom) (of-settings : room-settings ≡ settingsRoom)
+module _ (input : List ℕ) {room-marks room-settings room-components : ℕ} (of-marks : room-marks ≡ marksRoom)
+    (of-settings : room-settings ≡ settingsRoom)
     (of-components : room-components ≡ componentsRoom) {r : Loaded}
     (is : r ≡ counts (first (loadCauses room-marks room-settings room-components input)) (readLibrary input)) where
   abbrev v : Verdict

@@ -39,7 +39,8 @@ pub value-at : (kind i : ℕ) (bytes : List ℕ) → i < length (widthsOf kind)
 unfolding valueOf
 value-at kind i bytes within =
     split-at (widthsOf kind) (drop 1 bytes) i within
-    ∙ ap (fromLowFirst (getD (widthsOf kind) i 0)) (drop-drop (sum (take i (widthsOf kind))) 1 bytes ∙ rw (one-add (sum (take i (widthsOf kind)))))
+    ∙ ap (fromLowFirst (getD (widthsOf kind) i 0))
+    (drop-drop (sum (take i (widthsOf kind))) 1 bytes ∙ rw (one-add (sum (take i (widthsOf kind)))))
 
 pub value-below : (kind i : ℕ) (bytes : List ℕ) → AreBytes bytes → i < length (widthsOf kind)
     → valueOf kind i bytes < 256 ^ getD (widthsOf kind) i 0
@@ -93,7 +94,10 @@ split-joined (w ∷ ws) values rest fit zero within =
     rw (append-assoc (lowFirst w (getD values 0 0)) (joined ws (drop 1 values)) rest) (from-low w (getD values 0 0) _ (fit 0 (omega arith)))
 split-joined (w ∷ ws) values rest fit (suc i) within =
     let fit' : Fitting ws (drop 1 values) = λ j h. rw (after values j) (fit (suc j) (omega arith)) in
-    rw (append-assoc (lowFirst w (getD values 0 0)) (joined ws (drop 1 values)) rest, drop-at (lowFirst w (getD values 0 0)) (joined ws (drop 1 values) ++ rest) w (low-length w (getD values 0 0)))
+    rw (
+      append-assoc (lowFirst w (getD values 0 0)) (joined ws (drop 1 values)) rest,
+      drop-at (lowFirst w (getD values 0 0)) (joined ws (drop 1 values) ++ rest) w (low-length w (getD values 0 0)),
+    )
     (split-joined ws (drop 1 values) rest fit' i (omega arith) ∙ after values i)
 
 pub value-written : (kind : ℕ) (values rest : List ℕ) → Fitting (widthsOf kind) values → (i : ℕ) → i < length (widthsOf kind)
@@ -116,7 +120,10 @@ pub joined-same : (ws values others : List ℕ) → ((i : ℕ) → i < length ws
 unfolding joined
 joined-same [] values others same = refl
 joined-same (w ∷ ws) values others same =
-    rw (same 0 (omega arith), joined-same ws (drop 1 values) (drop 1 others) (λ i h. after values i ∙ same (suc i) (omega arith) ∙ sym (after others i)))
+    rw (
+      same 0 (omega arith),
+      joined-same ws (drop 1 values) (drop 1 others) (λ i h. after values i ∙ same (suc i) (omega arith) ∙ sym (after others i)),
+    )
 
 pub written-read : (kind : ℕ) (values bytes : List ℕ) → AreBytes bytes → kindOf bytes ≡ kind → recordLength kind ≤ length bytes
     → ((i : ℕ) → i < length (widthsOf kind) → getD values i 0 ≡ valueOf kind i bytes)
@@ -124,4 +131,8 @@ pub written-read : (kind : ℕ) (values bytes : List ℕ) → AreBytes bytes →
 unfolding recordBytes recordLength valueOf
 written-read kind values [] are is room same = absurd (omega arith)
 written-read kind values (x ∷ bytes) are is room same =
-    rw (is, joined-same (widthsOf kind) values (split (widthsOf kind) bytes) same, joined-split (widthsOf kind) bytes (λ i. are (suc i)) (omega arith))
+    rw (
+      is,
+      joined-same (widthsOf kind) values (split (widthsOf kind) bytes) same,
+      joined-split (widthsOf kind) bytes (λ i. are (suc i)) (omega arith),
+    )

@@ -69,10 +69,13 @@ module _ (l : Library) (room : ℕ) (w : Writable l room) where
   }
 
 -- a record where it was written passes, with its own causes
-record-passes : (kind : ℕ) (values bytes : List ℕ) (own : List Row) → isKind kind ≡ true → Begins (recordBytes kind values) bytes → first own ≡ Accepted → first (recordCauses kind bytes own) ≡ Accepted
+record-passes : (kind : ℕ) (values bytes : List ℕ) (own : List Row) → isKind kind ≡ true → Begins (recordBytes kind values) bytes
+    → first own ≡ Accepted → first (recordCauses kind bytes own) ≡ Accepted
 unfolding recordBytes
 record-passes kind values bytes own known there passes =
-    rw (there .is) (go-on (frameCauses (eqb (kindOf (recordBytes kind values ++ there .tail)) kind) _) own (frame-passes (record-framed kind values (there .tail) known (eq-eqb kind kind refl))) ∙ passes)
+    rw (there .is)
+    (go-on (frameCauses (eqb (kindOf (recordBytes kind values ++ there .tail)) kind) _) own
+    (frame-passes (record-framed kind values (there .tail) known (eq-eqb kind kind refl))) ∙ passes)
 
 module _ (l : Library) (room : ℕ) (w : Writable l room) (settings : (i : ℕ) → getD (l .settings) i 0 < 2 ^ 32) (rest : List ℕ) where
   abbrev bytes : List ℕ
@@ -104,11 +107,19 @@ module _ (l : Library) (room : ℕ) (w : Writable l room) (settings : (i : ℕ) 
         let here = good-range (l .d) (l .b) (l .marks) (w .sizes .marks-count) t among (w .marks) (suc i) h in
         let rises = good-rise (l .d) (l .b) (l .marks) (w .sizes .marks-count) t among (w .marks) i h in
         let before : p + suc i - 1 ≡ p + i = omega arith in
-        rw (before, mark-value l fit rest (p + suc i) (place (suc i) h), mark-value l fit rest (p + i) (place i (omega arith)), here, rises, lt-ltb 0 (suc i) (omega arith))
+        rw (
+          before,
+          mark-value l fit rest (p + suc i) (place (suc i) h),
+          mark-value l fit rest (p + i) (place i (omega arith)),
+          here,
+          rises,
+          lt-ltb 0 (suc i) (omega arith),
+        )
 
     mark-passes : (i : ℕ) → i < markCount (l .d) (l .b) (suc t) → first (markCauses bytes (firstMarks (l .d) (l .b) t) i) ≡ Accepted
     unfolding first isKind isAmong formats
-    mark-passes i h = record-passes markKind _ _ _ refl (mark-there l rest (firstMarks (l .d) (l .b) t + i) (place i h)) (rw (mark-right i h))
+    mark-passes i h =
+        record-passes markKind _ _ _ refl (mark-there l rest (firstMarks (l .d) (l .b) t + i) (place i h)) (rw (mark-right i h))
 
     dimension-passes : first (each (markCount (l .d) (l .b) (suc t)) (markCauses bytes (firstMarks (l .d) (l .b) t))) ≡ Accepted
     dimension-passes = each-accepted (markCount (l .d) (l .b) (suc t)) (markCauses bytes (firstMarks (l .d) (l .b) t)) mark-passes
@@ -126,7 +137,10 @@ module _ (l : Library) (room : ℕ) (w : Writable l room) (settings : (i : ℕ) 
 
   insides : (i : ℕ) → i < l .n → inside (l .d) (l .b) (l .marks) (componentAt total bytes i) ≡ true
   unfolding inside
-  insides i h = every-all (l .d) _ (λ t k. rw (component-value l fit rest i t h k) (every-at (l .d) (λ t. inMarks (dimensionMarks (l .d) (l .b) (l .marks) (suc t)) (componentIn l i t)) (w .insides i h) t k))
+  insides i h =
+      every-all (l .d) _
+      (λ t k. rw (component-value l fit rest i t h k)
+      (every-at (l .d) (λ t. inMarks (dimensionMarks (l .d) (l .b) (l .marks) (suc t)) (componentIn l i t)) (w .insides i h) t k))
 
   vector-passes : (i : ℕ) → i < l .n → first (vectorCauses l bytes i) ≡ Accepted
   unfolding first isKind isAmong formats
@@ -145,5 +159,6 @@ module _ (l : Library) (room : ℕ) (w : Writable l room) (settings : (i : ℕ) 
       rw (read-written l fit rest)
       (first-next Length _ refl
       ∙ go-on (head ++ marks ++ vectors) (endCauses l bytes)
-      (go-on (head ++ marks) vectors (go-on head marks head-passes ∙ each-accepted (l .d) _ dimension-passes) ∙ each-accepted (l .n) (vectorCauses l bytes) vector-passes)
+      (go-on (head ++ marks) vectors (go-on head marks head-passes ∙ each-accepted (l .d) _ dimension-passes)
+      ∙ each-accepted (l .n) (vectorCauses l bytes) vector-passes)
       ∙ end-passes)

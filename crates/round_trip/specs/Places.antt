@@ -94,4 +94,8 @@ module _ (l : Library) where
         }
 
     pub end-there : Begins endBytes (drop (vectorPlace total (l .n)) bytes)
-    end-there = record { tail = rest; is = rw behind-vectors (drop-at (head ++ marks ++ vectors) (endBytes ++ rest) (vectorPlace total (l .n)) vectors-size) }
+    end-there = record {
+      tail =
+          rest;
+      is = rw behind-vectors (drop-at (head ++ marks ++ vectors) (endBytes ++ rest) (vectorPlace total (l .n)) vectors-size);
+    }

@@ -68,7 +68,8 @@ module _ (l : Library) (fit : Storable l) (rest : List ℕ) where
       let mark = getD (l .marks) i (pos 0) in
       let within : 0 < length (widthsOf markKind) = rw mark-widths (lit< tt) in
       rw (there .is)
-      (ap (toZ w32) (value-written markKind (ofZ w32 mark ∷ []) (there .tail) (rw mark-widths (mark-fits i)) 0 within) ∙ toZ-ofZ w32 mark (fit .mark i))
+      (ap (toZ w32) (value-written markKind (ofZ w32 mark ∷ []) (there .tail) (rw mark-widths (mark-fits i)) 0 within)
+      ∙ toZ-ofZ w32 mark (fit .mark i))
 
   -- ---- the vectors
 

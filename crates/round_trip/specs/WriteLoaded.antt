@@ -1,4 +1,5 @@
--- What was loaded is written again: writing accepts it, and the bytes of the library that was loaded are the bytes that loading used. Assumes nothing.
+-- What was loaded is written again: writing accepts it, and the bytes of the library that was loaded are the bytes that loading used.
+-- Assumes nothing.
 use mathlib.Core.Path.{_≡_, refl, sym, ap, _∙_}
 use mathlib.Core.Bool.{_||_}
 use mathlib.Core.List.{List, [], _∷_, _++_}
@@ -47,7 +48,16 @@ loaded-writable bytes rows =
     let used = libraryLength (l .d) (l .b) (l .n) in
     let insides = every-all (l .n) (λ i. inside (l .d) (l .b) (l .marks) (componentIn l i)) (loaded-inside bytes rows) in
     go-on (shapeCauses (l .d) (l .b)) (shapedCauses l used) (loaded-shape bytes rows)
-    ∙ rw (loaded-count bytes rows, eq-eqb _ _ (marks-count bytes rows), eq-eqb _ _ (settings-count bytes rows), eq-eqb _ _ (components-count bytes rows), eq-eqb used used refl, loaded-components bytes rows, loaded-marks bytes rows, insides)
+    ∙ rw (
+      loaded-count bytes rows,
+      eq-eqb _ _ (marks-count bytes rows),
+      eq-eqb _ _ (settings-count bytes rows),
+      eq-eqb _ _ (components-count bytes rows),
+      eq-eqb used used refl,
+      loaded-components bytes rows,
+      loaded-marks bytes rows,
+      insides,
+    )
 
 -- the bytes of a record that passes, from its values
 record-again : (kind : ℕ) (values bytes : List ℕ) (own : List Row) → AreBytes bytes → first (recordCauses kind bytes own) ≡ Accepted
@@ -63,7 +73,9 @@ one-behind-the-other : (size n place : ℕ) (f : ℕ → List ℕ) (bytes : List
     → ((i : ℕ) → i < n → f i ≡ take size (drop (place + i * size) bytes))
     → take place bytes ++ each n f ≡ take (place + n * size) bytes
 one-behind-the-other size n place f bytes same =
-    let parts = each-same n f (λ i. take size (drop (i * size) (drop place bytes))) (λ i h. same i h ∙ ap (take size) (sym (drop-drop (i * size) place bytes))) in
+    let parts =
+    each-same n f (λ i. take size (drop (i * size) (drop place bytes)))
+    (λ i h. same i h ∙ ap (take size) (sym (drop-drop (i * size) place bytes))) in
     rw (parts, each-parts size n (drop place bytes)) (sym (take-add place (n * size) bytes))
 
 one-value : {x : ℕ} (f : ℕ → ℕ) → x ≡ f 0 → (j : ℕ) → j < 1 → getD (x ∷ []) j 0 ≡ f j
@@ -104,7 +116,8 @@ module _ (bytes : List ℕ) (are : AreBytes bytes) (rows : first (recordsCauses 
       let below : valueOf markKind 0 rest < 2 ^ 32 = rw mark-widths at (value-below markKind 0 rest rest-are (rw mark-widths (lit< tt))) in
       let value : ofZ w32 (markAt bytes i) ≡ valueOf markKind 0 rest = ofZ-toZ w32 (valueOf markKind 0 rest) (record { fits = below }) in
       rw (mark-read bytes i h)
-      (record-again markKind (ofZ w32 (markAt bytes i) ∷ []) rest _ rest-are (rw (← of .is) at passes-there) (rw mark-widths (one-value (λ j. valueOf markKind j rest) value)))
+      (record-again markKind (ofZ w32 (markAt bytes i) ∷ []) rest _ rest-are (rw (← of .is) at passes-there)
+      (rw mark-widths (one-value (λ j. valueOf markKind j rest) value)))
 
   -- ---- the vectors
 
@@ -166,5 +179,10 @@ module _ (bytes : List ℕ) (are : AreBytes bytes) (rows : first (recordsCauses 
   pub written-loaded : libraryBytes l ≡ take (libraryLength (l .d) (l .b) (l .n)) bytes
   unfolding libraryBytes libraryLength vectorPlace
   written-loaded =
-      rw (marks-again, one-behind-the-other (recordLength vectorKind) (l .n) (markPlace total) (λ i. vectorBytes (l .d) (getD (l .settings) i 0) (componentIn l i)) bytes vector-again, end-again)
+      rw (
+        marks-again,
+        one-behind-the-other (recordLength vectorKind) (l .n) (markPlace total)
+            (λ i. vectorBytes (l .d) (getD (l .settings) i 0) (componentIn l i)) bytes vector-again,
+        end-again,
+      )
       (sym (take-add (vectorPlace total (l .n)) (recordLength endKind) bytes))

@@ -42,7 +42,11 @@ pub vector-parts : (d settings : ℕ) (component : ℕ → ℤ)
     ≡ vectorBytes d settings component
 unfolding lowFirst
 vector-parts d settings component =
-    rw (record-is vectorKind (vectorValues d settings component), vector-widths, joined-cons 4 (replicate maxDimensions 2) (vectorValues d settings component))
+    rw (
+      record-is vectorKind (vectorValues d settings component),
+      vector-widths,
+      joined-cons 4 (replicate maxDimensions 2) (vectorValues d settings component),
+    )
 
 pub end-part : lowFirst 1 endKind ≡ endBytes
 unfolding lowFirst recordBytes joined widthsOf widthsAmong formats

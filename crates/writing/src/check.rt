@@ -32,7 +32,8 @@ pub(crate) fn check_library(
     components: &[i32],
     room: usize,
 ) -> Verdict
-    ensures { λ r. ⌜ r ≡ first (writeCauses (libraryWith d b n (now (marks .entry)) (now (settings .entry)) (now (components .entry))) room) ⌝ }
+    ensures { λ r. ⌜ r
+        ≡ first (writeCauses (libraryWith d b n (now (marks .entry)) (now (settings .entry)) (now (components .entry))) room) ⌝ }
 {
     match layout::check_shape(d, b) {
         Verdict::Accepted => check_shaped(d, b, n, marks, settings, components, room),
@@ -51,7 +52,8 @@ fn check_shaped(
     room: usize,
 ) -> Verdict
     requires { ⌜ first (shapeCauses d b) ≡ Accepted ⌝ }
-    ensures { λ r. ⌜ r ≡ first (shapedCauses (libraryWith d b n (now (marks .entry)) (now (settings .entry)) (now (components .entry))) room) ⌝ }
+    ensures { λ r. ⌜ r
+        ≡ first (shapedCauses (libraryWith d b n (now (marks .entry)) (now (settings .entry)) (now (components .entry))) room) ⌝ }
 {
     if !limits::is_vector_count(n) {
         return Verdict::Refused(Refusal::Count);
@@ -102,8 +104,10 @@ fn all_inside(d: usize, b: usize, n: usize, marks: &[i32], components: &[i32]) -
 // The first and the last mark of each dimension are copied into the fronts of two buffers.
 fn fill_ends(d: usize, b: usize, marks: &[i32], lows: &mut [i32], highs: &mut [i32])
     requires { ⌜ (Dimensioned d b (now marks)) × (d ≤ length (now lows)) × (d ≤ length (now highs)) ⌝ }
-    ensures { λ _. ⌜ now (lows .exit) ≡ tabulate d (firstMark d b (λ i. getD (now (marks .entry)) i (pos 0))) ++ drop d (now (lows .entry)) ⌝ }
-    ensures { λ _. ⌜ now (highs .exit) ≡ tabulate d (lastMark d b (λ i. getD (now (marks .entry)) i (pos 0))) ++ drop d (now (highs .entry)) ⌝ }
+    ensures { λ _. ⌜ now (lows .exit)
+        ≡ tabulate d (firstMark d b (λ i. getD (now (marks .entry)) i (pos 0))) ++ drop d (now (lows .entry)) ⌝ }
+    ensures { λ _. ⌜ now (highs .exit)
+        ≡ tabulate d (lastMark d b (λ i. getD (now (marks .entry)) i (pos 0))) ++ drop d (now (highs .entry)) ⌝ }
 {
     let mut t = 0;
     while t < d {
@@ -127,7 +131,8 @@ fn regions(w: usize) -> usize
 // Whether each of n vectors lies between the ends of the marks.
 fn all_between(d: usize, n: usize, lows: &[i32], highs: &[i32], components: &[i32]) -> bool
     requires { ⌜ (Table d (now lows) (now highs)) × (n ≤ maxVectors) × (n * d ≤ length (now components)) ⌝ }
-    ensures { λ r. ⌜ r ≡ every n (λ i. between d (now (lows .entry)) (now (highs .entry)) (λ t. getD (now (components .entry)) (i * d + t) (pos 0))) ⌝ }
+    ensures { λ r. ⌜ r
+        ≡ every n (λ i. between d (now (lows .entry)) (now (highs .entry)) (λ t. getD (now (components .entry)) (i * d + t) (pos 0))) ⌝ }
 {
     let mut i = 0;
     while i < n {
@@ -139,7 +144,8 @@ fn all_between(d: usize, n: usize, lows: &[i32], highs: &[i32], components: &[i3
     true
 }
 
-// Whether the d components from an index on lie, each, between the ends of their dimension's marks. The answers are gathered in a number, so that the loop has no branch.
+// Whether the d components from an index on lie, each, between the ends of their dimension's marks. The answers are gathered in a number,
+// so that the loop has no branch.
 fn is_between(d: usize, lows: &[i32], highs: &[i32], components: &[i32], from: usize) -> bool
     requires { ⌜ (Table d (now lows) (now highs)) × (from + d ≤ length (now components)) ⌝ }
     ensures { λ r. ⌜ r ≡ between d (now (lows .entry)) (now (highs .entry)) (λ t. getD (now (components .entry)) (from + t) (pos 0)) ⌝ }

@@ -21,13 +21,15 @@ returns : tie.Need-returns
 unfolding first
 returns c =
     let args = c .before .before .before .before .before .args in
-    sym (go-on (shapeCauses (args .d) (args .b)) ((not (isVectorCount (args .n)) ⇒ Count) ∷ []) (shape-passes (c .before)) ∙ rw (← c .before .is-vector-count .ensures, c .if1 .taken))
+    sym (go-on (shapeCauses (args .d) (args .b)) ((not (isVectorCount (args .n)) ⇒ Count) ∷ []) (shape-passes (c .before))
+    ∙ rw (← c .before .is-vector-count .ensures, c .if1 .taken))
 
 returns-2 : tie.Need-returns-2
 unfolding first
 returns-2 c =
     let args = c .before .before .before .before .before .args in
-    sym (go-on (shapeCauses (args .d) (args .b)) ((not (isVectorCount (args .n)) ⇒ Count) ∷ []) (shape-passes (c .before)) ∙ rw (← c .before .is-vector-count .ensures, c .if1 .left))
+    sym (go-on (shapeCauses (args .d) (args .b)) ((not (isVectorCount (args .n)) ⇒ Count) ∷ []) (shape-passes (c .before))
+    ∙ rw (← c .before .is-vector-count .ensures, c .if1 .left))
 
 returns-3 : tie.Need-returns-3
 returns-3 c =

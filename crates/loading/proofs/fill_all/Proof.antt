@@ -19,10 +19,12 @@ module _ (c : tie.After-marks-length) where
   abbrev start : tie.Start
   start = c .before .before .before .before
 
-  can : Loadable (length (start .args .marks .now)) (length (start .args .settings .now)) (length (start .args .components .now)) (start .args .bytes .now)
+  can : Loadable (length (start .args .marks .now)) (length (start .args .settings .now)) (length (start .args .components .now))
+      (start .args .bytes .now)
   can = loadable _ _ _ (start .args .bytes .now) (start .pre)
 
-  head : HeadOf (start .args .bytes .now) (c .before .counts-of .result .d) (c .before .counts-of .result .b) (c .before .counts-of .result .n)
+  head : HeadOf (start .args .bytes .now) (c .before .counts-of .result .d) (c .before .counts-of .result .b)
+      (c .before .counts-of .result .n)
   head =
       let is = c .before .counts-of .ensures in
       head-of (start .args .bytes .now) (can .head-passes) (is .0) (is .1) (is .2)

@@ -24,7 +24,8 @@ size-is : (c : tie.After-marks-length) → c .marks-length .result ≡ markTotal
 size-is c = c .marks-length .ensures ∙ marks-length-is (start c .args .d) (start c .args .b) (held-shape (start c .pre .0))
 
 marks-within : (c : tie.After-marks-length) → c .marks-length .result ≤ length (start c .args .marks .now)
-marks-within c = omega (arith, size-is c, held-marks (start c .pre .0), begins-within _ (start c .args .marks .now) (start c .pre .0 .marks-begin))
+marks-within c =
+    omega (arith, size-is c, held-marks (start c .pre .0), begins-within _ (start c .args .marks .now) (start c .pre .0 .marks-begin))
 
 settings-within : (s : tie.Start) → s .args .n ≤ length (s .args .settings .now)
 settings-within s = omega (arith, held-settings (s .pre .0), begins-within _ (s .args .settings .now) (s .pre .0 .settings-begin))
@@ -34,12 +35,15 @@ components-within s = omega (arith, held-components (s .pre .0), begins-within _
 
 -- the text, from the parts that are handed on
 text-is : (c : tie.After-marks-length) → let a = start c .args in
-    restText (libraryWith (a .d) (a .b) (a .n) (take (c .marks-length .result) (a .marks .now)) (take (a .n) (a .settings .now)) (take (a .n * a .d) (a .components .now)))
+    restText (libraryWith (a .d) (a .b) (a .n) (take (c .marks-length .result) (a .marks .now)) (take (a .n) (a .settings .now))
+    (take (a .n * a .d) (a .components .now)))
     (take (length (a .input .now) - a .used) (drop (a .used) (a .input .now)))
     ≡ matchText (a .input .now)
 text-is c =
     let a = start c .args in
-    ap₂ (λ (m : ℕ) (rest : List ℕ). restText (libraryWith (a .d) (a .b) (a .n) (take m (a .marks .now)) (take (a .n) (a .settings .now)) (take (a .n * a .d) (a .components .now))) rest)
+    ap₂ (λ (m : ℕ) (rest : List ℕ). restText
+    (libraryWith (a .d) (a .b) (a .n) (take m (a .marks .now)) (take (a .n) (a .settings .now))
+    (take (a .n * a .d) (a .components .now))) rest)
     (size-is c) (part-to-end (a .input .now) (a .used))
     ∙ held-text (start c .pre .0)
 

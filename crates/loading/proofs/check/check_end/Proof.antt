@@ -40,7 +40,8 @@ returns c =
     let bytes = marks .before .before .before .args .bytes .now in
     let counts = marks .before .counts-of .result in
     let is = head (marks .before) in
-    frame-at {place = vectorPlace (markTotal (counts .d) (counts .b)) (counts .n)} endKind bytes (place .vector-place .ensures ∙ rw (counted marks)) (c .before .byte-at .ensures) (c .check-frame .ensures)
+    frame-at {place = vectorPlace (markTotal (counts .d) (counts .b)) (counts .n)} endKind bytes
+    (place .vector-place .ensures ∙ rw (counted marks)) (c .before .byte-at .ensures) (c .check-frame .ensures)
     ∙ rw (append-nil, is .of-shape .d-is, is .of-shape .b-is, is .n-is)
 
 pub check-end-spec : {M : Type 1} → statement M

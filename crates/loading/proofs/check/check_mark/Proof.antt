@@ -20,7 +20,9 @@ use Rattle.loading.proofs.check.check_mark.Tie as tie
 frame : (c : tie.After-check-frame) → let args = c .before .before .before .before .args in
     let rest = drop (markPlace (args .from + args .i)) (args .bytes .now) in
     c .check-frame .result ≡ first (frameCauses (eqb (kindOf rest) markKind) rest)
-frame c = frame-at markKind (c .before .before .before .before .args .bytes .now) (c .before .before .mark-place .ensures) (c .before .byte-at .ensures) (c .check-frame .ensures)
+frame c =
+    frame-at markKind (c .before .before .before .before .args .bytes .now) (c .before .before .mark-place .ensures)
+    (c .before .byte-at .ensures) (c .check-frame .ensures)
 
 -- behind a frame that passes, the mark is what is left to test
 own : (c : tie.After-is-mark-wrong) → let args = c .before .before .before .before .before .before .before .args in

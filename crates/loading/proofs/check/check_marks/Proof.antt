@@ -76,8 +76,10 @@ loop-again c =
     let dimension = c .before .before in
     let at = dimension .before in
     let bytes = now at .before .before .before .args .bytes .now in
-    let passes = sym (here dimension) ∙ c .enum-told .given .1 in
-    (omega (arith, turn at .if1 .taken), each-more (now at .loop .t) (causes bytes (counts at .d) (counts at .b)) (now at .loop .inv .1) passes)
+    let passes = sym (here dimension) ∙ c .enum-told .given .1 in (
+      omega (arith, turn at .if1 .taken),
+      each-more (now at .loop .t) (causes bytes (counts at .d) (counts at .b)) (now at .loop .inv .1) passes,
+    )
 
 returns : tie.Need-returns Inv-loop μ-loop
 returns c =
@@ -86,7 +88,9 @@ returns c =
     let bytes = now at .before .before .before .args .bytes .now in
     let is = head (now at .before) .of-shape in
     let refused = sym (here dimension) ∙ c .before .cause .given .1 in
-    let stops = each-stops (counts at .d) (causes bytes (counts at .d) (counts at .b)) (now at .loop .t) (turn at .if1 .taken) (now at .loop .inv .1) refused in
+    let stops =
+    each-stops (counts at .d) (causes bytes (counts at .d) (counts at .b)) (now at .loop .t) (turn at .if1 .taken)
+    (now at .loop .inv .1) refused in
     rw (is .d-is, is .b-is) (sym stops)
 
 returns-2 : tie.Need-returns-2 Inv-loop μ-loop

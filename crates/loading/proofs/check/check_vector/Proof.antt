@@ -19,7 +19,9 @@ use Rattle.loading.proofs.check.check_vector.Tie as tie
 frame : (c : tie.After-check-frame) → let args = c .before .before .before .args in
     let rest = drop (args .at) (args .bytes .now) in
     c .check-frame .result ≡ first (frameCauses (eqb (kindOf rest) vectorKind) rest)
-frame c = frame-at {place = c .before .before .before .args .at} vectorKind (c .before .before .before .args .bytes .now) refl (c .before .byte-at .ensures) (c .check-frame .ensures)
+frame c =
+    frame-at {place = c .before .before .before .args .at} vectorKind (c .before .before .before .args .bytes .now) refl
+    (c .before .byte-at .ensures) (c .check-frame .ensures)
 
 -- a record that passes is whole
 whole : (c : tie.After-enum-told) → let args = c .before .before .before .before .before .args in

@@ -42,7 +42,11 @@ check-each-requires c κs =
     let filled = c .before .before .before .before in
     let marks = filled .before .before .before in
     let kept = filled .read-ends .kept .1 .1 .1 in (
-      record { few = few (marks .before); low = omega (arith, few (marks .before), kept .0); high = omega (arith, few (marks .before), kept .1 .0) },
+      record {
+        few = few (marks .before);
+        low = omega (arith, few (marks .before), kept .0);
+        high = omega (arith, few (marks .before), kept .1 .0);
+      },
       omega (arith, few-marks marks),
       omega (arith, head (marks .before) .few),
     )

@@ -26,7 +26,10 @@ returns c =
 least : (c : tie.Else1) → let args = c .before .before .before .before .args in
     leb (2 ^ 31 - 32768) (keyOf (markAt (args .bytes .now) (args .p))) ≡ true
 unfolding keyOf
-least c = le-leb (2 ^ 31 - 32768) (keyOf (markAt (c .before .before .before .before .args .bytes .now) (c .before .before .before .before .args .p))) (omega (arith, c .before .key .ensures, c .before .before .mark-key .ensures, c .if1 .left))
+least c =
+    le-leb (2 ^ 31 - 32768)
+    (keyOf (markAt (c .before .before .before .before .args .bytes .now) (c .before .before .before .before .args .p)))
+    (omega (arith, c .before .key .ensures, c .before .before .mark-key .ensures, c .if1 .left))
 
 returns-2 : tie.Need-returns-2
 unfolding keyOf
@@ -44,7 +47,12 @@ unfolding keyOf
 in-range c =
     let known = c .before .before in
     let args = known .before .before .before .before .args in
-    rw (key-mark (markAt (args .bytes .now) (args .p)), least known, le-leb (keyOf (markAt (args .bytes .now) (args .p))) (2 ^ 31 + 32768) (omega (arith, c .before .key2 .ensures, known .before .before .mark-key .ensures, c .if2 .left)))
+    rw (
+      key-mark (markAt (args .bytes .now) (args .p)),
+      least known,
+      le-leb (keyOf (markAt (args .bytes .now) (args .p))) (2 ^ 31 + 32768)
+          (omega (arith, c .before .key2 .ensures, known .before .before .mark-key .ensures, c .if2 .left)),
+    )
 
 returns-3 : tie.Need-returns-3
 returns-3 c = rw (in-range (c .before), c .if3 .taken)
@@ -57,7 +65,13 @@ returns-4 c =
     let are : AreBytes (args .bytes .now) = λ i. omega (arith, key .before .shared-slice-known .given i) in
     let marks = args .bytes .now in
     let some : 0 < args .i = omega (arith, c .before .if3 .left) in
-    rw (in-range ranged, lt-ltb 0 (args .i) some, key-lt (markAt marks (args .p)) (markAt marks (args .p - 1)) (mark-fits marks are (args .p)) (mark-fits marks are (args .p - 1)), ← key .mark-key .ensures, ← c .mark-key2 .ensures)
+    rw (
+      in-range ranged,
+      lt-ltb 0 (args .i) some,
+      key-lt (markAt marks (args .p)) (markAt marks (args .p - 1)) (mark-fits marks are (args .p)) (mark-fits marks are (args .p - 1)),
+      ← key .mark-key .ensures,
+      ← c .mark-key2 .ensures,
+    )
 
 pub is-mark-wrong-spec : {M : Type 1} → statement M
 is-mark-wrong-spec =

@@ -1,4 +1,5 @@
--- `answer_coded` meets its contract: nothing refuses the search, and the entries that it found are those of the best pairs. Assumes nothing.
+-- `answer_coded` meets its contract: nothing refuses the search, and the entries that it found are those of the best pairs.
+-- Assumes nothing.
 use mathlib.Core.Path.{_≡_, sym, ap, subst, _∙_}
 use mathlib.Core.List.{List}
 use Prim.Native.Nat.{ℕ, _≤_}

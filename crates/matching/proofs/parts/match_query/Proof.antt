@@ -30,7 +30,9 @@ verdict-is : (c : tie.After-query2) → let start = c .before .before .before .b
     c .query2 .result ≡ first (recordsCauses (start .args .d) (start .args .bytes .now))
 verdict-is c =
     let start = c .before .before .before .before .before in
-    c .query2 .ensures .0 ∙ query-rows (start .args .d) _ (start .args .bytes .now) (ready-dimensions (start .pre .0 .0)) (length-take-le _ _ (query-holds (c .before .before)))
+    c .query2 .ensures .0
+    ∙ query-rows (start .args .d) _ (start .args .bytes .now) (ready-dimensions (start .pre .0 .0))
+    (length-take-le _ _ (query-holds (c .before .before)))
 
 abbrev query-back : tie.After-query2 → List ℤ
 query-back c = c .query2 .last .1 .1 .0
@@ -70,8 +72,10 @@ answer-requires c κs =
     let s = back .before .before .before .before .before in
     let ready = s .pre .0 .0 in
     let size = ap length (components-are back is) ∙ query-length (s .args .d) (s .args .bytes .now) in
-    let components = ap areComponents (components-are back is) ∙ query-components (s .args .d) (s .args .bytes .now) (passes back is) in
-    (ready .of-packing, (ready .of-search _ (s .args .k) size components (s .pre .0 .1), (ready .of-settings, rw (text-is back is) (s .pre .1))))
+    let components = ap areComponents (components-are back is) ∙ query-components (s .args .d) (s .args .bytes .now) (passes back is) in (
+      ready .of-packing,
+      (ready .of-search _ (s .args .k) size components (s .pre .0 .1), (ready .of-settings, rw (text-is back is) (s .pre .1))),
+    )
 
 returns : tie.Need-returns
 returns c =

@@ -45,7 +45,8 @@ match-query-requires : tie.Need-match-query-requires
 match-query-requires c κs =
     let u = c .before .before in
     let s = u .before .before .before .before .before .before .before in
-    let among = ap (λ (k : ℕ). leb 1 k && leb k (s .args .n)) (u .u16-at .ensures) ∙ k-among (s .args .n) (s .args .rest .now) (accepted (u .before)) in
+    let among =
+    ap (λ (k : ℕ). leb 1 k && leb k (s .args .n)) (u .u16-at .ensures) ∙ k-among (s .args .n) (s .args .rest .now) (accepted (u .before)) in
     ((s .pre .0, among), rw (text-is u) (s .pre .1))
 
 -- k is refused

@@ -36,7 +36,9 @@ returns c =
     let filled = c .before .before .before .before .before in
     let start = filled .before .before .before in
     let args = start .args in
-    let law = inside-between (args .d) (args .b) (args .marks .now) (λ i. getD (args .marks .now) i (pos 0)) (start .pre .of-marks .marks-count) (λ i h. refl) (ends filled) in
+    let law =
+    inside-between (args .d) (args .b) (args .marks .now) (λ i. getD (args .marks .now) i (pos 0)) (start .pre .of-marks .marks-count)
+    (λ i h. refl) (ends filled) in
     c .all-between .ensures ∙ sym (every-same (args .n) _ _ (λ i h. law (λ t. getD (args .components .now) (i * args .d + t) (pos 0))))
 
 pub all-inside-spec : {M : Type 1} → statement M

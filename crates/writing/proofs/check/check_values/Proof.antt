@@ -49,7 +49,9 @@ unfolding first
 returns-2 c =
     let marks = c .before .before in
     let start = marks .before .before .before in
-    let bad = bad-if (start .args .d) (start .args .b) (start .args .marks .now) (start .pre .of-marks) (sym (marks .check-marks .ensures) ∙ c .enum-told2 .given .1) in
+    let bad =
+    bad-if (start .args .d) (start .args .b) (start .args .marks .now) (start .pre .of-marks)
+    (sym (marks .check-marks .ensures) ∙ c .enum-told2 .given .1) in
     rw (← marks .before .before .are-components .ensures, marks .before .if1 .left, bad)
 
 -- the components and the marks pass
@@ -60,7 +62,9 @@ unfolding first
 outside-left c =
     let marks = c .before .before .before in
     let start = marks .before .before .before in
-    let good = good-if (start .args .d) (start .args .b) (start .args .marks .now) (start .pre .of-marks) (sym (marks .check-marks .ensures) ∙ c .before .enum-told .given .1) in
+    let good =
+    good-if (start .args .d) (start .args .b) (start .args .marks .now) (start .pre .of-marks)
+    (sym (marks .check-marks .ensures) ∙ c .before .enum-told .given .1) in
     rw (← marks .before .before .are-components .ensures, marks .before .if1 .left, good, ← c .all-inside .ensures)
 
 returns-3 : tie.Need-returns-3

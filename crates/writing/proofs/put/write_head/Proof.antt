@@ -13,7 +13,8 @@ room : (c : tie.Start) → 5 ≤ length (c .args .bytes .now)
 room c = rw (mark-place 0) at (c .pre)
 
 put-byte-requires-2 : tie.Need-put-byte-requires-2
-put-byte-requires-2 c κs = omega (arith, room (c .before .before .before .before .before .before), c .before .before .before .put-byte .kept)
+put-byte-requires-2 c κs =
+    omega (arith, room (c .before .before .before .before .before .before), c .before .before .before .put-byte .kept)
 
 put-byte-requires-3 : tie.Need-put-byte-requires-3
 put-byte-requires-3 c κs =

@@ -31,8 +31,11 @@ loop-holds : tie.Need-loop-holds Inv-loop μ-loop
 unfolding each
 loop-holds c = record { few = omega arith; room = refl; so-far = sym (append-nil _) }
 
--- a turn has room for its record
+-- the start and the turn of a place, and that the turn has room for its record
 module _ (c : tie.After-mark-place Inv-loop μ-loop) where
+  abbrev begin : tie.Start Inv-loop μ-loop
+  begin = c .before .before .before .before
+
   abbrev place : ℕ
   place = c .mark-place .result
 
@@ -41,8 +44,7 @@ module _ (c : tie.After-mark-place Inv-loop μ-loop) where
 
   room-left : place + 5 ≤ length (c .before .before .loop .bytes)
   room-left =
-      let start = c .before .before .before .before in
-      let whole = rw (mark-place (length (start .args .marks .now))) at (start .pre .1) in
+      let whole = rw (mark-place (length (begin .args .marks .now))) at (begin .pre .1) in
       omega (arith, place-is, c .before .loop-test .taken, c .before .before .loop .inv .room)
 
 put-quad-requires : tie.Need-put-quad-requires Inv-loop μ-loop
@@ -89,9 +91,9 @@ write-marks-spec =
     (λ c κs. search needs)
     (λ c. search needs)
     (λ c κs. omega (arith, room-left (c .before)))
-    (λ c. omega (arith, place-is (c .before .before .before .before .before), c .before .before .before .before .before .before .before .before .before .pre .0))
-    (λ c. omega (arith, c .before .before .before .before .before .before .loop-test .taken, c .before .before .before .before .before .before .before .before .before .pre .0))
-    (λ c. omega (arith, c .before .before .before .before .before .before .loop-test .taken))
+    (λ c. let at = c .before .before .before .before .before in omega (arith, place-is at, begin at .pre .0))
+    (λ c. let at = c .before .before .before .before .before in omega (arith, at .before .loop-test .taken, begin at .pre .0))
+    (λ c. let at = c .before .before .before .before .before in omega (arith, at .before .loop-test .taken))
     (λ c κs. search needs)
     put-quad-requires
     (λ c. omega arith)

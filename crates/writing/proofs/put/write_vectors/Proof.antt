@@ -56,8 +56,14 @@ write-vector-requires : tie.Need-write-vector-requires Inv-loop μ-loop
 write-vector-requires c κs =
     let at = c .before .before in
     let start = at .before .before .before .before .before in
-    let row = row-within (start .args .d) (at .before .loop-test .taken) in
-    (room-left at, record { few = start .pre .few-dimensions; within = omega (arith, row, start .pre .components-count); of-components = start .pre .of-components })
+    let row = row-within (start .args .d) (at .before .loop-test .taken) in (
+      room-left at,
+      record {
+        few = start .pre .few-dimensions;
+        within = omega (arith, row, start .pre .components-count);
+        of-components = start .pre .of-components;
+      },
+    )
 
 loop-again : tie.Need-loop-again Inv-loop μ-loop
 loop-again c =
