@@ -1,5 +1,5 @@
-// The kit program (document 01, "The program"): a match on standard input, its text on standard output. `matching::run` is all of it, on what
-// was read.
+// The kit program (document 01, "The program"): a match on standard input, its text on standard output. `matching::run` is all of it, on
+// what was read.
 use libc::STDIN_FILENO;
 use libc::STDOUT_FILENO;
 use limits::MAX_DIMENSIONS;

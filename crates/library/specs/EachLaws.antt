@@ -12,6 +12,7 @@ use lib.Seq.{drop-at, drop-cons, take-add, ext-getD, getD-drop, set-at, append-s
 use Rattle.refusal.specs.declared.Refusal.{Refusal}
 use Rattle.refusal.specs.declared.Verdict.the-variants.{Accepted, Refused}
 use Rattle.refusal.specs.First.{Row, first}
+use Rattle.limits.specs.Tests.{All, all-each, all-fails}
 use Rattle.records.specs.RowLaws.{go-on, stop, Both, both}
 use Rattle.library.specs.Each.{each, tabulate, every}
 
@@ -36,7 +37,8 @@ module _ {A : Type 0} where
   each-add k (suc n) f = rw (add-suc k n, each-add k n f) (append-assoc (each k f) (each n (λ i. f (k + i))) (f (k + n)))
 
   -- one more list, where they are written one behind the other
-  pub each-grows : {so-far next : List A} (front : List A) (i : ℕ) (f : ℕ → List A) → so-far ≡ front ++ each i f → next ≡ so-far ++ f i → next ≡ front ++ each (i + 1) f
+  pub each-grows : {so-far next : List A} (front : List A) (i : ℕ) (f : ℕ → List A) → so-far ≡ front ++ each i f → next ≡ so-far ++ f i
+      → next ≡ front ++ each (i + 1) f
   unfolding each
   each-grows front i f is more = rw add-one (more ∙ rw is (append-assoc front (each i f) (f i)))
 
@@ -46,7 +48,8 @@ module _ {A : Type 0} where
     pub is : whole ≡ front ++ tail
 
   -- list i stands in its place
-  pub each-at : (size n : ℕ) (f : ℕ → List A) → ((i : ℕ) → length (f i) ≡ size) → (rest : List A) (i : ℕ) → i < n → Begins (f i) (drop (i * size) (each n f ++ rest))
+  pub each-at : (size n : ℕ) (f : ℕ → List A) → ((i : ℕ) → length (f i) ≡ size) → (rest : List A) (i : ℕ) → i < n
+      → Begins (f i) (drop (i * size) (each n f ++ rest))
   unfolding each
   each-at size zero f sized rest i h = absurd (omega arith)
   each-at size (suc n) f sized rest i h = go (last-or-below h) (each-at size n f sized (f n ++ rest) i)
@@ -54,7 +57,8 @@ module _ {A : Type 0} where
       regrouped : each n f ++ f n ++ rest ≡ each n f ++ (f n ++ rest)
       regrouped = append-assoc (each n f) (f n) rest
 
-      go : (i ≡ n) ⊎ (i < n) → (i < n → Begins (f i) (drop (i * size) (each n f ++ (f n ++ rest)))) → Begins (f i) (drop (i * size) (each n f ++ f n ++ rest))
+      go : (i ≡ n) ⊎ (i < n) → (i < n → Begins (f i) (drop (i * size) (each n f ++ (f n ++ rest))))
+          → Begins (f i) (drop (i * size) (each n f ++ f n ++ rest))
       go (inl e) before = record {
         tail = rest;
         is = rw (e, regrouped) (drop-at (each n f) (f n ++ rest) (n * size) (each-length size n f sized));
@@ -75,14 +79,16 @@ module _ {A : Type 0} where
   pub tabulate-at : (n : ℕ) (f : ℕ → A) (default : A) (i : ℕ) → i < n → getD (tabulate n f) i default ≡ f i
   tabulate-at n f default i h =
       let there = each-at 1 n (λ i. f i ∷ []) (λ i. refl) [] i h in
-      let found : getD (drop i (tabulate n f)) 0 default ≡ f i = rw (append-nil, mul-one) at (ap (λ (l : List A). getD l 0 default) (there .is)) in
+      let found : getD (drop i (tabulate n f)) 0 default ≡ f i =
+      rw (append-nil, mul-one) at (ap (λ (l : List A). getD l 0 default) (there .is)) in
       rw (getD-drop, add-zero) at found
 
   pub tabulate-past : (n : ℕ) (f : ℕ → A) (default : A) (i : ℕ) → n ≤ i → getD (tabulate n f) i default ≡ default
   tabulate-past n f default i h = List·getD-eq-default (tabulate n f) default (rw (tabulate-length n f) h)
 
   -- a list is that of its elements
-  pub tabulate-is : (l : List A) (default : A) (n : ℕ) (f : ℕ → A) → length l ≡ n → ((i : ℕ) → i < n → f i ≡ getD l i default) → tabulate n f ≡ l
+  pub tabulate-is : (l : List A) (default : A) (n : ℕ) (f : ℕ → A) → length l ≡ n → ((i : ℕ) → i < n → f i ≡ getD l i default)
+      → tabulate n f ≡ l
   tabulate-is l default n f size same =
       let count = tabulate-length n f in
       ext-getD default (tabulate n f) l (count ∙ sym size) (λ i h.
@@ -90,7 +96,8 @@ module _ {A : Type 0} where
       tabulate-at n f default i within ∙ same i within)
 
   -- one more element, where a list is filled from the front
-  pub tabulate-fills : (n : ℕ) (f : ℕ → A) (old : List A) → n < length old → set (tabulate n f ++ drop n old) n (f n) ≡ tabulate (n + 1) f ++ drop (n + 1) old
+  pub tabulate-fills : (n : ℕ) (f : ℕ → A) (old : List A) → n < length old
+      → set (tabulate n f ++ drop n old) n (f n) ≡ tabulate (n + 1) f ++ drop (n + 1) old
   unfolding each
   tabulate-fills n f old more =
       rw (add-one, drop-cons old n (f n) more, set-at (tabulate n f) (getD old n (f n)) (drop (suc n) old) (f n) n (tabulate-length n f))
@@ -98,17 +105,12 @@ module _ {A : Type 0} where
 
 -- ---- tests of the first n numbers
 
-pub every-at : (n : ℕ) (test : ℕ → Bool) → every n test ≡ true → (i : ℕ) → i < n → test i ≡ true
+every-tests : (test : ℕ → Bool) → All (λ n. every n test) test
 unfolding every
-every-at zero test all i h = absurd (omega arith)
-every-at (suc n) test all i h = go (last-or-below h) (λ all' h'. every-at n test all' i h')
-  where
-    parts : (every n test ≡ true) × (test n ≡ true)
-    parts = and-eq-true-iff (every n test) (test n) .0 all
+every-tests test = record { next = λ n. refl }
 
-    go : (i ≡ n) ⊎ (i < n) → (every n test ≡ true → i < n → test i ≡ true) → test i ≡ true
-    go (inl e) before = rw e (parts .1)
-    go (inr l) before = before (parts .0) l
+pub every-at : (n : ℕ) (test : ℕ → Bool) → every n test ≡ true → (i : ℕ) → i < n → test i ≡ true
+every-at n test all i h = all-each (every-tests test) n i h all
 
 pub every-all : (n : ℕ) (test : ℕ → Bool) → ((i : ℕ) → i < n → test i ≡ true) → every n test ≡ true
 unfolding every
@@ -116,11 +118,7 @@ every-all zero test all = refl
 every-all (suc n) test all = and-eq-true-iff (every n test) (test n) .1 (every-all n test (λ i h. all i (omega arith)), all n (omega arith))
 
 pub every-fails : (n : ℕ) (test : ℕ → Bool) (i : ℕ) → i < n → test i ≡ false → every n test ≡ false
-every-fails n test i h fails = go (every n test) refl
-  where
-    go : (all : Bool) → every n test ≡ all → all ≡ false
-    go true e = sym (every-at n test e i h) ∙ fails
-    go false e = refl
+every-fails n test i h fails = all-fails (every-tests test) n i h fails
 
 pub every-same : (n : ℕ) (test other : ℕ → Bool) → ((i : ℕ) → i < n → test i ≡ other i) → every n test ≡ every n other
 unfolding every
@@ -159,7 +157,8 @@ pub each-more : (i : ℕ) (f : ℕ → List Row) → first (each i f) ≡ Accept
 unfolding each
 each-more i f so-far here = rw add-one (go-on (each i f) (f i) so-far ∙ here)
 
-pub each-stops : (n : ℕ) (f : ℕ → List Row) (i : ℕ) {cause : Refusal} → i < n → first (each i f) ≡ Accepted → first (f i) ≡ Refused cause → first (each n f) ≡ Refused cause
+pub each-stops : (n : ℕ) (f : ℕ → List Row) (i : ℕ) {cause : Refusal} → i < n → first (each i f) ≡ Accepted → first (f i) ≡ Refused cause
+    → first (each n f) ≡ Refused cause
 unfolding each
 each-stops zero f i h so-far here = absurd (omega arith)
 each-stops (suc n) f i {cause} h so-far here = go (last-or-below h) (λ h'. each-stops n f i h' so-far here)

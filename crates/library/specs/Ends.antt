@@ -61,4 +61,9 @@ inside-between {lows} {highs} d b marks mark whole same ends component =
     let low = same (firstMarks d b t) (omega (arith, room)) in
     let high = same (firstMarks d b t + 2 ^ bitsOf d b (suc t)) (omega (arith, room)) in
     in-marks-at d b marks whole t h (component t)
-    ∙ rw (low, high, front-at d (firstMark d b mark) (ends .rest) t h (ends .lows-are), front-at d (lastMark d b mark) (ends .rest') t h (ends .highs-are)))
+    ∙ rw (
+      low,
+      high,
+      front-at d (firstMark d b mark) (ends .rest) t h (ends .lows-are),
+      front-at d (lastMark d b mark) (ends .rest') t h (ends .highs-are),
+    ))

@@ -70,11 +70,16 @@ module _ (d b : ℕ) (marks : List ℤ) (whole : length marks ≡ firstMarks d b
   pub part-length : length (dimensionMarks d b marks (suc t)) ≡ markCount d b (suc t)
   part-length = rw part-is (length-take-le (markCount d b (suc t)) (drop (firstMarks d b t) marks) (rw length-drop (omega (arith, room))))
 
-  pub part-at : (i : ℕ) → i < markCount d b (suc t) → getD (dimensionMarks d b marks (suc t)) i (pos 0) ≡ getD marks (firstMarks d b t + i) (pos 0)
-  part-at i h = rw (part-is, getD-take (markCount d b (suc t)) (drop (firstMarks d b t) marks) i (pos 0) h) (getD-drop (firstMarks d b t) marks i (pos 0))
+  pub part-at : (i : ℕ) → i < markCount d b (suc t)
+      → getD (dimensionMarks d b marks (suc t)) i (pos 0) ≡ getD marks (firstMarks d b t + i) (pos 0)
+  part-at i h =
+      rw (part-is, getD-take (markCount d b (suc t)) (drop (firstMarks d b t) marks) i (pos 0) h)
+      (getD-drop (firstMarks d b t) marks i (pos 0))
 
   -- a value lies inside a dimension's marks where it is at least the first and below the last
-  pub in-marks-at : (v : ℤ) → inMarks (dimensionMarks d b marks (suc t)) v ≡ leZ (getD marks (firstMarks d b t) (pos 0)) v && ltZ v (getD marks (firstMarks d b t + 2 ^ bitsOf d b (suc t)) (pos 0))
+  pub in-marks-at : (v : ℤ)
+      → inMarks (dimensionMarks d b marks (suc t)) v
+      ≡ leZ (getD marks (firstMarks d b t) (pos 0)) v && ltZ v (getD marks (firstMarks d b t + 2 ^ bitsOf d b (suc t)) (pos 0))
   unfolding inMarks
   in-marks-at v =
       let last = last-mark (dimensionMarks d b marks (suc t)) (2 ^ bitsOf d b (suc t)) (omega (arith, part-length)) in
@@ -89,7 +94,10 @@ module _ (d b : ℕ) (marks : List ℤ) (whole : length marks ≡ firstMarks d b
     pub good-range : (i : ℕ) → i < markCount d b (suc t) → isMark (getD marks (firstMarks d b t + i) (pos 0)) ≡ true
     good-range i h = rw (part-at i h) at (mark-in-range (dimensionMarks d b marks (suc t)) good-part i (omega (arith, part-length)))
 
-    pub good-rise : (i : ℕ) → suc i < markCount d b (suc t) → ltZ (getD marks (firstMarks d b t + suc i) (pos 0)) (getD marks (firstMarks d b t + i) (pos 0)) ≡ false
+    pub good-rise : (i : ℕ) → suc i < markCount d b (suc t)
+        → ltZ (getD marks (firstMarks d b t + suc i) (pos 0)) (getD marks (firstMarks d b t + i) (pos 0)) ≡ false
     good-rise i h =
         let rises = marks-rise (dimensionMarks d b marks (suc t)) good-part i (suc i) (omega arith) (omega (arith, part-length)) in
-        rw (part-at i (omega arith), part-at (suc i) h) at (ltZ-not (getD (dimensionMarks d b marks (suc t)) (suc i) (pos 0)) (getD (dimensionMarks d b marks (suc t)) i (pos 0)) ∙ ap not rises)
+        rw (part-at i (omega arith), part-at (suc i) h) at
+        (ltZ-not (getD (dimensionMarks d b marks (suc t)) (suc i) (pos 0)) (getD (dimensionMarks d b marks (suc t)) i (pos 0))
+        ∙ ap not rises)

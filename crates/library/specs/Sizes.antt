@@ -78,11 +78,13 @@ stretch-ends {d} {b} {t} {s} among is =
       small = is .small;
     }
 
--- they are those of its stretch, where the shape passes
-pub ends-at : {from to : ℕ} (d b t : ℕ) → first (shapeCauses d b) ≡ Accepted → t < d
-    → (from ≡ (stretchOf d b (t + 1)) .offset) × (to ≡ (stretchOf d b (t + 1)) .offset + 2 ^ (stretchOf d b (t + 1)) .bits) → EndsAt d b t from to
-ends-at d b t passes among ends =
-    rw (ends .0, ends .1) (stretch-ends {s = stretchOf d b (t + 1)} among (stretches (dimension-accepted d b t passes among) refl))
+-- they are those of its stretch, where the shape passes: the last stands as many behind the first as there are regions
+module _ {s : Stretch} (d b t : ℕ) (passes : first (shapeCauses d b) ≡ Accepted) (among : t < d) (is : s ≡ stretchOf d b (t + 1)) where
+  pub stretch-bits : s .bits ≤ maxDimensionBits
+  stretch-bits = stretches (dimension-accepted d b t passes among) is .few-bits
+
+  pub ends-at : {regions : ℕ} → regions ≡ 2 ^ s .bits → EndsAt d b t (s .offset) (s .offset + regions)
+  ends-at are = rw are (stretch-ends among (stretches (dimension-accepted d b t passes among) is))
 
 -- a vector's components are among those of n vectors
 pub row-within : {i n : ℕ} (d : ℕ) → i < n → i * d + d ≤ n * d

@@ -1,4 +1,5 @@
-// The library file (document 01, "Library file"): its counts, and where its records stand in its bytes. `loading` and `writing` read and write it.
+// The library file (document 01, "Library file"): its counts, and where its records stand in its bytes. `loading` reads it and `writing`
+// writes it.
 use records::END_LENGTH;
 use records::HEAD_LENGTH;
 use records::MARK_LENGTH;
@@ -6,9 +7,7 @@ use records::VECTOR_LENGTH;
 use refusal::Refusal;
 use refusal::Verdict;
 ghost use mathlib.Core.Path.{_≡_};
-ghost use Prim.Native.Nat.{_+_, _^_};
 ghost use Rattle.refusal.specs.First.{first, outcome};
-ghost use Rattle.layout.specs.Stretch.{stretchOf};
 ghost use Rattle.library.specs.Library.{markPlace, vectorPlace, libraryLength};
 ghost use Rattle.library.specs.Tests.{countsCauses};
 ghost use Rattle.library.specs.Ends.{lies};
@@ -49,24 +48,6 @@ pub fn library_length(d: usize, b: usize, n: usize) -> usize
     match check_counts(d, b, n) {
         Verdict::Accepted => vector_place(layout::marks_length(d, b) as u32, n as u32) + END_LENGTH,
         Verdict::Refused(_) => 0,
-    }
-}
-
-// The numbers of a dimension's first and last mark.
-pub struct Ends {
-    pub first: usize,
-    pub last: usize,
-}
-
-// Those of dimension j, from 1; 0 and 1 where there is no such dimension.
-pub fn ends_of(d: usize, b: usize, j: usize) -> Ends
-    ensures { λ r. ⌜ (r .first ≡ (stretchOf d b j) .offset) × (r .last ≡ (stretchOf d b j) .offset + 2 ^ (stretchOf d b j) .bits) ⌝ }
-{
-    let stretch = layout::stretch_of(d, b, j);
-    let first = stretch.offset;
-    Ends {
-        first,
-        last: first + (1usize << stretch.bits),
     }
 }
 

@@ -8,7 +8,8 @@ use lib.ListN.{length, take, set}
 use lib.Seq.{take-suc-set, take-all}
 
 module _ {A : Type 0} where
-  pub written-one : (out : List A) (n : ℕ) (x : A) (rest whole : List A) → n < length out → take n out ++ (x ∷ rest) ≡ whole → take (n + 1) (set out n x) ++ rest ≡ whole
+  pub written-one : (out : List A) (n : ℕ) (x : A) (rest whole : List A) → n < length out → take n out ++ (x ∷ rest) ≡ whole
+      → take (n + 1) (set out n x) ++ rest ≡ whole
   written-one out n x rest whole below so-far = rw (add-one, take-suc-set, append-assoc) so-far
 
   pub written-all : (out : List A) (n : ℕ) (whole : List A) → length out ≤ n → take n out ++ [] ≡ whole → out ≡ whole

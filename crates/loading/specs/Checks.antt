@@ -27,17 +27,21 @@ abbrev pub betweenCauses : ℕ → List ℤ → List ℤ → List ℕ → List R
 betweenCauses d lows highs bytes = recordCauses vectorKind bytes (ownCauses d lows highs bytes)
 
 -- they are the vector's causes
-pub vectors-between : {d b m n : ℕ} {lows highs : List ℤ} (bytes : List ℕ) → HeadOf bytes d b n → m ≡ markTotal d b → EndMarks d b (markAt bytes) lows highs
+pub vectors-between : {d b m n : ℕ} {lows highs : List ℤ} (bytes : List ℕ) → HeadOf bytes d b n → m ≡ markTotal d b
+    → EndMarks d b (markAt bytes) lows highs
     → each n (λ i. betweenCauses d lows highs (drop (vectorPlace m i) bytes)) ≡ vectorsCauses (readLibrary bytes) bytes
 vectors-between {d} {b} {m} {n} {lows} {highs} bytes is total ends =
-    let l = readLibrary bytes in
     let shaped = is .of-shape in
     let marks = tabulate (markTotal d b) (markAt bytes) in
-    let law = inside-between d b marks (markAt bytes) (tabulate-length (markTotal d b) (markAt bytes)) (λ i h. tabulate-at (markTotal d b) (markAt bytes) (pos 0) i h) ends in
+    let law =
+    inside-between d b marks (markAt bytes) (tabulate-length (markTotal d b) (markAt bytes))
+    (λ i h. tabulate-at (markTotal d b) (markAt bytes) (pos 0) i h) ends in
     rw (is .n-is)
-    (each-same n _ _ (λ i h. rw (total, shaped .d-is, shaped .b-is, marks-are bytes shaped, law (storedAt (drop (vectorPlace (markTotal d b) i) bytes)))))
+    (each-same n _ _
+    (λ i h. rw (total, shaped .d-is, shaped .b-is, marks-are bytes shaped, law (storedAt (drop (vectorPlace (markTotal d b) i) bytes)))))
 
 -- the verdict on the frame of the record at a place, by the kind that was found there
 pub frame-at : {verdict : Verdict} {found at place : ℕ} (kind : ℕ) (bytes : List ℕ) → at ≡ place → found ≡ getD bytes at 0
-    → verdict ≡ first (frameCauses (eqb found kind) (drop at bytes)) → verdict ≡ first (frameCauses (eqb (kindOf (drop place bytes)) kind) (drop place bytes))
+    → verdict ≡ first (frameCauses (eqb found kind) (drop at bytes))
+    → verdict ≡ first (frameCauses (eqb (kindOf (drop place bytes)) kind) (drop place bytes))
 frame-at {place = place} kind bytes at-is found-is is = is ∙ rw (found-is, at-is, ← kind-at bytes place)

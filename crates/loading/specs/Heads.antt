@@ -29,7 +29,8 @@ pub record HeadOf (bytes : List ℕ) (d b n : ℕ) : Type 0 where
   pub few : n ≤ maxVectors
   pub counts-pass : first (countsCauses d b n) ≡ Accepted
 
-pub head-of : {d b n : ℕ} (bytes : List ℕ) → first (headCauses (readLibrary bytes) bytes) ≡ Accepted → d ≡ headValue bytes 0 → b ≡ headValue bytes 1 → n ≡ headValue bytes 2
+pub head-of : {d b n : ℕ} (bytes : List ℕ) → first (headCauses (readLibrary bytes) bytes) ≡ Accepted → d ≡ headValue bytes 0
+    → b ≡ headValue bytes 1 → n ≡ headValue bytes 2
     → HeadOf bytes d b n
 unfolding readLibrary
 head-of {d} {b} {n} bytes accepted d-is b-is n-is =

@@ -25,11 +25,13 @@ pub record Loadable (marks settings components : ℕ) (bytes : List ℕ) : Type 
   pub head-passes : first (headCauses (readLibrary bytes) bytes) ≡ Accepted
   pub whole : libraryLength ((readLibrary bytes) .d) ((readLibrary bytes) .b) ((readLibrary bytes) .n) ≤ length bytes
 
-pub loadable : (marks settings components : ℕ) (bytes : List ℕ) → first (loadCauses marks settings components bytes) ≡ Accepted → Loadable marks settings components bytes
+pub loadable : (marks settings components : ℕ) (bytes : List ℕ) → first (loadCauses marks settings components bytes) ≡ Accepted
+    → Loadable marks settings components bytes
 unfolding loadCauses
 loadable marks settings components bytes accepted =
     let lengths = passed _ Length _ accepted in
-    let all = and-eq-true-iff (eqb marks marksRoom) (eqb settings settingsRoom && eqb components componentsRoom) .0 (not-false _ (lengths .fails)) in
+    let all =
+    and-eq-true-iff (eqb marks marksRoom) (eqb settings settingsRoom && eqb components componentsRoom) .0 (not-false _ (lengths .fails)) in
     let later = and-eq-true-iff (eqb settings settingsRoom) (eqb components componentsRoom) .0 (all .1) in
     record {
       marks-count = eqb-true _ _ (all .0);

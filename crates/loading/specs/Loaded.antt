@@ -1,5 +1,5 @@
--- What holds of a library whose records pass: every record has passed its own causes, all of it is there, its marks are good, its components
--- in range, and its vectors inside the marks. So writing accepts it. Assumes nothing.
+-- What holds of a library whose records pass: every record has passed its own causes, all of it is there, its marks are good, its
+-- components in range, and its vectors inside the marks. So writing accepts it. Assumes nothing.
 use mathlib.Core.Path.{_≡_, refl, _∙_}
 use mathlib.Core.Bool.{Bool, true, false, not, _&&_, _||_}
 use mathlib.Core.List.{List, [], _∷_, _++_}
@@ -30,10 +30,13 @@ use Rattle.records.specs.Records.{headKind, markKind, vectorKind, endKind, reco
 use Rattle.records.specs.RowLaws.{both}
 use Rattle.records.specs.Frame.{frameCauses, framed}
 use Rattle.library.specs.EachLaws.{tabulate-length, tabulate-at, every-at, every-all, accepted-at}
-use Rattle.library.specs.Library.{Library, markTotal, componentIn, libraryLength, vectorPlace, markPlace, markAt, settingsAt, storedAt, componentAt, readLibrary}
+use Rattle.library.specs.Library.{Library, markTotal, componentIn, libraryLength, vectorPlace, markPlace, markAt, settingsAt, storedAt}
+use Rattle.library.specs.Library.{componentAt, readLibrary}
+use Rattle.library.specs.Read.{mark-read}
 use Rattle.library.specs.Tests.{inside}
 use Rattle.library.specs.MarkLaws.{good-each, part-length, part-at}
-use Rattle.loading.specs.Load.{headCauses, markCauses, markWrong, zeroBeyond, vectorCauses, marksCauses, vectorsCauses, endCauses, recordsCauses}
+use Rattle.loading.specs.Load.{headCauses, markCauses, markWrong, zeroBeyond, vectorCauses, marksCauses, vectorsCauses, endCauses}
+use Rattle.loading.specs.Load.{recordsCauses}
 
 -- ---- marks and components
 
@@ -48,7 +51,11 @@ unfolding goodDimension notAbove
 good-dimension [] range rise = refl
 good-dimension (m ∷ []) range rise = rw (range 0 (omega arith))
 good-dimension (m ∷ next ∷ ms) range rise =
-    rw (range 0 (omega arith), rise 0 (omega arith), good-dimension (next ∷ ms) (λ i h. range (suc i) (omega arith)) (λ i h. rise (suc i) (omega arith)))
+    rw (
+      range 0 (omega arith),
+      rise 0 (omega arith),
+      good-dimension (next ∷ ms) (λ i h. range (suc i) (omega arith)) (λ i h. rise (suc i) (omega arith)),
+    )
 
 -- a number of 16 bits is a component
 bits-component : (x : ℕ) → isComponent (toZ w16 x) ≡ true
@@ -119,16 +126,13 @@ module _ (bytes : List ℕ) (accepted : first (recordsCauses (readLibrary bytes)
   unfolding libraryLength recordLength
   loaded-within =
       let place = vectorPlace total (l .n) in
-      let frame = both (frameCauses (eqb (kindOf (drop place bytes)) endKind) (drop place bytes)) [] (passes bytes l accepted .end) .front in
+      let frame =
+      both (frameCauses (eqb (kindOf (drop place bytes)) endKind) (drop place bytes)) [] (passes bytes l accepted .end) .front in
       let is = framed (eqb (kindOf (drop place bytes)) endKind) (drop place bytes) frame in
       let kind = eqb-true (kindOf (drop place bytes)) endKind (is .there) in
       omega (arith, rw (kind, length-drop place bytes) at (is .whole))
 
   -- ---- the marks
-
-  mark-read : (p : ℕ) → p < total → getD (l .marks) p (pos 0) ≡ markAt bytes p
-  unfolding readLibrary
-  mark-read p h = tabulate-at total (markAt bytes) (pos 0) p h
 
   module _ (t : ℕ) (among : t < l .d) where
     abbrev from : ℕ
@@ -145,9 +149,13 @@ module _ (bytes : List ℕ) (accepted : first (recordsCauses (readLibrary bytes)
 
     read : (i : ℕ) → i < count → getD part i (pos 0) ≡ markAt bytes (from + i)
     unfolding firstMarks
-    read i h = part-at (l .d) (l .b) (l .marks) marks-count t among i h ∙ mark-read (from + i) (omega (arith, marks-within (l .d) (l .b) (l .d) t among))
+    read i h =
+        part-at (l .d) (l .b) (l .marks) marks-count t among i h
+        ∙ mark-read bytes (from + i) (omega (arith, marks-within (l .d) (l .b) (l .d) t among))
 
-    right : (i : ℕ) → i < count → (not (isMark (markAt bytes (from + i))) ≡ false) × (ltb 0 i && ltZ (markAt bytes (from + i)) (markAt bytes (from + i - 1)) ≡ false)
+    right : (i : ℕ) → i < count
+        → (not (isMark (markAt bytes (from + i))) ≡ false)
+        × (ltb 0 i && ltZ (markAt bytes (from + i)) (markAt bytes (from + i - 1)) ≡ false)
     right i h =
         let rest = drop (markPlace (from + i)) bytes in
         let own = both (frameCauses (eqb (kindOf rest) markKind) rest) _ (passes bytes l accepted .mark t i among h) .back in
@@ -162,14 +170,17 @@ module _ (bytes : List ℕ) (accepted : first (recordsCauses (readLibrary bytes)
     rises i h =
         let within : suc i < count = omega (arith, size) in
         let before : from + suc i - 1 ≡ from + i = omega arith in
-        let not-below : ltZ (markAt bytes (from + suc i)) (markAt bytes (from + i)) ≡ false = rw (before, lt-ltb 0 (suc i) (omega arith)) at (right (suc i) within .1) in
+        let not-below : ltZ (markAt bytes (from + suc i)) (markAt bytes (from + i)) ≡ false =
+        rw (before, lt-ltb 0 (suc i) (omega arith)) at (right (suc i) within .1) in
         rw (read i (omega arith), read (suc i) within, leZ-not (markAt bytes (from + suc i)) (markAt bytes (from + i)), not-below)
 
     good-part : goodDimension part ≡ true
     good-part = good-dimension part in-range rises
 
   pub loaded-marks : goodMarks (l .d) (l .b) (l .marks) ≡ true
-  loaded-marks = good-each (l .d) (l .b) (l .marks) (l .d) ∙ every-all (l .d) (λ t. goodDimension (dimensionMarks (l .d) (l .b) (l .marks) (suc t))) good-part
+  loaded-marks =
+      good-each (l .d) (l .b) (l .marks) (l .d)
+      ∙ every-all (l .d) (λ t. goodDimension (dimensionMarks (l .d) (l .b) (l .marks) (suc t))) good-part
 
   -- ---- the vectors
 
@@ -186,7 +197,8 @@ module _ (bytes : List ℕ) (accepted : first (recordsCauses (readLibrary bytes)
   unfolding storedAt
   loaded-components =
       all-components (l .components)
-      (λ k h. rw (component-at k (rw components-count at h)) (bits-component (valueOf vectorKind (suc (k % l .d)) (drop (vectorPlace total (k / l .d)) bytes))))
+      (λ k h. rw (component-at k (rw components-count at h))
+      (bits-component (valueOf vectorKind (suc (k % l .d)) (drop (vectorPlace total (k / l .d)) bytes))))
 
   pub vector-inside : (i : ℕ) → i < l .n → inside (l .d) (l .b) (l .marks) (componentAt total bytes i) ≡ true
   vector-inside i h =
@@ -198,4 +210,6 @@ module _ (bytes : List ℕ) (accepted : first (recordsCauses (readLibrary bytes)
   unfolding inside
   loaded-inside i h =
       every-all (l .d) (λ t. inMarks (dimensionMarks (l .d) (l .b) (l .marks) (suc t)) (componentIn l i t))
-      (λ t k. rw (component-read i t h k) (every-at (l .d) (λ t. inMarks (dimensionMarks (l .d) (l .b) (l .marks) (suc t)) (componentAt total bytes i t)) (vector-inside i h) t k))
+      (λ t k. rw (component-read i t h k)
+      (every-at (l .d) (λ t. inMarks (dimensionMarks (l .d) (l .b) (l .marks) (suc t)) (componentAt total bytes i t))
+      (vector-inside i h) t k))

@@ -45,7 +45,8 @@ mark-bits bytes i =
 pub settings-value : (m : ℕ) (bytes : List ℕ) (i : ℕ) → settingsAt m bytes i ≡ fromLowFirst 4 (drop (vectorPlace m i + 1) bytes)
 unfolding settingsAt sum
 settings-value m bytes i =
-    value-at vectorKind 0 (drop (vectorPlace m i) bytes) (rw vector-widths (lit< tt)) ∙ rw (vector-widths, drop-drop 1 (vectorPlace m i) bytes)
+    value-at vectorKind 0 (drop (vectorPlace m i) bytes) (rw vector-widths (lit< tt))
+    ∙ rw (vector-widths, drop-drop 1 (vectorPlace m i) bytes)
 
 sum-twos : (n t : ℕ) → t ≤ n → sum (take t (replicate n 2)) ≡ 2 * t
 unfolding sum
@@ -53,13 +54,20 @@ sum-twos n zero h = refl
 sum-twos zero (suc t) h = absurd (omega arith)
 sum-twos (suc n) (suc t) h = rw (sum-twos n t (omega arith)) (omega arith)
 
-pub component-value : (bytes : List ℕ) (at t : ℕ) → t < maxDimensions → valueOf vectorKind (suc t) (drop at bytes) ≡ fromLowFirst 2 (drop (at + 5 + 2 * t) bytes)
+pub component-value : (bytes : List ℕ) (at t : ℕ) → t < maxDimensions
+    → valueOf vectorKind (suc t) (drop at bytes) ≡ fromLowFirst 2 (drop (at + 5 + 2 * t) bytes)
 unfolding sum
 component-value bytes at t few =
     let within : suc t < length (widthsOf vectorKind) = rw vector-widths (omega (arith, length-replicate {A = ℕ} maxDimensions 2)) in
     let place : at + suc (4 + 2 * t) ≡ at + 5 + 2 * t = omega arith in
     value-at vectorKind (suc t) (drop at bytes) within
-    ∙ rw (vector-widths, getD-replicate {A = ℕ} maxDimensions t 2 0 few, sum-twos maxDimensions t (omega arith), drop-drop (suc (4 + 2 * t)) at bytes, place)
+    ∙ rw (
+      vector-widths,
+      getD-replicate {A = ℕ} maxDimensions t 2 0 few,
+      sum-twos maxDimensions t (omega arith),
+      drop-drop (suc (4 + 2 * t)) at bytes,
+      place,
+    )
 
 -- ---- signed values
 

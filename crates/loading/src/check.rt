@@ -4,8 +4,8 @@ use crate::values::component_bits;
 use crate::values::counts_of;
 use crate::values::mark_at;
 use crate::values::mark_key;
+use crate::values::regions;
 use library::check_counts;
-use library::ends_of;
 use library::lies;
 use library::mark_place;
 use library::vector_place;
@@ -32,10 +32,11 @@ ghost use Rattle.library.specs.Each.{each, tabulate};
 ghost use Rattle.library.specs.Library.{vectorPlace, markAt, storedAt, readLibrary};
 ghost use Rattle.library.specs.Ends.{Table, between, firstMark, lastMark};
 ghost use Rattle.library.specs.Tests.{inside};
-ghost use Rattle.loading.specs.Load.{headCauses, markWrong, markCauses, zeroBeyond, marksCauses, vectorsCauses, endCauses, recordsCauses};
+ghost use Rattle.loading.specs.Load.{headCauses, markWrong, markCauses, zeroBeyond, marksCauses, vectorsCauses, endCauses};
+ghost use Rattle.loading.specs.Load.{recordsCauses};
 ghost use Rattle.loading.specs.Checks.{ownCauses, betweenCauses};
 
-// The records of a library.
+// The first cause of a library's records.
 pub(crate) fn check_records(bytes: &[u8]) -> Verdict
     ensures { λ r. ⌜ r ≡ first (recordsCauses (readLibrary (now (bytes .entry))) (now (bytes .entry))) ⌝ }
 {
@@ -54,6 +55,7 @@ pub(crate) fn check_records(bytes: &[u8]) -> Verdict
     check_end(bytes)
 }
 
+// The first cause of the head.
 fn check_head(bytes: &[u8]) -> Verdict
     ensures { λ r. ⌜ r ≡ first (headCauses (readLibrary (now (bytes .entry))) (now (bytes .entry))) ⌝ }
 {
@@ -64,7 +66,7 @@ fn check_head(bytes: &[u8]) -> Verdict
     }
 }
 
-// The marks of each dimension, for a head that passes.
+// The first cause of the marks' records, for a head that passes.
 fn check_marks(bytes: &[u8]) -> Verdict
     requires { ⌜ first (headCauses (readLibrary (now bytes)) (now bytes)) ≡ Accepted ⌝ }
     ensures { λ r. ⌜ r ≡ first (marksCauses (readLibrary (now (bytes .entry))) (now (bytes .entry))) ⌝ }
@@ -72,8 +74,8 @@ fn check_marks(bytes: &[u8]) -> Verdict
     let counts = counts_of(bytes);
     let mut t = 0;
     while t < counts.d {
-        let ends = ends_of(counts.d, counts.b, t + 1);
-        match check_dimension(bytes, ends.first, ends.last - ends.first + 1) {
+        let stretch = layout::stretch_of(counts.d, counts.b, t + 1);
+        match check_dimension(bytes, stretch.offset, regions(stretch.bits) + 1) {
             Verdict::Accepted => {
                 t += 1;
             }
@@ -85,7 +87,7 @@ fn check_marks(bytes: &[u8]) -> Verdict
     Verdict::Accepted
 }
 
-// The marks of one dimension, by the number of its first and how many they are.
+// The first cause of one dimension's marks, by the number of the first and how many they are.
 fn check_dimension(bytes: &[u8], from: usize, count: usize) -> Verdict
     requires { ⌜ from + count < 2 ^ 32 ⌝ }
     ensures { λ r. ⌜ r ≡ first (each count (markCauses (now (bytes .entry)) from)) ⌝ }
@@ -104,7 +106,7 @@ fn check_dimension(bytes: &[u8], from: usize, count: usize) -> Verdict
     Verdict::Accepted
 }
 
-// Mark i of a dimension, from 0, whose first mark is number `from`.
+// The first cause of mark i, from 0, of the dimension whose first mark is number `from`.
 fn check_mark(bytes: &[u8], from: usize, i: usize) -> Verdict
     requires { ⌜ from + i < 2 ^ 32 ⌝ }
     ensures { λ r. ⌜ r ≡ first (markCauses (now (bytes .entry)) from i) ⌝ }
@@ -139,7 +141,8 @@ fn is_mark_wrong(bytes: &[u8], p: usize, i: usize) -> bool
     key < mark_key(bytes, p - 1)
 }
 
-// The vectors, for a head that passes. Each component is held against the ends of its dimension's marks, which are read once.
+// The first cause of the vectors, for a head that passes. Each component is held against the ends of its dimension's marks, which are
+// read once.
 fn check_vectors(bytes: &[u8]) -> Verdict
     requires { ⌜ first (headCauses (readLibrary (now bytes)) (now bytes)) ≡ Accepted ⌝ }
     ensures { λ r. ⌜ r ≡ first (vectorsCauses (readLibrary (now (bytes .entry))) (now (bytes .entry))) ⌝ }
@@ -152,7 +155,7 @@ fn check_vectors(bytes: &[u8]) -> Verdict
     check_each(bytes, counts.d, m, counts.n, &lows, &highs)
 }
 
-// The first and the last mark of each dimension, into the fronts of two buffers.
+// The first and the last mark of each dimension are read into the fronts of two buffers.
 fn read_ends(bytes: &[u8], d: usize, b: usize, lows: &mut [i32], highs: &mut [i32])
     requires { ⌜ (first (shapeCauses d b) ≡ Accepted) × (d ≤ length (now lows)) × (d ≤ length (now highs)) ⌝ }
     ensures { λ _. ⌜ now (lows .exit) ≡ tabulate d (firstMark d b (markAt (now (bytes .entry)))) ++ drop d (now (lows .entry)) ⌝ }
@@ -160,17 +163,20 @@ fn read_ends(bytes: &[u8], d: usize, b: usize, lows: &mut [i32], highs: &mut [i3
 {
     let mut t = 0;
     while t < d {
-        let ends = ends_of(d, b, t + 1);
-        lows[t] = mark_at(bytes, ends.first);
-        highs[t] = mark_at(bytes, ends.last);
+        let stretch = layout::stretch_of(d, b, t + 1);
+        let first = stretch.offset;
+        let last = first + regions(stretch.bits);
+        lows[t] = mark_at(bytes, first);
+        highs[t] = mark_at(bytes, last);
         t += 1;
     }
 }
 
-// Each of n vectors behind m marks.
+// The first cause of n vectors, whose records stand behind m marks.
 fn check_each(bytes: &[u8], d: usize, m: usize, n: usize, lows: &[i32], highs: &[i32]) -> Verdict
     requires { ⌜ (Table d (now lows) (now highs)) × (m < 2 ^ 32) × (n < 2 ^ 32) ⌝ }
-    ensures { λ r. ⌜ r ≡ first (each n (λ i. betweenCauses d (now (lows .entry)) (now (highs .entry)) (drop (vectorPlace m i) (now (bytes .entry))))) ⌝ }
+    ensures { λ r. ⌜ r
+        ≡ first (each n (λ i. betweenCauses d (now (lows .entry)) (now (highs .entry)) (drop (vectorPlace m i) (now (bytes .entry))))) ⌝ }
 {
     let mut i = 0;
     while i < n {
@@ -186,7 +192,7 @@ fn check_each(bytes: &[u8], d: usize, m: usize, n: usize, lows: &[i32], highs: &
     Verdict::Accepted
 }
 
-// The vector whose record begins at an index.
+// The first cause of the vector whose record begins at an index.
 fn check_vector(bytes: &[u8], d: usize, at: usize, lows: &[i32], highs: &[i32]) -> Verdict
     requires { ⌜ Table d (now lows) (now highs) ⌝ }
     ensures { λ r. ⌜ r ≡ first (betweenCauses d (now (lows .entry)) (now (highs .entry)) (drop at (now (bytes .entry)))) ⌝ }
@@ -197,7 +203,7 @@ fn check_vector(bytes: &[u8], d: usize, at: usize, lows: &[i32], highs: &[i32]) 
     }
 }
 
-// Its components, where the record is whole.
+// The first cause of the components of a vector whose record begins at an index and is whole.
 fn check_components(bytes: &[u8], d: usize, at: usize, lows: &[i32], highs: &[i32]) -> Verdict
     requires { ⌜ (Table d (now lows) (now highs)) × (at + recordLength vectorKind ≤ length (now bytes)) ⌝ }
     ensures { λ r. ⌜ r ≡ first (ownCauses d (now (lows .entry)) (now (highs .entry)) (drop at (now (bytes .entry)))) ⌝ }
@@ -213,7 +219,7 @@ fn check_components(bytes: &[u8], d: usize, at: usize, lows: &[i32], highs: &[i3
     Verdict::Accepted
 }
 
-// Whether the components beyond d are zero.
+// Whether the components beyond d of a vector are zero.
 fn is_zero_beyond(bytes: &[u8], d: usize, at: usize) -> bool
     requires { ⌜ at + recordLength vectorKind ≤ length (now bytes) ⌝ }
     ensures { λ r. ⌜ r ≡ zeroBeyond d (drop at (now (bytes .entry))) ⌝ }
@@ -228,7 +234,7 @@ fn is_zero_beyond(bytes: &[u8], d: usize, at: usize) -> bool
     true
 }
 
-// Whether the first d components lie, each, between the ends of the marks of their dimension.
+// Whether the first d components of a vector lie, each, between the ends of the marks of their dimension.
 fn is_between(bytes: &[u8], d: usize, at: usize, lows: &[i32], highs: &[i32]) -> bool
     requires { ⌜ (Table d (now lows) (now highs)) × (at + recordLength vectorKind ≤ length (now bytes)) ⌝ }
     ensures { λ r. ⌜ r ≡ between d (now (lows .entry)) (now (highs .entry)) (storedAt (drop at (now (bytes .entry)))) ⌝ }
@@ -243,7 +249,7 @@ fn is_between(bytes: &[u8], d: usize, at: usize, lows: &[i32], highs: &[i32]) ->
     true
 }
 
-// The end, for a head that passes.
+// The first cause of the end's record, for a head that passes.
 fn check_end(bytes: &[u8]) -> Verdict
     requires { ⌜ first (headCauses (readLibrary (now bytes)) (now bytes)) ≡ Accepted ⌝ }
     ensures { λ r. ⌜ r ≡ first (endCauses (readLibrary (now (bytes .entry))) (now (bytes .entry))) ⌝ }

@@ -21,7 +21,7 @@ ghost use Rattle.refusal.specs.First.{first};
 ghost use Rattle.library.specs.Library.{readLibrary};
 ghost use Rattle.loading.specs.Load.{loadCauses, counts, filled};
 
-// What loading answers: nothing refuses, or the first cause that does, and the counts, 0 where it is refused.
+// What loading answers: nothing refuses, or the first cause that does, and the counts, which are 0 where it is refused.
 pub struct Loaded {
     pub verdict: Verdict,
     pub d: usize,
@@ -30,26 +30,30 @@ pub struct Loaded {
     pub used: usize,
 }
 
-// The lengths of the buffers.
+// The lengths at which the buffers are lent: those of the largest library.
 pub const MARKS_ROOM: usize = MAX_DIMENSIONS * ((1 << MAX_DIMENSION_BITS) + 1);
 
 pub const SETTINGS_ROOM: usize = MAX_VECTORS;
 
 pub const COMPONENTS_ROOM: usize = MAX_VECTORS * MAX_DIMENSIONS;
 
-// The library that the bytes begin with, into the fronts of the buffers.
+// The library that the bytes begin with is loaded into the fronts of the buffers.
 pub fn load(bytes: &[u8], marks: &mut [i32], settings: &mut [u32], components: &mut [i32]) -> Loaded
     ensures { λ r. ⌜ r ≡ counts
-        (first (loadCauses (length (now (marks .entry))) (length (now (settings .entry))) (length (now (components .entry))) (now (bytes .entry))))
+        (first (loadCauses (length (now (marks .entry))) (length (now (settings .entry))) (length (now (components .entry)))
+        (now (bytes .entry))))
         (readLibrary (now (bytes .entry))) ⌝ }
     ensures { λ _. ⌜ now (marks .exit) ≡ filled
-        (first (loadCauses (length (now (marks .entry))) (length (now (settings .entry))) (length (now (components .entry))) (now (bytes .entry))))
+        (first (loadCauses (length (now (marks .entry))) (length (now (settings .entry))) (length (now (components .entry)))
+        (now (bytes .entry))))
         ((readLibrary (now (bytes .entry))) .marks) (now (marks .entry)) ⌝ }
     ensures { λ _. ⌜ now (settings .exit) ≡ filled
-        (first (loadCauses (length (now (marks .entry))) (length (now (settings .entry))) (length (now (components .entry))) (now (bytes .entry))))
+        (first (loadCauses (length (now (marks .entry))) (length (now (settings .entry))) (length (now (components .entry)))
+        (now (bytes .entry))))
         ((readLibrary (now (bytes .entry))) .settings) (now (settings .entry)) ⌝ }
     ensures { λ _. ⌜ now (components .exit) ≡ filled
-        (first (loadCauses (length (now (marks .entry))) (length (now (settings .entry))) (length (now (components .entry))) (now (bytes .entry))))
+        (first (loadCauses (length (now (marks .entry))) (length (now (settings .entry))) (length (now (components .entry)))
+        (now (bytes .entry))))
         ((readLibrary (now (bytes .entry))) .components) (now (components .entry)) ⌝ }
 {
     match check_load(bytes, marks.len(), settings.len(), components.len()) {
@@ -64,7 +68,7 @@ pub fn load(bytes: &[u8], marks: &mut [i32], settings: &mut [u32], components: &
     }
 }
 
-// The lengths of the buffers, then the records.
+// The first cause for which a library is not loaded: the lengths of the buffers are tested, then the records.
 fn check_load(bytes: &[u8], marks: usize, settings: usize, components: usize) -> Verdict
     ensures { λ r. ⌜ r ≡ first (loadCauses marks settings components (now (bytes .entry))) ⌝ }
 {
@@ -80,7 +84,7 @@ fn check_load(bytes: &[u8], marks: usize, settings: usize, components: usize) ->
     check_records(bytes)
 }
 
-// The same where nothing refuses.
+// A library that nothing refuses is loaded into the fronts of the buffers.
 fn fill_all(bytes: &[u8], marks: &mut [i32], settings: &mut [u32], components: &mut [i32]) -> Loaded
     requires { ⌜ first (loadCauses (length (now marks)) (length (now settings)) (length (now components)) (now bytes)) ≡ Accepted ⌝ }
     ensures { λ r. ⌜ r ≡ counts Accepted (readLibrary (now (bytes .entry))) ⌝ }

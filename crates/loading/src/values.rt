@@ -7,7 +7,7 @@ use records::u32_at;
 ghost use mathlib.Core.Path.{_≡_};
 ghost use Prim.Native.Nat.{suc, _+_, _*_, _^_, _≤_, _<_};
 ghost use lib.ListN.{length, drop};
-ghost use Rattle.limits.specs.Limits.{maxDimensions};
+ghost use Rattle.limits.specs.Limits.{maxDimensions, maxDimensionBits};
 ghost use Rattle.whole.specs.Keys.{keyOf};
 ghost use Rattle.records.specs.Records.{vectorKind, recordLength, valueOf};
 ghost use Rattle.library.specs.Library.{headValue, markAt, storedAt};
@@ -21,7 +21,9 @@ pub(crate) struct Counts {
 }
 
 pub(crate) fn counts_of(bytes: &[u8]) -> Counts
-    ensures { λ r. ⌜ (r .d ≡ headValue (now (bytes .entry)) 0) × (r .b ≡ headValue (now (bytes .entry)) 1) × (r .n ≡ headValue (now (bytes .entry)) 2) ⌝ }
+    ensures { λ r. ⌜ (r .d ≡ headValue (now (bytes .entry)) 0)
+        × (r .b ≡ headValue (now (bytes .entry)) 1)
+        × (r .n ≡ headValue (now (bytes .entry)) 2) ⌝ }
 {
     Counts {
         d: byte_at(bytes, 1) as usize,
@@ -30,7 +32,7 @@ pub(crate) fn counts_of(bytes: &[u8]) -> Counts
     }
 }
 
-// Mark i.
+// The mark of a number, from 0.
 pub(crate) fn mark_at(bytes: &[u8], i: usize) -> i32
     requires { ⌜ i < 2 ^ 32 ⌝ }
     ensures { λ r. ⌜ r ≡ markAt (now (bytes .entry)) i ⌝ }
@@ -38,12 +40,20 @@ pub(crate) fn mark_at(bytes: &[u8], i: usize) -> i32
     signed(u32_at(bytes, mark_place(i as u32) + 1), 0x8000_0000)
 }
 
-// Its key.
+// The key of the mark of a number, from 0.
 pub(crate) fn mark_key(bytes: &[u8], i: usize) -> u64
     requires { ⌜ i < 2 ^ 32 ⌝ }
     ensures { λ r. ⌜ r ≡ keyOf (markAt (now (bytes .entry)) i) ⌝ }
 {
     whole::key(mark_at(bytes, i))
+}
+
+// The number of regions of a dimension with w bits.
+pub(crate) fn regions(w: usize) -> usize
+    requires { ⌜ w ≤ maxDimensionBits ⌝ }
+    ensures { λ r. ⌜ r ≡ 2 ^ w ⌝ }
+{
+    1usize << w
 }
 
 // The bits of component t of the vector whose record begins at an index and is whole.
@@ -55,7 +65,7 @@ pub(crate) fn component_bits(bytes: &[u8], at: usize, t: usize) -> u32
     bytes[i] as u32 + 256 * bytes[i + 1] as u32
 }
 
-// The component.
+// Component t of the vector whose record begins at an index and is whole.
 pub(crate) fn component_at(bytes: &[u8], at: usize, t: usize) -> i32
     requires { ⌜ (at + recordLength vectorKind ≤ length (now bytes)) × (t < maxDimensions) ⌝ }
     ensures { λ r. ⌜ r ≡ storedAt (drop at (now (bytes .entry))) t ⌝ }

@@ -66,15 +66,20 @@ record-most kind =
     sum-cond (eqb kind 1) 68 _ _ (lit≤ tt)
     (sum-cond (eqb kind 2) 68 _ _ (lit≤ tt)
     (sum-cond (eqb kind 3) 68 _ _ (lit≤ tt)
-    (sum-cond (eqb kind 4) 68 _ _ (lit≤ tt) (sum-cond (eqb kind 5) 68 _ _ (lit≤ tt) (sum-cond (eqb kind 6) 68 _ _ (lit≤ tt) (sum-cond (eqb kind 7) 68 _ [] (lit≤ tt) (lit≤ tt))))))) in
+    (sum-cond (eqb kind 4) 68 _ _ (lit≤ tt)
+    (sum-cond (eqb kind 5) 68 _ _ (lit≤ tt)
+    (sum-cond (eqb kind 6) 68 _ _ (lit≤ tt) (sum-cond (eqb kind 7) 68 _ [] (lit≤ tt) (lit≤ tt))))))) in
     omega arith
 
-pub vector-length : recordLength vectorKind ≡ 69
-unfolding recordLength sum widthsOf widthsAmong formats
-vector-length = refl
-
-pub same-frame : (placed : Bool) {m : ℕ} {a b : List ℕ} → Alike m a b → recordLength (kindOf a) ≤ m → frameCauses placed a ≡ frameCauses placed b
+pub same-frame : (placed : Bool) {m : ℕ} {a b : List ℕ} → Alike m a b → recordLength (kindOf a) ≤ m
+    → frameCauses placed a ≡ frameCauses placed b
 unfolding frameCauses recordLength
 same-frame placed {m} {a} {b} is room =
     let some : 0 < m = omega arith in
-    rw (ne-eqb (length a) 0 (λ e. omega (arith, is .one-has)), ne-eqb (length b) 0 (λ e. omega (arith, is .other-has)), le-ltb (length a) (recordLength (kindOf a)) (omega (arith, is .one-has)), ← same-kind is some, le-ltb (length b) (recordLength (kindOf a)) (omega (arith, is .other-has)))
+    rw (
+      ne-eqb (length a) 0 (λ e. omega (arith, is .one-has)),
+      ne-eqb (length b) 0 (λ e. omega (arith, is .other-has)),
+      le-ltb (length a) (recordLength (kindOf a)) (omega (arith, is .one-has)),
+      ← same-kind is some,
+      le-ltb (length b) (recordLength (kindOf a)) (omega (arith, is .other-has)),
+    )

@@ -1,13 +1,16 @@
--- The answer of a match (document 01, "The program"), as text. Assumes nothing.
+-- The answer of a match (document 01, "The program") and a refusal, as text. Assumes nothing.
 use mathlib.Core.List.{List, [], _∷_, _++_}
 use Prim.Native.Nat.{ℕ}
 use lib.IntN.{ℤ}
-use lib.ListN.{length}
+use lib.ListN.{length, getD}
+use Rattle.refusal.specs.declared.Refusal.{Refusal}
+use Rattle.refusal.specs.Refusal.{numberOf}
+use Rattle.order.specs.Pair.{Pair}
 use Rattle.selection.specs.Reading.{Reading}
 use Rattle.approximation.specs.Vectors.{vectorCodes}
 use Rattle.search.specs.Search.{Library as Searchable, searched}
 use Rattle.library.specs.Library.{Library}
-use Rattle.text.specs.Text.{line, entryLines}
+use Rattle.text.specs.Text.{line, refusedLine}
 
 -- the library, with the codes that packing gives for its vectors
 abbrev pub searchable : Library → Searchable
@@ -20,9 +23,24 @@ searchable l = record {
   vectors = l .components;
 }
 
+-- "Its first fault from the left comes out as `refused ` and the number"
+abbrev pub refusedText : Refusal → List ℕ
+refusedText cause = refusedLine (numberOf cause)
+
+-- "then one line for each entry: number, settings, distance"
+abbrev pub entryLine : List ℕ → Pair → List ℕ
+entryLine settings p = line (p .number) (getD settings (p .number) 0 ∷ p .key ∷ [])
+
+unfoldable pub entryLines : List ℕ → List Pair → List ℕ
+entryLines settings [] = []
+entryLines settings (p ∷ ps) = entryLine settings p ++ entryLines settings ps
+
 -- "line one is k and the read count"
+abbrev pub linesOf : List ℕ → ℕ → ℕ → List Pair → List ℕ
+linesOf settings k count best = line k (count ∷ []) ++ entryLines settings best
+
 abbrev pub answerLines : List ℕ → ℕ → Reading → List ℕ
-answerLines settings k reading = line k (length (reading .reads) ∷ []) ++ entryLines settings (reading .best)
+answerLines settings k reading = linesOf settings k (length (reading .reads)) (reading .best)
 
 -- the k nearest vectors to the query
 abbrev pub answerText : Library → List ℤ → ℕ → List ℕ

@@ -4,7 +4,6 @@ use mathlib.Core.Path.{_≡_, refl, ap, _∙_}
 use mathlib.Core.Bool.{Bool, true, false, not, _&&_, _||_}
 use mathlib.Core.List.{List, [], _∷_, _++_, List·Memᴰ·head, List·Memᴰ·tail}
 use Prim.Native.Nat.{ℕ, zero, suc, _*_, _<_}
-use native.Mathlib.Omega.{arith}
 use borrow.Author.Tests.{not-false, eq-eqb}
 use lib.Dec.{leb}
 use lib.IntN.{ℤ}
@@ -17,14 +16,12 @@ use Rattle.limits.specs.Limits.{isDimensionCount, isBits, isComponent}
 use Rattle.whole.specs.Components.{areComponents}
 use Rattle.order.specs.Pair.{Pair}
 use Rattle.order.specs.Members.{_∈_}
-use Rattle.order.specs.Counted.{counted}
-use Rattle.selection.specs.Theorems.{reads-among}
 use Rattle.layout.specs.Layout.{firstMarks}
 use Rattle.codes.specs.Codes.{codeLength}
 use Rattle.codes.specs.PackLaws.{length-packed}
 use Rattle.approximation.specs.VectorCauses.{packVectorsCauses}
 use Rattle.approximation.specs.OwnCodes.{own-good}
-use Rattle.search.specs.Search.{numbersIn, distanceIn, lowIn, inOwnCells, scanned, searched, searchCauses}
+use Rattle.search.specs.Search.{inOwnCells, scanned, searched, searchCauses}
 use Rattle.search.specs.Search.{Library as Searchable}
 use Rattle.search.specs.Ready.{roomOf}
 use Rattle.search.specs.Accepted.{accepts, lengths-exact}
@@ -40,8 +37,9 @@ use Rattle.records.specs.RowLaws.{both}
 use Rattle.library.specs.Library.{Library, readLibrary}
 use Rattle.loading.specs.Load.{recordsCauses as libraryCauses}
 use Rattle.query.specs.Query.{isReading, readingOf, readingCauses, recordsCauses as queryCauses, componentsOf, nextRecord}
-use Rattle.text.specs.Text.{line, entryLines, refusedText}
-use Rattle.matching.specs.Answer.{searchable}
+use Rattle.text.specs.Text.{line}
+use Rattle.matching.specs.Answer.{searchable, refusedText, entryLines}
+use Rattle.matching.specs.Lines.{read-below}
 use Rattle.matching.specs.Match.{behind, kLength, kOf, matchCauses, matchText}
 use Rattle.loading.specs.Loaded.{loaded-shape, loaded-count, marks-count, components-count, loaded-marks, loaded-components}
 use Rattle.matching.specs.Packed.{packed-inside, packed-own}
@@ -93,17 +91,24 @@ module _ (bytes : List ℕ) (accepted : first (libraryCauses (readLibrary bytes)
   dimensions = not-false _ (passed (not (isDimensionCount (l .d))) _ _ (loaded-shape bytes accepted) .fails)
 
   bits : isBits (l .d) (l .b) ≡ true
-  bits = not-false _ (passed (not (isBits (l .d) (l .b))) _ _ (passed (not (isDimensionCount (l .d))) _ _ (loaded-shape bytes accepted) .rest) .fails)
+  bits =
+      not-false _
+      (passed (not (isBits (l .d) (l .b))) _ _ (passed (not (isDimensionCount (l .d))) _ _ (loaded-shape bytes accepted) .rest) .fails)
 
   pub packs : first (packVectorsCauses (l .d) (l .b) (l .n) (l .components) (l .marks) (codeLength (l .b) (l .n))) ≡ Accepted
   unfolding first
   packs =
-      rw (dimensions, bits, loaded-count bytes accepted, eq-eqb (length (l .components)) (l .n * l .d) (components-count bytes accepted), eq-eqb (codeLength (l .b) (l .n)) (codeLength (l .b) (l .n)) refl, eq-eqb (length (l .marks)) (firstMarks (l .d) (l .b) (l .d)) (marks-count bytes accepted), loaded-components bytes accepted, loaded-marks bytes accepted, packed-inside bytes accepted)
-
-  read-below : (query : List ℤ) (k i : ℕ) → i ∈ searched (searchable l) query k .reads → i < l .n
-  read-below query k i m =
-      let s = searchable l in
-      omega (arith, (counted 0 (l .n) (reads-among k (lowIn s query) (distanceIn s query) (numbersIn s) m)) .below)
+      rw (
+        dimensions,
+        bits,
+        loaded-count bytes accepted,
+        eq-eqb (length (l .components)) (l .n * l .d) (components-count bytes accepted),
+        eq-eqb (codeLength (l .b) (l .n)) (codeLength (l .b) (l .n)) refl,
+        eq-eqb (length (l .marks)) (firstMarks (l .d) (l .b) (l .d)) (marks-count bytes accepted),
+        loaded-components bytes accepted,
+        loaded-marks bytes accepted,
+        packed-inside bytes accepted,
+      )
 
   pub searches : (query : List ℤ) (k : ℕ) → length query ≡ l .d → areComponents query ≡ true → leb 1 k && leb k (l .n) ≡ true
       → first (searchCauses (searchable l) query k (roomOf k k (l .n))) ≡ Accepted
@@ -128,7 +133,7 @@ module _ (bytes : List ℕ) (accepted : first (libraryCauses (readLibrary bytes)
         components = components;
         marks = loaded-marks bytes accepted;
         codes = own-good own;
-        cells = cells-own s own (searched s query k .reads) (read-below query k);
+        cells = cells-own s own (searched s query k .reads) (read-below s query k);
       })
 
   entries-are-the-scan : (query : List ℤ) (k : ℕ) → searched (searchable l) query k .best ≡ scanned (searchable l) query k
@@ -142,7 +147,8 @@ pub printed-is-the-scan : (input : List ℕ) → first (matchCauses input) ≡ A
     let rest = behind l input in
     let k = kOf rest in
     let query = componentsOf (l .d) (drop kLength rest) in
-    matchText input ≡ line k (length (searched (searchable l) query k .reads) ∷ []) ++ entryLines (l .settings) (scanned (searchable l) query k)
+    matchText input
+    ≡ line k (length (searched (searchable l) query k .reads) ∷ []) ++ entryLines (l .settings) (scanned (searchable l) query k)
 unfolding matchText matchCauses
 printed-is-the-scan input accepted =
     let l = readLibrary input in
@@ -151,4 +157,5 @@ printed-is-the-scan input accepted =
     let query = componentsOf (l .d) (drop kLength rest) in
     let library = both (libraryCauses l input) _ accepted .front in
     outcome-accepted _ refusedText accepted
-    ∙ ap (λ (ps : List Pair). line k (length (searched (searchable l) query k .reads) ∷ []) ++ entryLines (l .settings) ps) (entries-are-the-scan input library query k)
+    ∙ ap (λ (ps : List Pair). line k (length (searched (searchable l) query k .reads) ∷ []) ++ entryLines (l .settings) ps)
+    (entries-are-the-scan input library query k)

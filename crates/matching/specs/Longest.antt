@@ -25,21 +25,24 @@ use Rattle.layout.specs.Layout.{bitsOf, markCount, firstMarks}
 use Rattle.layout.specs.Laws.{marks-within}
 use Rattle.layout.specs.Stretch.{shapeCauses, Shape, shape}
 use Rattle.reading.specs.Intake.{causes}
-use Rattle.records.specs.Records.{headKind, markKind, vectorKind, endKind, freshKind, heldKind, lostKind, formats, widthsAmong, widthsOf, sum, recordLength, isKind, kindOf, valueOf}
+use Rattle.records.specs.Records.{headKind, markKind, vectorKind, endKind, freshKind, heldKind, lostKind, formats, widthsAmong, widthsOf}
+use Rattle.records.specs.Records.{sum, recordLength, isKind, kindOf, valueOf}
 use Rattle.records.specs.Frame.{frameCauses, framed}
 use Rattle.records.specs.RowLaws.{go-on, stop, both}
-use Rattle.library.specs.Each.{tabulate, every}
-use Rattle.library.specs.EachLaws.{each-same}
+use Rattle.library.specs.Each.{tabulate}
+use Rattle.library.specs.EachLaws.{each-same, every-same}
 use Rattle.library.specs.Library.{Library, markTotal, markPlace, vectorPlace, libraryLength, headValue, markAt, storedAt, readLibrary}
 use Rattle.library.specs.Tests.{inside}
-use Rattle.library.specs.Sizes.{mark-place, vector-place, library-length, marks-few}
-use Rattle.loading.specs.Load.{recordCauses, headCauses, markCauses, zeroBeyond, componentsCauses, vectorCauses, marksCauses, vectorsCauses, endCauses}
+use Rattle.library.specs.Sizes.{mark-place, vector-place, library-length, vector-length, marks-few}
+use Rattle.library.specs.Read.{marks-read}
+use Rattle.loading.specs.Load.{recordCauses, headCauses, markCauses, zeroBeyond, componentsCauses, vectorCauses, marksCauses, vectorsCauses}
+use Rattle.loading.specs.Load.{endCauses}
 use Rattle.region.specs.Region.{inMarks}
 use Rattle.partition.specs.Marks.{dimensionMarks}
 use Rattle.query.specs.Query.{isReading, readingOf, readingCauses, recordsCauses as queryCauses, nextRecord}
-use Rattle.text.specs.Text.{refusedText}
+use Rattle.matching.specs.Answer.{refusedText}
 use Rattle.matching.specs.Match.{behind, kLength, kCauses, matchCauses, matchText}
-use Rattle.matching.specs.Alike.{Alike, alike-take, alike-drop, same-number, same-value, same-kind, record-most, vector-length, same-frame}
+use Rattle.matching.specs.Alike.{Alike, alike-take, alike-drop, same-number, same-value, same-kind, record-most, same-frame}
 
 -- the longest library, k, and a held reading for each dimension
 unfoldable pub longestMatch : ℕ
@@ -56,7 +59,8 @@ pub record BothRefuse (rows more : List Row) : Type 0 where
   pub other : first more ≡ Refused cause
 
 -- rows in front that are the same: they refuse in both, or neither
-in-front : (rows rows' more more' : List Row) → first rows ≡ first rows' → (first rows ≡ Accepted → BothRefuse more more') → BothRefuse (rows ++ more) (rows' ++ more')
+in-front : (rows rows' more more' : List Row) → first rows ≡ first rows' → (first rows ≡ Accepted → BothRefuse more more')
+    → BothRefuse (rows ++ more) (rows' ++ more')
 in-front rows rows' more more' same rest = go (first rows) refl
   where
     go : (v : Verdict) → first rows ≡ v → BothRefuse (rows ++ more) (rows' ++ more')
@@ -103,12 +107,19 @@ reading-most kind is = fresh (eqb kind freshKind) refl
 same-reading : {m : ℕ} {a b : List ℕ} → Alike m a b → 6 ≤ m → readingOf a ≡ readingOf b
 unfolding readingOf
 same-reading {m} {a} {b} is room =
-    rw (same-kind is (omega arith), same-value freshKind 0 is (rw fresh-length (omega arith)), same-value heldKind 0 is (rw held-length (omega arith)), same-value heldKind 1 is (rw held-length (omega arith)))
+    rw (
+      same-kind is (omega arith),
+      same-value freshKind 0 is (rw fresh-length (omega arith)),
+      same-value heldKind 0 is (rw held-length (omega arith)),
+      same-value heldKind 1 is (rw held-length (omega arith)),
+    )
 
 -- a kind that is no reading's is refused whatever follows
-misplaced : (bytes : List ℕ) → 0 < length bytes → isReading (kindOf bytes) ≡ false → first (readingCauses bytes) ≡ Refused (cond (isKind (kindOf bytes)) Misplaced Kind)
+misplaced : (bytes : List ℕ) → 0 < length bytes → isReading (kindOf bytes) ≡ false
+    → first (readingCauses bytes) ≡ Refused (cond (isKind (kindOf bytes)) Misplaced Kind)
 unfolding readingCauses
-misplaced bytes some not-reading = stop (frameCauses (isReading (kindOf bytes)) bytes) (causes (readingOf bytes)) (go (isKind (kindOf bytes)) refl)
+misplaced bytes some not-reading =
+    stop (frameCauses (isReading (kindOf bytes)) bytes) (causes (readingOf bytes)) (go (isKind (kindOf bytes)) refl)
   where
     go : (t : Bool) → isKind (kindOf bytes) ≡ t → first (frameCauses (isReading (kindOf bytes)) bytes) ≡ Refused (cond t Misplaced Kind)
     go true e = unfold first frameCauses in rw (ne-eqb (length bytes) 0 (λ z. omega arith), e, not-reading)
@@ -121,13 +132,18 @@ same-first {m} {a} {b} is room = go (isReading (kindOf a)) refl
     kinds = same-kind is (omega arith)
 
     go : (t : Bool) → isReading (kindOf a) ≡ t → first (readingCauses a) ≡ first (readingCauses b)
-    go true e = unfold readingCauses in rw (same-frame (isReading (kindOf a)) is (omega (arith, reading-most (kindOf a) e)), kinds, same-reading is room)
-    go false e = misplaced a (omega (arith, is .one-has)) e ∙ ap (λ (kind : ℕ). Refused (cond (isKind kind) Misplaced Kind)) kinds ∙ sym (misplaced b (omega (arith, is .other-has)) (rw kinds at e))
+    go true e =
+        unfold readingCauses in rw
+        (same-frame (isReading (kindOf a)) is (omega (arith, reading-most (kindOf a) e)), kinds, same-reading is room)
+    go false e =
+        misplaced a (omega (arith, is .one-has)) e ∙ ap (λ (kind : ℕ). Refused (cond (isKind kind) Misplaced Kind)) kinds
+        ∙ sym (misplaced b (omega (arith, is .other-has)) (rw kinds at e))
 
 reading-there : (bytes : List ℕ) → first (readingCauses bytes) ≡ Accepted → isReading (kindOf bytes) ≡ true
 unfolding readingCauses
 reading-there bytes accepted =
-    framed (isReading (kindOf bytes)) bytes (both (frameCauses (isReading (kindOf bytes)) bytes) (causes (readingOf bytes)) accepted .front) .there
+    framed (isReading (kindOf bytes)) bytes
+    (both (frameCauses (isReading (kindOf bytes)) bytes) (causes (readingOf bytes)) accepted .front) .there
 
 -- more bytes than d readings can have
 too-long-query : (d : ℕ) {m : ℕ} {a b : List ℕ} → Alike m a b → d * 6 < m → BothRefuse (queryCauses d a) (queryCauses d b)
@@ -142,15 +158,11 @@ too-long-query (suc d) {m} {a} {b} is long =
     in-front (readingCauses a) (readingCauses b) (queryCauses d (nextRecord a)) (queryCauses d (nextRecord b)) (same-first is six)
     (λ accepted.
     let short = reading-most (kindOf a) (reading-there a accepted) in
-    let behind : Alike (m - recordLength (kindOf a)) (nextRecord a) (nextRecord b) = rw (← same-kind is (omega arith)) (alike-drop (recordLength (kindOf a)) is) in
+    let behind : Alike (m - recordLength (kindOf a)) (nextRecord a) (nextRecord b) =
+    rw (← same-kind is (omega arith)) (alike-drop (recordLength (kindOf a)) is) in
     too-long-query d behind (omega (arith, suc-mul d 6)))
 
 -- ---- the library
-
-every-same : (n : ℕ) (f g : ℕ → Bool) → ((t : ℕ) → f t ≡ g t) → every n f ≡ every n g
-unfolding every
-every-same zero f g same = refl
-every-same (suc n) f g same = rw (every-same n f g same, same n)
 
 head-length : recordLength headKind ≡ 5
 unfolding recordLength sum widthsOf widthsAmong formats
@@ -161,23 +173,30 @@ unfolding recordLength sum widthsOf widthsAmong formats
 mark-length = refl
 
 -- a record with room for the longest behind its place, and the same causes of its own
-same-record : (kind : ℕ) {m : ℕ} {a b : List ℕ} (own own' : List Row) → Alike m a b → 69 ≤ m → own ≡ own' → recordCauses kind a own ≡ recordCauses kind b own'
+same-record : (kind : ℕ) {m : ℕ} {a b : List ℕ} (own own' : List Row) → Alike m a b → 69 ≤ m → own ≡ own'
+    → recordCauses kind a own ≡ recordCauses kind b own'
 same-record kind {m} {a} {b} own own' is room same =
     rw (same-frame (eqb (kindOf a) kind) is (omega (arith, record-most (kindOf a), vector-length)), same-kind is (omega arith), same)
 
-same-components : (d b : ℕ) (marks : List ℤ) {m : ℕ} {one other : List ℕ} → Alike m one other → 69 ≤ m → componentsCauses d b marks one ≡ componentsCauses d b marks other
+same-components : (d b : ℕ) (marks : List ℤ) {m : ℕ} {one other : List ℕ} → Alike m one other → 69 ≤ m
+    → componentsCauses d b marks one ≡ componentsCauses d b marks other
 unfolding zeroBeyond inside storedAt
 same-components d b marks {m} {one} {other} is room =
-    let value : (t : ℕ) → valueOf vectorKind (suc t) one ≡ valueOf vectorKind (suc t) other = λ t. same-value vectorKind (suc t) is (rw vector-length room) in
-    rw (every-same maxDimensions (λ t. ltb t d || eqb (valueOf vectorKind (suc t) one) 0) (λ t. ltb t d || eqb (valueOf vectorKind (suc t) other) 0) (λ t. rw (value t)), every-same d (λ t. inMarks (dimensionMarks d b marks (suc t)) (toZ w16 (valueOf vectorKind (suc t) one))) (λ t. inMarks (dimensionMarks d b marks (suc t)) (toZ w16 (valueOf vectorKind (suc t) other))) (λ t. rw (value t)))
-
-marks-read : (bytes : List ℕ) → readLibrary bytes .marks ≡ tabulate (markTotal (readLibrary bytes .d) (readLibrary bytes .b)) (markAt bytes)
-unfolding readLibrary
-marks-read bytes = refl
+    let value : (t : ℕ) → valueOf vectorKind (suc t) one ≡ valueOf vectorKind (suc t) other =
+    λ t. same-value vectorKind (suc t) is (rw vector-length room) in
+    let zero : List ℕ → ℕ → Bool = λ bytes t. ltb t d || eqb (valueOf vectorKind (suc t) bytes) 0 in
+    let lies : List ℕ → ℕ → Bool = λ bytes t. inMarks (dimensionMarks d b marks (suc t)) (toZ w16 (valueOf vectorKind (suc t) bytes)) in
+    let zeros = every-same maxDimensions (zero one) (zero other) (λ t h. rw (value t)) in
+    let insides = every-same d (lies one) (lies other) (λ t h. rw (value t)) in
+    rw (zeros, insides)
 
 same-k-causes : (n : ℕ) {m : ℕ} {a b : List ℕ} → Alike m a b → kLength ≤ m → kCauses n a ≡ kCauses n b
 same-k-causes n {m} {a} {b} is room =
-    rw (le-ltb (length a) kLength (omega (arith, is .one-has)), le-ltb (length b) kLength (omega (arith, is .other-has)), same-number kLength is room)
+    rw (
+      le-ltb (length a) kLength (omega (arith, is .one-has)),
+      le-ltb (length b) kLength (omega (arith, is .other-has)),
+      same-number kLength is room,
+    )
 
 -- with room for the longest match and one byte more
 module _ (a b : List ℕ) (is : Alike (suc longestMatch) a b) where
@@ -253,14 +272,16 @@ module _ (a b : List ℕ) (is : Alike (suc longestMatch) a b) where
         (each-same (one .d) _ _
         (λ t among.
         let room = marks-within (one .d) (one .b) (one .d) t among in
-        each-same (markCount (one .d) (one .b) (suc t)) _ _ (λ i within. same-mark-causes (firstMarks (one .d) (one .b) t) i (unfold firstMarks in omega (arith, few-marks)))))
+        each-same (markCount (one .d) (one .b) (suc t)) _ _
+        (λ i within. same-mark-causes (firstMarks (one .d) (one .b) t) i (unfold firstMarks in omega (arith, few-marks)))))
 
     same-vector : (i : ℕ) → i < one .n → vectorCauses one a i ≡ vectorCauses other b i
     same-vector i few =
         let place = vector-place (markTotal (one .d) (one .b)) i in
         let rest = from (vectorPlace (markTotal (one .d) (one .b)) i) (omega (arith, few-marks, few-vectors)) in
         rw (← same-d, ← same-b, ← same-marks-list)
-        (same-record vectorKind _ _ rest (omega (arith, few-marks, few-vectors)) (same-components (one .d) (one .b) (one .marks) rest (omega (arith, few-marks, few-vectors))))
+        (same-record vectorKind _ _ rest (omega (arith, few-marks, few-vectors))
+        (same-components (one .d) (one .b) (one .marks) rest (omega (arith, few-marks, few-vectors))))
 
     same-vectors : vectorsCauses one a ≡ vectorsCauses other b
     same-vectors = rw (← same-n) (each-same (one .n) _ _ same-vector)
@@ -269,7 +290,8 @@ module _ (a b : List ℕ) (is : Alike (suc longestMatch) a b) where
     same-end =
         let place = vector-place (markTotal (one .d) (one .b)) (one .n) in
         rw (← same-d, ← same-b, ← same-n)
-        (same-record endKind [] [] (from (vectorPlace (markTotal (one .d) (one .b)) (one .n)) (omega (arith, few-marks, few-vectors))) (omega (arith, few-marks, few-vectors)) refl)
+        (same-record endKind [] [] (from (vectorPlace (markTotal (one .d) (one .b)) (one .n)) (omega (arith, few-marks, few-vectors)))
+        (omega (arith, few-marks, few-vectors)) refl)
 
     -- ---- k and the query
 
@@ -287,11 +309,17 @@ module _ (a b : List ℕ) (is : Alike (suc longestMatch) a b) where
 
     long-query : BothRefuse (queryCauses (one .d) (drop kLength (behind one a))) (queryCauses (other .d) (drop kLength (behind other b)))
     long-query =
-        subst (λ (d : ℕ). BothRefuse (queryCauses (one .d) (drop kLength (behind one a))) (queryCauses d (drop kLength (behind other b)))) same-d
+        subst
+        (λ (d : ℕ). BothRefuse (queryCauses (one .d) (drop kLength (behind one a))) (queryCauses d (drop kLength (behind other b)))) same-d
         (too-long-query (one .d) (alike-drop kLength rest-alike) (omega (arith, used-few, shaped .few)))
 
-    behind-head : BothRefuse (marksCauses one a ++ (vectorsCauses one a ++ (endCauses one a ++ (kCauses (one .n) (behind one a) ++ queryCauses (one .d) (drop kLength (behind one a))))))
-        (marksCauses other b ++ (vectorsCauses other b ++ (endCauses other b ++ (kCauses (other .n) (behind other b) ++ queryCauses (other .d) (drop kLength (behind other b))))))
+    behind-head : BothRefuse
+        (marksCauses one a ++
+        (vectorsCauses one a ++
+        (endCauses one a ++ (kCauses (one .n) (behind one a) ++ queryCauses (one .d) (drop kLength (behind one a))))))
+        (marksCauses other b ++
+        (vectorsCauses other b ++
+        (endCauses other b ++ (kCauses (other .n) (behind other b) ++ queryCauses (other .d) (drop kLength (behind other b))))))
     behind-head =
         in-front _ _ _ _ (ap first same-marks)
         (λ _. in-front _ _ _ _ (ap first same-vectors)
@@ -305,13 +333,15 @@ module _ (a b : List ℕ) (is : Alike (suc longestMatch) a b) where
       record {
         cause = refused .cause;
         one = ap first (regroup (headCauses one a) (marksCauses one a) (vectorsCauses one a) (endCauses one a) _) ∙ refused .one;
-        other = ap first (regroup (headCauses other b) (marksCauses other b) (vectorsCauses other b) (endCauses other b) _) ∙ refused .other;
+        other = ap first (regroup (headCauses other b) (marksCauses other b) (vectorsCauses other b) (endCauses other b) _)
+            ∙ refused .other;
       }
 
 -- ---- the theorem
 
 -- An input longer than that is refused, by the cause that its first 45,929 bytes give ..
-pub longer-is-refused : (input : List ℕ) → longestMatch < length input → BothRefuse (matchCauses input) (matchCauses (take (suc longestMatch) input))
+pub longer-is-refused : (input : List ℕ) → longestMatch < length input
+    → BothRefuse (matchCauses input) (matchCauses (take (suc longestMatch) input))
 longer-is-refused input long = both-refuse input (take (suc longestMatch) input) (alike-take (suc longestMatch) input long)
 
 -- .. so the text is that of those bytes ..
@@ -345,11 +375,13 @@ pub record Front (text before after : List ℕ) (r : ℕ) : Type 0 where
   pub size : r ≡ length text
 
 pub front-within : {text before after : List ℕ} {r : ℕ} → Front text before after r → r ≤ length after
-front-within {text} {before} {after} front = omega (arith, front .size, ap length (front .is) ∙ length-append text (drop (length text) before))
+front-within {text} {before} {after} front =
+    omega (arith, front .size, ap length (front .is) ∙ length-append text (drop (length text) before))
 
 -- the text of whatever input these bytes were read of
 abbrev pub PrintsRead : List ℕ → List ℕ → List ℕ → ℕ → Type 0
 PrintsRead bytes before after r = (input : List ℕ) → take (suc longestMatch) input ≡ bytes → Front (matchText input) before after r
 
 pub prints-read : {bytes before after : List ℕ} {r : ℕ} → Front (matchText bytes) before after r → PrintsRead bytes before after r
-prints-read {before = before} {after} {r} front input read = subst (λ (text : List ℕ). Front text before after r) (ap matchText (sym read) ∙ read-text input) front
+prints-read {before = before} {after} {r} front input read =
+    subst (λ (text : List ℕ). Front text before after r) (ap matchText (sym read) ∙ read-text input) front

@@ -15,8 +15,7 @@ use Rattle.library.specs.Library.{Library, libraryLength, readLibrary}
 use Rattle.loading.specs.Load.{recordsCauses as libraryCauses}
 use Rattle.query.specs.Query.{recordsCauses as queryCauses, componentsOf}
 use Rattle.matching.specs.declared.Printed.{Printed}
-use Rattle.text.specs.Text.{refusedText}
-use Rattle.matching.specs.Answer.{answerText}
+use Rattle.matching.specs.Answer.{refusedText, answerText}
 
 -- ---- what stands where
 
@@ -58,8 +57,8 @@ matchText input = textWith (readLibrary input) input
 
 -- ---- the output
 
--- the output is lent for the longest text: line one has two counts, and each of its entries a number, settings and a distance: 3, 3, 3, 10
--- and 12 digits, each with the byte behind it
+-- the output is lent at an upper bound on the length of a text: line one has two counts, and each of its entries a number, settings and a
+-- distance, of at most 3, 3, 3, 10 and 12 digits, each with the byte behind it
 abbrev pub textRoom : ℕ
 textRoom = (4 + 4) + maxVectors * (4 + 11 + 13)
 
@@ -68,4 +67,5 @@ roomCauses room = (not (eqb room textRoom) ⇒ Length) ∷ []
 
 -- how many bytes the text has; refused, none is written
 abbrev pub printed : Verdict → List ℕ → Printed
-printed verdict text = outcome verdict (record { verdict = Accepted; length = length text }) (λ cause. record { verdict = Refused cause; length = 0 })
+printed verdict text =
+    outcome verdict (record { verdict = Accepted; length = length text }) (λ cause. record { verdict = Refused cause; length = 0 })

@@ -23,7 +23,8 @@ use Rattle.loading.specs.Loaded.{shaped, components-count, component-at, vector
 
 -- components that lie, each, inside the marks of their column's dimension, the first in column p % d
 inside-from : (d b : ℕ) → 0 < d → (marks : List ℤ) (p : ℕ) (zs : List ℤ)
-    → ((q : ℕ) → q < length zs → inMarks (dimensionMarks d b marks (suc ((p + q) % d))) (getD zs q (pos 0)) ≡ true) → insideFrom d b marks (p % d) zs ≡ true
+    → ((q : ℕ) → q < length zs → inMarks (dimensionMarks d b marks (suc ((p + q) % d))) (getD zs q (pos 0)) ≡ true)
+    → insideFrom d b marks (p % d) zs ≡ true
 unfolding insideFrom
 inside-from d b some marks p [] each = refl
 inside-from d b some marks p (z ∷ zs) each =
@@ -53,4 +54,6 @@ module _ (bytes : List ℕ) (accepted : first (libraryCauses (readLibrary bytes)
       (component-inside (q / l .d) (q % l .d) (div-lt-iff-lt-mul some .1 within) (mod-lt q some))))
 
   pub packed-own : Own (l .d) (l .b) (l .n) (l .marks) (vectorCodes (l .d) (l .b) (l .n) (l .marks) (l .components)) (l .components)
-  packed-own = own-codes (l .d) (l .b) (l .n) (shaped bytes accepted .some) (l .marks) (l .components) (components-count bytes accepted) packed-inside
+  packed-own =
+      own-codes (l .d) (l .b) (l .n) (shaped bytes accepted .some) (l .marks) (l .components)
+      (components-count bytes accepted) packed-inside

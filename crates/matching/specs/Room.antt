@@ -1,4 +1,4 @@
--- No text is longer than what the output is lent for. Assumes nothing.
+-- No text is longer than the bound for which the output is lent. Assumes nothing.
 use mathlib.Core.Path.{_≡_, refl}
 use mathlib.Core.Bool.{true, _&&_, and-eq-true-iff}
 use mathlib.Core.List.{List, [], _∷_, List·Memᴰ·head, List·Memᴰ·tail}
@@ -13,7 +13,8 @@ use lib.Signed.{mag, leZ}
 use lib.ListN.{length, getD, drop, length-append}
 use lib.Seq.{getD-take, getD-drop}
 use Rattle.refusal.specs.declared.Refusal.{Refusal}
-use Rattle.refusal.specs.declared.Refusal.the-variants.{Dimension, Bits, Count, Neighbours, Length, Component, Mark, Outside, Code, Cell, Kind, Truncated, Stale, NotANumber, OutOfRange, Trailing, Misplaced}
+use Rattle.refusal.specs.declared.Refusal.the-variants.{Dimension, Bits, Count, Neighbours, Length, Component, Mark, Outside, Code, Cell}
+use Rattle.refusal.specs.declared.Refusal.the-variants.{Kind, Truncated, Stale, NotANumber, OutOfRange, Trailing, Misplaced}
 use Rattle.refusal.specs.declared.Verdict.{Verdict}
 use Rattle.refusal.specs.declared.Verdict.the-variants.{Accepted, Refused}
 use Rattle.refusal.specs.Refusal.{numberOf}
@@ -23,8 +24,8 @@ use Rattle.limits.specs.Tests.{between}
 use Rattle.whole.specs.Components.{areComponents, component-at}
 use Rattle.order.specs.Pair.{Pair}
 use Rattle.order.specs.Members.{_∈_}
-use Rattle.order.specs.Counted.{counted, counted-length}
-use Rattle.selection.specs.Theorems.{reads-among, reads-count, best-length, best-entries}
+use Rattle.order.specs.Counted.{counted-length}
+use Rattle.selection.specs.Theorems.{reads-count, best-length, best-entries}
 use Rattle.cells.specs.Cells.{vectorAt}
 use Rattle.step.specs.Step.{gap, squared, squared-le}
 use Rattle.step.specs.Places.{gap-size}
@@ -35,14 +36,15 @@ use Rattle.records.specs.ByteLaws.{bytes-drop}
 use Rattle.records.specs.Records.{vectorKind}
 use Rattle.records.specs.RecordLaws.{value-below, vector-widths}
 use Rattle.records.specs.RowLaws.{both}
-use Rattle.library.specs.Each.{tabulate}
-use Rattle.library.specs.EachLaws.{tabulate-at, tabulate-past}
+use Rattle.library.specs.EachLaws.{tabulate-past}
+use Rattle.library.specs.Read.{settings-read, setting-read}
 use Rattle.library.specs.Library.{Library, markTotal, vectorPlace, settingsAt, readLibrary}
 use Rattle.loading.specs.Load.{recordsCauses as libraryCauses}
 use Rattle.query.specs.Query.{recordsCauses as queryCauses, componentsOf}
 use Rattle.text.specs.TextLaws.{decimal-length}
-use Rattle.text.specs.Text.{line, entryLine, entryLines, refusedText}
-use Rattle.matching.specs.Answer.{searchable, answerText}
+use Rattle.text.specs.Text.{line}
+use Rattle.matching.specs.Answer.{searchable, refusedText, entryLine, entryLines, answerText}
+use Rattle.matching.specs.Lines.{best-below}
 use Rattle.matching.specs.Match.{behind, kLength, kOf, kCauses, causesWith, matchText, textRoom}
 use Rattle.loading.specs.Loaded.{shaped, loaded-count, loaded-components}
 use Rattle.matching.specs.Answerable.{query-components}
@@ -53,7 +55,8 @@ component-size : (z : ℤ) → isComponent z ≡ true → mag z ≤ 32767
 component-size (pos n) is = leb-true n 32767 is
 component-size (negsuc n) is = leb-true n 32767 (and-eq-true-iff (leZ leastComponent (negsuc n)) true .0 is .0)
 
-first-distance : (query vector : List ℤ) (d : ℕ) → ((t : ℕ) → t < d → isComponent (getD query t (pos 0)) ≡ true) → ((t : ℕ) → t < d → isComponent (getD vector t (pos 0)) ≡ true)
+first-distance : (query vector : List ℤ) (d : ℕ) → ((t : ℕ) → t < d → isComponent (getD query t (pos 0)) ≡ true)
+    → ((t : ℕ) → t < d → isComponent (getD vector t (pos 0)) ≡ true)
     → firstDistance query vector d ≤ d * (65535 * 65535)
 unfolding firstDistance
 first-distance query vector zero of-query of-vector = omega arith
@@ -61,14 +64,17 @@ first-distance query vector (suc t) of-query of-vector =
     let before = first-distance query vector t (λ i h. of-query i (omega arith)) (λ i h. of-vector i (omega arith)) in
     let q = getD query t (pos 0) in
     let z = getD vector t (pos 0) in
-    let near : gap q z ≤ 65535 = omega (arith, gap-size q z, component-size q (of-query t (omega arith)), component-size z (of-vector t (omega arith))) in
+    let near : gap q z ≤ 65535 =
+    omega (arith, gap-size q z, component-size q (of-query t (omega arith)), component-size z (of-vector t (omega arith))) in
     let here : squared (gap q z) ≤ 65535 * 65535 = squared-le near in
     omega arith
 
-distance-below : (d i : ℕ) (query vectors : List ℤ) → d ≤ maxDimensions → areComponents query ≡ true → areComponents vectors ≡ true → distanceOf d query (vectorAt d vectors i) < 10 ^ 12
+distance-below : (d i : ℕ) (query vectors : List ℤ) → d ≤ maxDimensions → areComponents query ≡ true → areComponents vectors ≡ true
+    → distanceOf d query (vectorAt d vectors i) < 10 ^ 12
 distance-below d i query vectors few of-query of-vectors =
     let sum = first-distance query (vectorAt d vectors i) d (λ t h. component-at query of-query t)
-    (λ t h. rw (getD-take d (drop (i * d) vectors) t (pos 0) h, getD-drop (i * d) vectors t (pos 0)) (component-at vectors of-vectors (i * d + t))) in
+    (λ t h. rw (getD-take d (drop (i * d) vectors) t (pos 0) h, getD-drop (i * d) vectors t (pos 0))
+    (component-at vectors of-vectors (i * d + t))) in
     let most : d * (65535 * 65535) ≤ maxDimensions * (65535 * 65535) = mul-le-mul-right (65535 * 65535) few in
     omega arith
 
@@ -88,7 +94,8 @@ entry-room settings p small is =
     let distance = decimal-length 11 (p .key) (is .distance) in
     simp length-append (omega arith)
 
-entries-room : (settings : List ℕ) (ps : List Pair) → ((i : ℕ) → getD settings i 0 < 10 ^ 10) → ((p : Pair) → p ∈ ps → Short p) → length (entryLines settings ps) ≤ length ps * 28
+entries-room : (settings : List ℕ) (ps : List Pair) → ((i : ℕ) → getD settings i 0 < 10 ^ 10) → ((p : Pair) → p ∈ ps → Short p)
+    → length (entryLines settings ps) ≤ length ps * 28
 unfolding entryLines
 entries-room settings [] small short = omega arith
 entries-room settings (p ∷ ps) small short =
@@ -130,10 +137,6 @@ refused-room cause =
 
 -- ---- the answer
 
-settings-read : (bytes : List ℕ) → readLibrary bytes .settings ≡ tabulate (readLibrary bytes .n) (settingsAt (markTotal (readLibrary bytes .d) (readLibrary bytes .b)) bytes)
-unfolding readLibrary
-settings-read bytes = refl
-
 settings-below : (bytes : List ℕ) → AreBytes bytes → (i : ℕ) → getD (readLibrary bytes .settings) i 0 < 10 ^ 10
 settings-below bytes are i = go (decLt i (readLibrary bytes .n))
   where
@@ -141,8 +144,10 @@ settings-below bytes are i = go (decLt i (readLibrary bytes .n))
     go (yes less) =
         let l = readLibrary bytes in
         let place = vectorPlace (markTotal (l .d) (l .b)) i in
-        let below : settingsAt (markTotal (l .d) (l .b)) bytes i < 2 ^ 32 = unfold settingsAt in rw vector-widths at (value-below vectorKind 0 (drop place bytes) (bytes-drop place bytes are) (rw vector-widths (lit< tt))) in
-        rw (settings-read bytes, tabulate-at (l .n) (settingsAt (markTotal (l .d) (l .b)) bytes) 0 i less) (omega arith)
+        let below : settingsAt (markTotal (l .d) (l .b)) bytes i < 2 ^ 32 =
+        unfold settingsAt in rw vector-widths at
+        (value-below vectorKind 0 (drop place bytes) (bytes-drop place bytes are) (rw vector-widths (lit< tt))) in
+        rw (setting-read bytes i less) (omega arith)
     go (no more) =
         let l = readLibrary bytes in
         rw (settings-read bytes, tabulate-past (l .n) (settingsAt (markTotal (l .d) (l .b)) bytes) 0 i (omega arith)) (lit< tt)
@@ -167,10 +172,11 @@ module _ (bytes : List ℕ) (accepted : first (libraryCauses (readLibrary bytes)
   short : (p : Pair) → p ∈ searched s query k .best → Short p
   short p m =
       let entry = best-entries k (lowIn s query) (distanceIn s query) (numbersIn s) m in
-      let among = counted 0 (l .n) (reads-among k (lowIn s query) (distanceIn s query) (numbersIn s) (entry .its-number)) in
       record {
-        number = omega (arith, among .below, few);
-        distance = rw (entry .its-key) (distance-below (l .d) (p .number) query (l .components) (shaped bytes accepted .few) of-query (loaded-components bytes accepted));
+        number = omega (arith, best-below s query k p m, few);
+        distance = rw (entry .its-key)
+            (distance-below (l .d) (p .number) query (l .components) (shaped bytes accepted .few) of-query
+            (loaded-components bytes accepted));
       }
 
   answer-room : length (answerText l query k) ≤ textRoom
@@ -178,7 +184,8 @@ module _ (bytes : List ℕ) (accepted : first (libraryCauses (readLibrary bytes)
       let one = first-room k (length (searched s query k .reads)) (omega (arith, few)) (omega (arith, count-few, few)) in
       let entries = entries-room (l .settings) (searched s query k .best) (settings-below bytes are) short in
       let most : length (searched s query k .best) * 28 ≤ maxVectors * 28 = mul-le-mul-right 28 (le-trans best-few few) in
-      rw (length-append (line k (length (searched s query k .reads) ∷ [])) (entryLines (l .settings) (searched s query k .best))) (omega arith)
+      rw (length-append (line k (length (searched s query k .reads) ∷ [])) (entryLines (l .settings) (searched s query k .best)))
+      (omega arith)
 
 -- no text is longer
 pub text-room : (input : List ℕ) → AreBytes input → length (matchText input) ≤ textRoom
@@ -189,12 +196,14 @@ text-room input are = go (first (causesWith l input)) refl
     l = readLibrary input
 
     go : (v : Verdict) → first (causesWith l input) ≡ v
-        → length (outcome v (answerText l (componentsOf (l .d) (drop kLength (behind l input))) (kOf (behind l input))) refusedText) ≤ textRoom
+        → length (outcome v
+        (answerText l (componentsOf (l .d) (drop kLength (behind l input))) (kOf (behind l input))) refusedText) ≤ textRoom
     go Accepted e =
         let library = both (libraryCauses l input) _ e in
         let rest = both (kCauses (l .n) (behind l input)) (queryCauses (l .d) (drop kLength (behind l input))) (library .back) in
         let neighbours = passed _ Neighbours [] (passed _ Truncated _ (rest .front) .rest) in
         let k = kOf (behind l input) in
-        answer-room input (library .front) are (componentsOf (l .d) (drop kLength (behind l input))) (query-components (l .d) (drop kLength (behind l input)) (rest .back)) k
+        answer-room input (library .front) are (componentsOf (l .d) (drop kLength (behind l input)))
+        (query-components (l .d) (drop kLength (behind l input)) (rest .back)) k
         (between 1 k (l .n) (not-false (leb 1 k && leb k (l .n)) (neighbours .fails)) .below)
     go (Refused cause) e = refused-room cause

@@ -29,48 +29,60 @@ use Rattle.library.specs.Library.{Library, libraryWith, markTotal, libraryLengt
 use Rattle.loading.specs.Load.{marksRoom, settingsRoom, componentsRoom, recordsCauses as libraryCauses, loadCauses, counts, filled}
 use Rattle.loading.specs.Loaded.{loaded-shape, loaded-count, shaped, marks-count, settings-count, components-count, loaded-within}
 use Rattle.query.specs.Query.{queryCauses as lentCauses, recordsCauses as queryCauses, componentsOf}
-use Rattle.text.specs.Text.{refusedText}
-use Rattle.matching.specs.Answer.{searchable, answerText}
+use Rattle.matching.specs.Answer.{searchable, refusedText, answerText}
 use Rattle.matching.specs.Match.{behind, kLength, kOf, kCauses, matchText}
 use Rattle.matching.specs.Answerable.{packs, searches}
 
 -- behind a library that passes, and behind a k that passes; `rest` is what stands behind the library
 abbrev pub restText : Library → List ℕ → List ℕ
 restText l rest =
-    outcome (first (kCauses (l .n) rest ++ queryCauses (l .d) (drop kLength rest))) (answerText l (componentsOf (l .d) (drop kLength rest)) (kOf rest))
+    outcome (first (kCauses (l .n) rest ++ queryCauses (l .d) (drop kLength rest)))
+    (answerText l (componentsOf (l .d) (drop kLength rest)) (kOf rest))
     refusedText
 
 abbrev pub queryText : Library → ℕ → List ℕ → List ℕ
 queryText l k bytes = outcome (first (queryCauses (l .d) bytes)) (answerText l (componentsOf (l .d) bytes) k) refusedText
 
--- what the library can be asked: packing takes it, and the search takes it with any query and any k that pass
+-- what the library can be asked: packing takes it, the search takes it with any query and any k that pass, and each vector has settings
 pub record Ready (l : Library) : Type 0 where
   pub of-packing : first (packVectorsCauses (l .d) (l .b) (l .n) (l .components) (l .marks) (codeLength (l .b) (l .n))) ≡ Accepted
   pub of-search : (query : List ℤ) (k : ℕ) → length query ≡ l .d → areComponents query ≡ true → leb 1 k && leb k (l .n) ≡ true
       → first (searchCauses (searchable l) query k (roomOf k k (l .n))) ≡ Accepted
+  pub of-settings : length (l .settings) ≡ l .n
 
 pub ready : (input : List ℕ) → first (libraryCauses (readLibrary input) input) ≡ Accepted → Ready (readLibrary input)
-ready input passes = record { of-packing = packs input passes; of-search = searches input passes }
+ready input passes = record {
+  of-packing =
+      packs input passes;
+  of-search = searches input passes;
+  of-settings = settings-count input passes;
+}
 
 -- ---- a step that refuses, and one that passes
 
-pub library-refused : (input : List ℕ) {cause : Refusal} → first (libraryCauses (readLibrary input) input) ≡ Refused cause → matchText input ≡ refusedText cause
+pub library-refused : (input : List ℕ) {cause : Refusal} → first (libraryCauses (readLibrary input) input) ≡ Refused cause
+    → matchText input ≡ refusedText cause
 unfolding matchText
 library-refused input refused = outcome-refused _ refusedText (stop (libraryCauses (readLibrary input) input) _ refused)
 
-pub library-passes : (input : List ℕ) → first (libraryCauses (readLibrary input) input) ≡ Accepted → matchText input ≡ restText (readLibrary input) (behind (readLibrary input) input)
+pub library-passes : (input : List ℕ) → first (libraryCauses (readLibrary input) input) ≡ Accepted
+    → matchText input ≡ restText (readLibrary input) (behind (readLibrary input) input)
 unfolding matchText
 library-passes input passes =
     let l = readLibrary input in
     let rest = behind l input in
-    ap (λ (v : Verdict). outcome v (answerText l (componentsOf (l .d) (drop kLength rest)) (kOf rest)) refusedText) (go-on (libraryCauses l input) _ passes)
+    ap (λ (v : Verdict). outcome v (answerText l (componentsOf (l .d) (drop kLength rest)) (kOf rest)) refusedText)
+    (go-on (libraryCauses l input) _ passes)
 
-pub k-refused : (l : Library) (rest : List ℕ) {cause : Refusal} → first (kCauses (l .n) rest) ≡ Refused cause → restText l rest ≡ refusedText cause
+pub k-refused : (l : Library) (rest : List ℕ) {cause : Refusal} → first (kCauses (l .n) rest) ≡ Refused cause
+    → restText l rest ≡ refusedText cause
 k-refused l rest refused = outcome-refused _ refusedText (stop (kCauses (l .n) rest) _ refused)
 
-pub k-passes : (l : Library) (rest : List ℕ) → first (kCauses (l .n) rest) ≡ Accepted → restText l rest ≡ queryText l (kOf rest) (drop kLength rest)
+pub k-passes : (l : Library) (rest : List ℕ) → first (kCauses (l .n) rest) ≡ Accepted
+    → restText l rest ≡ queryText l (kOf rest) (drop kLength rest)
 k-passes l rest passes =
-    ap (λ (v : Verdict). outcome v (answerText l (componentsOf (l .d) (drop kLength rest)) (kOf rest)) refusedText) (go-on (kCauses (l .n) rest) _ passes)
+    ap (λ (v : Verdict). outcome v (answerText l (componentsOf (l .d) (drop kLength rest)) (kOf rest)) refusedText)
+    (go-on (kCauses (l .n) rest) _ passes)
 
 pub k-among : (n : ℕ) (rest : List ℕ) → first (kCauses n rest) ≡ Accepted → leb 1 (kOf rest) && leb (kOf rest) n ≡ true
 k-among n rest passes = not-false _ (passed _ Neighbours _ (passed _ Truncated _ passes .rest) .fails)
@@ -78,7 +90,8 @@ k-among n rest passes = not-false _ (passed _ Neighbours _ (passed _ Truncated _
 pub k-truncated : (n : ℕ) (rest : List ℕ) → length rest < kLength → first (kCauses n rest) ≡ Refused Truncated
 k-truncated n rest short = first-here Truncated _ (lt-ltb (length rest) kLength short)
 
-pub k-tested : (n : ℕ) (rest : List ℕ) → kLength ≤ length rest → first (kCauses n rest) ≡ cond (leb 1 (kOf rest) && leb (kOf rest) n) Accepted (Refused Neighbours)
+pub k-tested : (n : ℕ) (rest : List ℕ) → kLength ≤ length rest
+    → first (kCauses n rest) ≡ cond (leb 1 (kOf rest) && leb (kOf rest) n) Accepted (Refused Neighbours)
 k-tested n rest there = first-next Truncated _ (le-ltb (length rest) kLength there) ∙ go (leb 1 (kOf rest) && leb (kOf rest) n)
   where
     go : (t : Bool) → first ((not t ⇒ Neighbours) ∷ []) ≡ cond t Accepted (Refused Neighbours)
@@ -93,7 +106,8 @@ k-there n rest passes = ltb-false (length rest) kLength (passed _ Truncated _ pa
 pub ready-dimensions : {l : Library} → Ready l → isDimensionCount (l .d) ≡ true
 ready-dimensions {l} is = not-false _ (passed (not (isDimensionCount (l .d))) Dimension _ (is .of-packing) .fails)
 
-pub query-rows : (d room : ℕ) (bytes : List ℕ) → isDimensionCount d ≡ true → room ≡ d → first (lentCauses d room bytes) ≡ first (queryCauses d bytes)
+pub query-rows : (d room : ℕ) (bytes : List ℕ) → isDimensionCount d ≡ true → room ≡ d
+    → first (lentCauses d room bytes) ≡ first (queryCauses d bytes)
 unfolding first lentCauses
 query-rows d room bytes dimensions exact = rw (dimensions, eq-eqb room d exact)
 
@@ -131,7 +145,8 @@ counts-verdict (Refused cause) l = refl
 pub filled-begins : {A : Type 0} (v : Verdict) (new old : List A) → v ≡ Accepted → Begins new (filled v new old)
 filled-begins v new old accepted = rw accepted (take-at new (drop (length new) old) (length new) refl)
 
-module _ {input : List ℕ} {d b n used : ℕ} {marks : List ℤ} {settings : List ℕ} {components : List ℤ} (is : Holds input d b n used marks settings components) where
+module _ {input : List ℕ} {d b n used : ℕ} {marks : List ℤ} {settings : List ℕ} {components : List ℤ}
+    (is : Holds input d b n used marks settings components) where
   abbrev l : Library
   l = readLibrary input
 
@@ -167,14 +182,18 @@ module _ {input : List ℕ} {d b n used : ℕ} {marks : List ℤ} {settings : Li
   pub held-ready : Ready (libraryWith d b n (take (markTotal d b) marks) (take n settings) (take (n * d) components))
   held-ready = rw held-library (ready input (is .passes))
 
-  pub held-text : restText (libraryWith d b n (take (markTotal d b) marks) (take n settings) (take (n * d) components)) (drop used input) ≡ matchText input
+  pub held-text : restText (libraryWith d b n (take (markTotal d b) marks) (take n settings) (take (n * d) components)) (drop used input)
+      ≡ matchText input
   held-text =
-      ap₂ (λ (library : Library) (from : ℕ). restText library (drop from input)) held-library (is .used-is) ∙ sym (library-passes input (is .passes))
+      ap₂ (λ (library : Library) (from : ℕ). restText library (drop from input)) held-library (is .used-is)
+      ∙ sym (library-passes input (is .passes))
 
 -- ---- what loading tells
 
-module _ (input : List ℕ) {room-marks room-settings room-components : ℕ} (of-marks : room-marks ≡ marksRoom) (of-settings : room-settings ≡ settingsRoom)
-    (of-components : room-components ≡ componentsRoom) {r : Loaded} (is : r ≡ counts (first (loadCauses room-marks room-settings room-components input)) (readLibrary input)) where
+module _ (input : List ℕ) {room-marks room-settings room-components : ℕ} (of-marks : room-marks ≡ marksRoom)
+    (of-settings : room-settings ≡ settingsRoom)
+    (of-components : room-components ≡ componentsRoom) {r : Loaded}
+    (is : r ≡ counts (first (loadCauses room-marks room-settings room-components input)) (readLibrary input)) where
   abbrev v : Verdict
   v = first (loadCauses room-marks room-settings room-components input)
 
@@ -184,9 +203,11 @@ module _ (input : List ℕ) {room-marks room-settings room-components : ℕ} (of
   pub loaded-refused : {cause : Refusal} → r .verdict ≡ Refused cause → matchText input ≡ refusedText cause
   loaded-refused refused = library-refused input (sym (load-rows input of-marks of-settings of-components) ∙ sym verdict-is ∙ refused)
 
-  pub loaded-holds : r .verdict ≡ Accepted → {marks : List ℤ} {settings : List ℕ} {components : List ℤ} (marks₀ : List ℤ) (settings₀ : List ℕ) (components₀ : List ℤ)
+  pub loaded-holds : r .verdict ≡ Accepted
+      → {marks : List ℤ} {settings : List ℕ} {components : List ℤ} (marks₀ : List ℤ) (settings₀ : List ℕ) (components₀ : List ℤ)
       → marks ≡ filled v (readLibrary input .marks) marks₀ → settings ≡ filled v (readLibrary input .settings) settings₀
-      → components ≡ filled v (readLibrary input .components) components₀ → Holds input (r .d) (r .b) (r .n) (r .used) marks settings components
+      → components ≡ filled v (readLibrary input .components) components₀
+      → Holds input (r .d) (r .b) (r .n) (r .used) marks settings components
   loaded-holds accepted marks₀ settings₀ components₀ marks-are settings-are components-are =
       let passes = sym verdict-is ∙ accepted in
       let same = is ∙ ap (λ (v : Verdict). counts v (readLibrary input)) passes in

@@ -1,11 +1,13 @@
 // The answer of a match: the nearest vectors of a loaded library, as text.
 use crate::found::find;
+use crate::lines::put_answer;
 use limits::MAX_DIMENSION_BITS;
 use limits::MAX_DIMENSIONS;
 use limits::MAX_VECTORS;
 use search::search::read_count;
-use text::put_answer;
 ghost use mathlib.Core.Path.{_≡_};
+ghost use Prim.Native.Nat.{_≤_};
+ghost use lib.ListN.{length};
 ghost use Rattle.refusal.specs.declared.Verdict.the-variants.{Accepted};
 ghost use Rattle.refusal.specs.First.{first};
 ghost use Rattle.codes.specs.Codes.{codeLength};
@@ -16,10 +18,10 @@ ghost use Rattle.library.specs.Library.{libraryWith};
 ghost use Rattle.text.specs.Puts.{Puts};
 ghost use Rattle.matching.specs.Answer.{searchable, answerLines, answerText};
 
-// The most bytes of codes.
+// The most bytes that codes have.
 const CODES_ROOM: usize = MAX_VECTORS * MAX_DIMENSION_BITS * MAX_DIMENSIONS / 8;
 
-// The answer to a query.
+// The text of the answer to a query.
 pub(crate) fn answer(
     d: usize,
     b: usize,
@@ -33,6 +35,8 @@ pub(crate) fn answer(
 ) -> usize
     requires { ⌜ first (packVectorsCauses d b n (now components) (now marks) (codeLength b n)) ≡ Accepted ⌝ }
     requires { ⌜ first (searchCauses (searchable (libraryWith d b n (now marks) (now settings) (now components))) (now query) k (roomOf k k n)) ≡ Accepted ⌝ }
+    requires { ⌜ length (now settings) ≡ n ⌝ }
+    requires { ⌜ length (answerText (libraryWith d b n (now marks) (now settings) (now components)) (now query) k) ≤ length (now text) ⌝ }
     ensures { λ r. ⌜ Puts (answerText (libraryWith d b n (now (marks .entry)) (now (settings .entry)) (now (components .entry))) (now (query .entry)) k) 0
         (now (text .entry)) (now (text .exit)) r ⌝ }
 {
@@ -53,7 +57,7 @@ pub(crate) fn answer(
     )
 }
 
-// The same with the codes.
+// The text of the answer to a query, with the codes of the vectors.
 fn answer_coded(
     d: usize,
     b: usize,
@@ -67,6 +71,9 @@ fn answer_coded(
     text: &mut [u8],
 ) -> usize
     requires { ⌜ first (searchCauses (library d b n (now marks) (now codes) (now components)) (now query) k (roomOf k k n)) ≡ Accepted ⌝ }
+    requires { ⌜ length (now settings) ≡ n ⌝ }
+    requires { ⌜ length (answerLines (now settings) k
+        (searched (library d b n (now marks) (now codes) (now components)) (now query) k)) ≤ length (now text) ⌝ }
     ensures { λ r. ⌜ Puts (answerLines (now (settings .entry)) k
         (searched (library d b n (now (marks .entry)) (now (codes .entry)) (now (components .entry))) (now (query .entry)) k)) 0
         (now (text .entry)) (now (text .exit)) r ⌝ }

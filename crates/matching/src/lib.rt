@@ -1,8 +1,10 @@
 // A match (document 01, "The program"): the bytes of a library, k and a query in, text out. `run` is the whole program.
 mod answer;
 mod found;
+mod lines;
 mod parts;
 
+use crate::lines::put_refusal;
 use crate::parts::match_rest;
 use limits::MAX_VECTORS;
 use loading::COMPONENTS_ROOM;
@@ -11,8 +13,8 @@ use loading::SETTINGS_ROOM;
 use loading::load;
 use refusal::Refusal;
 use refusal::Verdict;
-use text::put_refusal;
 ghost use mathlib.Core.Path.{_≡_};
+ghost use Prim.Native.Nat.{_≤_};
 ghost use lib.ListN.{length};
 ghost use Rattle.refusal.specs.First.{first};
 ghost use Rattle.loading.specs.Load.{marksRoom, settingsRoom, componentsRoom, filled};
@@ -23,16 +25,17 @@ ghost use Rattle.matching.specs.Steps.{Holds};
 // How many bytes k has.
 pub const K_LENGTH: usize = 2;
 
-// The longest text: two counts, then for each entry a number, settings and a distance, each with the byte behind it.
+// An upper bound on the length of a text, for which the output is lent: two counts, then for each entry a number, settings and a distance,
+// each at its most digits with the byte behind it. No text needs all of it.
 pub const TEXT_ROOM: usize = (4 + 4) + MAX_VECTORS * (4 + 11 + 13);
 
-// What a match answers: nothing refuses the output, or the cause that does, and how many bytes of it the text has.
+// What a match answers: nothing refuses the output, or the cause that does, and how many bytes the text has.
 pub struct Printed {
     pub verdict: Verdict,
     pub length: usize,
 }
 
-// The text of a match, into the front of the output.
+// The text of a match is written into the front of the output.
 pub fn run(input: &[u8], output: &mut [u8]) -> Printed
     ensures { λ r. ⌜ r ≡ printed (first (roomCauses (length (now (output .entry))))) (matchText (now (input .entry))) ⌝ }
     ensures { λ _. ⌜ now (output .exit)
@@ -54,7 +57,7 @@ pub fn run(input: &[u8], output: &mut [u8]) -> Printed
     }
 }
 
-// The same with buffers for the library.
+// The text of a match, with buffers for its library.
 fn match_input(
     input: &[u8],
     marks: &mut [i32],
@@ -63,6 +66,7 @@ fn match_input(
     text: &mut [u8],
 ) -> usize
     requires { ⌜ (length (now marks) ≡ marksRoom) × (length (now settings) ≡ settingsRoom) × (length (now components) ≡ componentsRoom) ⌝ }
+    requires { ⌜ length (matchText (now input)) ≤ length (now text) ⌝ }
     ensures { λ r. ⌜ Puts (matchText (now (input .entry))) 0 (now (text .entry)) (now (text .exit)) r ⌝ }
 {
     let loaded = load(input, marks, settings, components);
@@ -96,6 +100,7 @@ fn match_loaded(
     text: &mut [u8],
 ) -> usize
     requires { ⌜ Holds (now input) d b n used (now marks) (now settings) (now components) ⌝ }
+    requires { ⌜ length (matchText (now input)) ≤ length (now text) ⌝ }
     ensures { λ r. ⌜ Puts (matchText (now (input .entry))) 0 (now (text .entry)) (now (text .exit)) r ⌝ }
 {
     let m = layout::marks_length(d, b);

@@ -1,13 +1,15 @@
 // The parts of a match behind its library: k, then a query.
 use crate::K_LENGTH;
 use crate::answer::answer;
+use crate::lines::put_refusal;
 use limits::MAX_DIMENSIONS;
 use refusal::Refusal;
 use refusal::Verdict;
-use text::put_refusal;
 ghost use mathlib.Core.Path.{_≡_};
 ghost use mathlib.Core.Bool.{true, _&&_};
+ghost use Prim.Native.Nat.{_≤_};
 ghost use lib.Dec.{leb};
+ghost use lib.ListN.{length};
 ghost use Rattle.refusal.specs.First.{first};
 ghost use Rattle.library.specs.Library.{libraryWith};
 ghost use Rattle.matching.specs.Match.{kCauses};
@@ -26,6 +28,7 @@ pub(crate) fn match_rest(
     text: &mut [u8],
 ) -> usize
     requires { ⌜ Ready (libraryWith d b n (now marks) (now settings) (now components)) ⌝ }
+    requires { ⌜ length (restText (libraryWith d b n (now marks) (now settings) (now components)) (now rest)) ≤ length (now text) ⌝ }
     ensures { λ r. ⌜ Puts (restText (libraryWith d b n (now (marks .entry)) (now (settings .entry)) (now (components .entry))) (now (rest .entry))) 0
         (now (text .entry)) (now (text .exit)) r ⌝ }
 {
@@ -48,7 +51,7 @@ pub(crate) fn match_rest(
     }
 }
 
-// Whether k is there, and from 1 to n.
+// Whether k is there, and is from 1 to n.
 fn check_k(rest: &[u8], n: usize) -> Verdict
     ensures { λ r. ⌜ r ≡ first (kCauses n (now (rest .entry))) ⌝ }
 {
@@ -74,6 +77,7 @@ fn match_query(
     text: &mut [u8],
 ) -> usize
     requires { ⌜ (Ready (libraryWith d b n (now marks) (now settings) (now components))) × (leb 1 k && leb k n ≡ true) ⌝ }
+    requires { ⌜ length (queryText (libraryWith d b n (now marks) (now settings) (now components)) k (now bytes)) ≤ length (now text) ⌝ }
     ensures { λ r. ⌜ Puts (queryText (libraryWith d b n (now (marks .entry)) (now (settings .entry)) (now (components .entry))) k (now (bytes .entry))) 0
         (now (text .entry)) (now (text .exit)) r ⌝ }
 {

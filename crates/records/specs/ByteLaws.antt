@@ -56,4 +56,5 @@ from-none (suc w) = rw (from-none w)
 -- two bytes by their indices
 pub two-bytes : (bytes : List ℕ) (at : ℕ) → fromLowFirst 2 (drop at bytes) ≡ getD bytes at 0 + 256 * getD bytes (at + 1) 0
 unfolding fromLowFirst
-two-bytes bytes at = rw (drop-drop 1 at bytes, getD-drop at bytes 0 0, getD-drop (at + 1) bytes 0 0, add-zero at, add-zero (at + 1)) (omega arith)
+two-bytes bytes at =
+    rw (drop-drop 1 at bytes, getD-drop at bytes 0 0, getD-drop (at + 1) bytes 0 0, add-zero at, add-zero (at + 1)) (omega arith)

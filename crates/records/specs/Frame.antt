@@ -34,7 +34,12 @@ pub record Framed (placed : Bool) (bytes : List ℕ) : Type 0 where
 pub frame-passes : {placed : Bool} {bytes : List ℕ} → Framed placed bytes → first (frameCauses placed bytes) ≡ Accepted
 unfolding first frameCauses recordLength
 frame-passes {placed} {bytes} is =
-    rw (ne-eqb (length bytes) 0 (λ e. omega (arith, is .whole)), is .known, is .there, le-ltb (length bytes) (recordLength (kindOf bytes)) (is .whole))
+    rw (
+      ne-eqb (length bytes) 0 (λ e. omega (arith, is .whole)),
+      is .known,
+      is .there,
+      le-ltb (length bytes) (recordLength (kindOf bytes)) (is .whole),
+    )
 
 pub framed : (placed : Bool) (bytes : List ℕ) → first (frameCauses placed bytes) ≡ Accepted → Framed placed bytes
 unfolding frameCauses
@@ -50,7 +55,8 @@ framed placed bytes accepted =
     }
 
 -- a record that is written is whole
-pub record-framed : {placed : Bool} (kind : ℕ) (values rest : List ℕ) → isKind kind ≡ true → placed ≡ true → Framed placed (recordBytes kind values ++ rest)
+pub record-framed : {placed : Bool} (kind : ℕ) (values rest : List ℕ) → isKind kind ≡ true → placed ≡ true
+    → Framed placed (recordBytes kind values ++ rest)
 unfolding recordBytes
 record-framed kind values rest known there =
     let size = length-append (recordBytes kind values) rest in

@@ -10,7 +10,8 @@ use lib.Seq.{drop-at, drop-drop, getD-drop, take-add}
 use Rattle.limits.specs.Limits.{maxDimensions}
 use Rattle.records.specs.Bytes.{lowFirst, fromLowFirst, AreBytes}
 use Rattle.records.specs.ByteLaws.{low-length, from-low, low-from, bytes-drop, from-below}
-use Rattle.records.specs.Records.{headKind, markKind, vectorKind, formats, widthsAmong, widthsOf, sum, recordLength, joined, split, recordBytes, kindOf, valueOf}
+use Rattle.records.specs.Records.{headKind, markKind, vectorKind, formats, widthsAmong, widthsOf, sum, recordLength, joined, split}
+use Rattle.records.specs.Records.{recordBytes, kindOf, valueOf}
 
 pub joined-length : (ws values : List ℕ) → length (joined ws values) ≡ sum ws
 unfolding joined sum
@@ -26,19 +27,23 @@ pub kind-at : (bytes : List ℕ) (at : ℕ) → kindOf (drop at bytes) ≡ getD 
 kind-at bytes at = getD-drop at bytes 0 0 ∙ ap (λ (i : ℕ). getD bytes i 0) (add-zero at)
 
 -- value i stands behind the values before it
-pub split-at : (ws bytes : List ℕ) (i : ℕ) → i < length ws → getD (split ws bytes) i 0 ≡ fromLowFirst (getD ws i 0) (drop (sum (take i ws)) bytes)
+pub split-at : (ws bytes : List ℕ) (i : ℕ) → i < length ws
+    → getD (split ws bytes) i 0 ≡ fromLowFirst (getD ws i 0) (drop (sum (take i ws)) bytes)
 unfolding split sum
 split-at [] bytes i within = absurd (omega arith)
 split-at (w ∷ ws) bytes zero within = refl
 split-at (w ∷ ws) bytes (suc i) within = split-at ws (drop w bytes) i (omega arith) ∙ rw (drop-drop (sum (take i ws)) w bytes)
 
-pub value-at : (kind i : ℕ) (bytes : List ℕ) → i < length (widthsOf kind) → valueOf kind i bytes ≡ fromLowFirst (getD (widthsOf kind) i 0) (drop (suc (sum (take i (widthsOf kind)))) bytes)
+pub value-at : (kind i : ℕ) (bytes : List ℕ) → i < length (widthsOf kind)
+    → valueOf kind i bytes ≡ fromLowFirst (getD (widthsOf kind) i 0) (drop (suc (sum (take i (widthsOf kind)))) bytes)
 unfolding valueOf
 value-at kind i bytes within =
     split-at (widthsOf kind) (drop 1 bytes) i within
-    ∙ ap (fromLowFirst (getD (widthsOf kind) i 0)) (drop-drop (sum (take i (widthsOf kind))) 1 bytes ∙ rw (one-add (sum (take i (widthsOf kind)))))
+    ∙ ap (fromLowFirst (getD (widthsOf kind) i 0))
+    (drop-drop (sum (take i (widthsOf kind))) 1 bytes ∙ rw (one-add (sum (take i (widthsOf kind)))))
 
-pub value-below : (kind i : ℕ) (bytes : List ℕ) → AreBytes bytes → i < length (widthsOf kind) → valueOf kind i bytes < 256 ^ getD (widthsOf kind) i 0
+pub value-below : (kind i : ℕ) (bytes : List ℕ) → AreBytes bytes → i < length (widthsOf kind)
+    → valueOf kind i bytes < 256 ^ getD (widthsOf kind) i 0
 value-below kind i bytes are within =
     let place = suc (sum (take i (widthsOf kind))) in
     rw (value-at kind i bytes within) (from-below (getD (widthsOf kind) i 0) (drop place bytes) (bytes-drop place bytes are))
@@ -81,17 +86,22 @@ after : (values : List ℕ) (i : ℕ) → getD (drop 1 values) i 0 ≡ getD valu
 after [] i = refl
 after (v ∷ values) i = refl
 
-pub split-joined : (ws values rest : List ℕ) → Fitting ws values → (i : ℕ) → i < length ws → getD (split ws (joined ws values ++ rest)) i 0 ≡ getD values i 0
+pub split-joined : (ws values rest : List ℕ) → Fitting ws values → (i : ℕ) → i < length ws
+    → getD (split ws (joined ws values ++ rest)) i 0 ≡ getD values i 0
 unfolding joined split
 split-joined [] values rest fit i within = absurd (omega arith)
 split-joined (w ∷ ws) values rest fit zero within =
     rw (append-assoc (lowFirst w (getD values 0 0)) (joined ws (drop 1 values)) rest) (from-low w (getD values 0 0) _ (fit 0 (omega arith)))
 split-joined (w ∷ ws) values rest fit (suc i) within =
     let fit' : Fitting ws (drop 1 values) = λ j h. rw (after values j) (fit (suc j) (omega arith)) in
-    rw (append-assoc (lowFirst w (getD values 0 0)) (joined ws (drop 1 values)) rest, drop-at (lowFirst w (getD values 0 0)) (joined ws (drop 1 values) ++ rest) w (low-length w (getD values 0 0)))
+    rw (
+      append-assoc (lowFirst w (getD values 0 0)) (joined ws (drop 1 values)) rest,
+      drop-at (lowFirst w (getD values 0 0)) (joined ws (drop 1 values) ++ rest) w (low-length w (getD values 0 0)),
+    )
     (split-joined ws (drop 1 values) rest fit' i (omega arith) ∙ after values i)
 
-pub value-written : (kind : ℕ) (values rest : List ℕ) → Fitting (widthsOf kind) values → (i : ℕ) → i < length (widthsOf kind) → valueOf kind i (recordBytes kind values ++ rest) ≡ getD values i 0
+pub value-written : (kind : ℕ) (values rest : List ℕ) → Fitting (widthsOf kind) values → (i : ℕ) → i < length (widthsOf kind)
+    → valueOf kind i (recordBytes kind values ++ rest) ≡ getD values i 0
 unfolding recordBytes valueOf
 value-written kind values rest fit i within = split-joined (widthsOf kind) values rest fit i within
 
@@ -105,14 +115,24 @@ joined-split (w ∷ ws) bytes are room =
     rw (low-from w bytes are (omega arith), joined-split ws (drop w bytes) (bytes-drop w bytes are) left) (sym (take-add w (sum ws) bytes))
 
 -- only the values that have a width are looked at
-pub joined-same : (ws values others : List ℕ) → ((i : ℕ) → i < length ws → getD values i 0 ≡ getD others i 0) → joined ws values ≡ joined ws others
+pub joined-same : (ws values others : List ℕ) → ((i : ℕ) → i < length ws → getD values i 0 ≡ getD others i 0)
+    → joined ws values ≡ joined ws others
 unfolding joined
 joined-same [] values others same = refl
 joined-same (w ∷ ws) values others same =
-    rw (same 0 (omega arith), joined-same ws (drop 1 values) (drop 1 others) (λ i h. after values i ∙ same (suc i) (omega arith) ∙ sym (after others i)))
+    rw (
+      same 0 (omega arith),
+      joined-same ws (drop 1 values) (drop 1 others) (λ i h. after values i ∙ same (suc i) (omega arith) ∙ sym (after others i)),
+    )
 
-pub written-read : (kind : ℕ) (values bytes : List ℕ) → AreBytes bytes → kindOf bytes ≡ kind → recordLength kind ≤ length bytes → ((i : ℕ) → i < length (widthsOf kind) → getD values i 0 ≡ valueOf kind i bytes) → recordBytes kind values ≡ take (recordLength kind) bytes
+pub written-read : (kind : ℕ) (values bytes : List ℕ) → AreBytes bytes → kindOf bytes ≡ kind → recordLength kind ≤ length bytes
+    → ((i : ℕ) → i < length (widthsOf kind) → getD values i 0 ≡ valueOf kind i bytes)
+    → recordBytes kind values ≡ take (recordLength kind) bytes
 unfolding recordBytes recordLength valueOf
 written-read kind values [] are is room same = absurd (omega arith)
 written-read kind values (x ∷ bytes) are is room same =
-    rw (is, joined-same (widthsOf kind) values (split (widthsOf kind) bytes) same, joined-split (widthsOf kind) bytes (λ i. are (suc i)) (omega arith))
+    rw (
+      is,
+      joined-same (widthsOf kind) values (split (widthsOf kind) bytes) same,
+      joined-split (widthsOf kind) bytes (λ i. are (suc i)) (omega arith),
+    )

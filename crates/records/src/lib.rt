@@ -24,7 +24,7 @@ pub const HELD: u32 = 6;
 
 pub const LOST: u32 = 7;
 
-// The lengths of their records, byte of kind and body.
+// The lengths of the kinds' records: the byte of kind and the body.
 pub const HEAD_LENGTH: usize = 5;
 
 pub const MARK_LENGTH: usize = 5;
@@ -76,7 +76,7 @@ pub fn u32_at(bytes: &[u8], at: usize) -> u32
     low + 65536 * high
 }
 
-// Whether a number is a kind's.
+// Whether a number is that of a kind.
 pub fn is_kind(kind: u32) -> bool
     ensures { λ r. ⌜ r ≡ isKind kind ⌝ }
 {

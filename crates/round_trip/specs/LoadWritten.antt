@@ -30,7 +30,8 @@ use Rattle.library.specs.EachLaws.{Begins, each-accepted, every-at, every-all}
 use Rattle.library.specs.Library.{Library, markTotal, componentIn, libraryBytes, vectorPlace, componentAt}
 use Rattle.library.specs.Tests.{inside}
 use Rattle.library.specs.MarkLaws.{numbered, good-range, good-rise}
-use Rattle.loading.specs.Load.{marksRoom, settingsRoom, componentsRoom, recordCauses, headCauses, markWrong, markCauses, zeroBeyond, vectorCauses, marksCauses, vectorsCauses, endCauses, loadCauses}
+use Rattle.loading.specs.Load.{marksRoom, settingsRoom, componentsRoom, recordCauses, headCauses, markWrong, markCauses, zeroBeyond}
+use Rattle.loading.specs.Load.{vectorCauses, marksCauses, vectorsCauses, endCauses, loadCauses}
 use Rattle.writing.specs.Writable.{Writable, component-fits}
 use Rattle.round_trip.specs.Places.{head-there, mark-there, vector-there, end-there}
 use Rattle.round_trip.specs.ReadWritten.{Storable, mark-value, component-value, beyond-value, read-written}
@@ -68,10 +69,13 @@ module _ (l : Library) (room : ℕ) (w : Writable l room) where
   }
 
 -- a record where it was written passes, with its own causes
-record-passes : (kind : ℕ) (values bytes : List ℕ) (own : List Row) → isKind kind ≡ true → Begins (recordBytes kind values) bytes → first own ≡ Accepted → first (recordCauses kind bytes own) ≡ Accepted
+record-passes : (kind : ℕ) (values bytes : List ℕ) (own : List Row) → isKind kind ≡ true → Begins (recordBytes kind values) bytes
+    → first own ≡ Accepted → first (recordCauses kind bytes own) ≡ Accepted
 unfolding recordBytes
 record-passes kind values bytes own known there passes =
-    rw (there .is) (go-on (frameCauses (eqb (kindOf (recordBytes kind values ++ there .tail)) kind) _) own (frame-passes (record-framed kind values (there .tail) known (eq-eqb kind kind refl))) ∙ passes)
+    rw (there .is)
+    (go-on (frameCauses (eqb (kindOf (recordBytes kind values ++ there .tail)) kind) _) own
+    (frame-passes (record-framed kind values (there .tail) known (eq-eqb kind kind refl))) ∙ passes)
 
 module _ (l : Library) (room : ℕ) (w : Writable l room) (settings : (i : ℕ) → getD (l .settings) i 0 < 2 ^ 32) (rest : List ℕ) where
   abbrev bytes : List ℕ
@@ -103,11 +107,19 @@ module _ (l : Library) (room : ℕ) (w : Writable l room) (settings : (i : ℕ) 
         let here = good-range (l .d) (l .b) (l .marks) (w .sizes .marks-count) t among (w .marks) (suc i) h in
         let rises = good-rise (l .d) (l .b) (l .marks) (w .sizes .marks-count) t among (w .marks) i h in
         let before : p + suc i - 1 ≡ p + i = omega arith in
-        rw (before, mark-value l fit rest (p + suc i) (place (suc i) h), mark-value l fit rest (p + i) (place i (omega arith)), here, rises, lt-ltb 0 (suc i) (omega arith))
+        rw (
+          before,
+          mark-value l fit rest (p + suc i) (place (suc i) h),
+          mark-value l fit rest (p + i) (place i (omega arith)),
+          here,
+          rises,
+          lt-ltb 0 (suc i) (omega arith),
+        )
 
     mark-passes : (i : ℕ) → i < markCount (l .d) (l .b) (suc t) → first (markCauses bytes (firstMarks (l .d) (l .b) t) i) ≡ Accepted
     unfolding first isKind isAmong formats
-    mark-passes i h = record-passes markKind _ _ _ refl (mark-there l rest (firstMarks (l .d) (l .b) t + i) (place i h)) (rw (mark-right i h))
+    mark-passes i h =
+        record-passes markKind _ _ _ refl (mark-there l rest (firstMarks (l .d) (l .b) t + i) (place i h)) (rw (mark-right i h))
 
     dimension-passes : first (each (markCount (l .d) (l .b) (suc t)) (markCauses bytes (firstMarks (l .d) (l .b) t))) ≡ Accepted
     dimension-passes = each-accepted (markCount (l .d) (l .b) (suc t)) (markCauses bytes (firstMarks (l .d) (l .b) t)) mark-passes
@@ -116,7 +128,8 @@ module _ (l : Library) (room : ℕ) (w : Writable l room) (settings : (i : ℕ) 
   unfolding zeroBeyond
   zero-beyond i h = every-all maxDimensions _ (λ t k. go t k (decLt t (l .d)))
     where
-      go : (t : ℕ) → t < maxDimensions → Dec (t < l .d) → ltb t (l .d) || eqb (valueOf vectorKind (suc t) (drop (vectorPlace total i) bytes)) 0 ≡ true
+      go : (t : ℕ) → t < maxDimensions → Dec (t < l .d)
+          → ltb t (l .d) || eqb (valueOf vectorKind (suc t) (drop (vectorPlace total i) bytes)) 0 ≡ true
       go t k (yes less) = rw (lt-ltb t (l .d) less)
       go t k (no more) =
           let past : l .d ≤ t = omega arith in
@@ -124,7 +137,10 @@ module _ (l : Library) (room : ℕ) (w : Writable l room) (settings : (i : ℕ) 
 
   insides : (i : ℕ) → i < l .n → inside (l .d) (l .b) (l .marks) (componentAt total bytes i) ≡ true
   unfolding inside
-  insides i h = every-all (l .d) _ (λ t k. rw (component-value l fit rest i t h k) (every-at (l .d) (λ t. inMarks (dimensionMarks (l .d) (l .b) (l .marks) (suc t)) (componentIn l i t)) (w .insides i h) t k))
+  insides i h =
+      every-all (l .d) _
+      (λ t k. rw (component-value l fit rest i t h k)
+      (every-at (l .d) (λ t. inMarks (dimensionMarks (l .d) (l .b) (l .marks) (suc t)) (componentIn l i t)) (w .insides i h) t k))
 
   vector-passes : (i : ℕ) → i < l .n → first (vectorCauses l bytes i) ≡ Accepted
   unfolding first isKind isAmong formats
@@ -143,5 +159,6 @@ module _ (l : Library) (room : ℕ) (w : Writable l room) (settings : (i : ℕ) 
       rw (read-written l fit rest)
       (first-next Length _ refl
       ∙ go-on (head ++ marks ++ vectors) (endCauses l bytes)
-      (go-on (head ++ marks) vectors (go-on head marks head-passes ∙ each-accepted (l .d) _ dimension-passes) ∙ each-accepted (l .n) (vectorCauses l bytes) vector-passes)
+      (go-on (head ++ marks) vectors (go-on head marks head-passes ∙ each-accepted (l .d) _ dimension-passes)
+      ∙ each-accepted (l .n) (vectorCauses l bytes) vector-passes)
       ∙ end-passes)

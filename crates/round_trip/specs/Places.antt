@@ -11,7 +11,8 @@ use Rattle.records.specs.Records.{headKind, markKind, vectorKind, endKind, reco
 use Rattle.records.specs.RecordLaws.{record-length}
 use Rattle.library.specs.Each.{each}
 use Rattle.library.specs.EachLaws.{Begins, each-length, each-at}
-use Rattle.library.specs.Library.{Library, markTotal, headBytes, markBytes, vectorValues, vectorBytes, endBytes, componentIn, libraryBytes, markPlace, vectorPlace, libraryLength}
+use Rattle.library.specs.Library.{Library, markTotal, headBytes, markBytes, vectorValues, vectorBytes, endBytes, componentIn, libraryBytes}
+use Rattle.library.specs.Library.{markPlace, vectorPlace, libraryLength}
 
 module _ (l : Library) where
   -- its marks' and its vectors' records
@@ -93,4 +94,8 @@ module _ (l : Library) where
         }
 
     pub end-there : Begins endBytes (drop (vectorPlace total (l .n)) bytes)
-    end-there = record { tail = rest; is = rw behind-vectors (drop-at (head ++ marks ++ vectors) (endBytes ++ rest) (vectorPlace total (l .n)) vectors-size) }
+    end-there = record {
+      tail =
+          rest;
+      is = rw behind-vectors (drop-at (head ++ marks ++ vectors) (endBytes ++ rest) (vectorPlace total (l .n)) vectors-size);
+    }

@@ -16,7 +16,8 @@ use Rattle.records.specs.Records.{headKind, markKind, vectorKind, widthsOf, val
 use Rattle.records.specs.RecordLaws.{Fitting, value-written, head-widths, mark-widths, vector-widths}
 use Rattle.library.specs.Each.{tabulate}
 use Rattle.library.specs.EachLaws.{tabulate-at, tabulate-past, tabulate-is}
-use Rattle.library.specs.Library.{Library, markTotal, vectorValues, componentIn, libraryBytes, vectorPlace, headValue, markAt, settingsAt, storedAt, componentAt, readLibrary}
+use Rattle.library.specs.Library.{Library, markTotal, vectorValues, componentIn, libraryBytes, vectorPlace, headValue, markAt, settingsAt}
+use Rattle.library.specs.Library.{storedAt, componentAt, readLibrary}
 use Rattle.round_trip.specs.Places.{head-there, mark-there, vector-there}
 
 -- each value of the library has room in its record, and its lists are as long as its counts say
@@ -67,7 +68,8 @@ module _ (l : Library) (fit : Storable l) (rest : List ℕ) where
       let mark = getD (l .marks) i (pos 0) in
       let within : 0 < length (widthsOf markKind) = rw mark-widths (lit< tt) in
       rw (there .is)
-      (ap (toZ w32) (value-written markKind (ofZ w32 mark ∷ []) (there .tail) (rw mark-widths (mark-fits i)) 0 within) ∙ toZ-ofZ w32 mark (fit .mark i))
+      (ap (toZ w32) (value-written markKind (ofZ w32 mark ∷ []) (there .tail) (rw mark-widths (mark-fits i)) 0 within)
+      ∙ toZ-ofZ w32 mark (fit .mark i))
 
   -- ---- the vectors
 
@@ -96,7 +98,8 @@ module _ (l : Library) (fit : Storable l) (rest : List ℕ) where
       let within : t < maxDimensions = omega (arith, length-replicate {A = ℕ} maxDimensions 2) in
       rw (getD-replicate {A = ℕ} maxDimensions t 2 0 within) (stored-fits i t)
 
-  vector-value : (i : ℕ) → i < l .n → (j : ℕ) → j ≤ maxDimensions → valueOf vectorKind j (drop (vectorPlace (markTotal (l .d) (l .b)) i) bytes) ≡ getD (values i) j 0
+  vector-value : (i : ℕ) → i < l .n → (j : ℕ) → j ≤ maxDimensions
+      → valueOf vectorKind j (drop (vectorPlace (markTotal (l .d) (l .b)) i) bytes) ≡ getD (values i) j 0
   vector-value i h j few =
       let there = vector-there l rest i h in
       let within : j < length (widthsOf vectorKind) = rw vector-widths (omega (arith, length-replicate {A = ℕ} maxDimensions 2)) in
@@ -109,9 +112,11 @@ module _ (l : Library) (fit : Storable l) (rest : List ℕ) where
   pub component-value : (i t : ℕ) → i < l .n → t < l .d → componentAt (markTotal (l .d) (l .b)) bytes i t ≡ componentIn l i t
   unfolding storedAt
   component-value i t h k =
-      ap (toZ w16) (vector-value i h (suc t) (omega (arith, fit .few)) ∙ stored i t k) ∙ toZ-ofZ w16 (componentIn l i t) (fit .component (i * l .d + t))
+      ap (toZ w16) (vector-value i h (suc t) (omega (arith, fit .few)) ∙ stored i t k)
+      ∙ toZ-ofZ w16 (componentIn l i t) (fit .component (i * l .d + t))
 
-  pub beyond-value : (i t : ℕ) → i < l .n → l .d ≤ t → t < maxDimensions → valueOf vectorKind (suc t) (drop (vectorPlace (markTotal (l .d) (l .b)) i) bytes) ≡ 0
+  pub beyond-value : (i t : ℕ) → i < l .n → l .d ≤ t → t < maxDimensions
+      → valueOf vectorKind (suc t) (drop (vectorPlace (markTotal (l .d) (l .b)) i) bytes) ≡ 0
   beyond-value i t h past few = vector-value i h (suc t) few ∙ beyond i t past
 
   -- ---- all of it
@@ -124,10 +129,12 @@ module _ (l : Library) (fit : Storable l) (rest : List ℕ) where
 
   read-components : tabulate (l .n * l .d) (λ k. componentAt (markTotal (l .d) (l .b)) bytes (k / l .d) (k % l .d)) ≡ l .components
   read-components =
-      tabulate-is (l .components) (pos 0) (l .n * l .d) (λ k. componentAt (markTotal (l .d) (l .b)) bytes (k / l .d) (k % l .d)) (fit .components-count)
+      tabulate-is (l .components) (pos 0) (l .n * l .d) (λ k. componentAt (markTotal (l .d) (l .b)) bytes (k / l .d) (k % l .d))
+      (fit .components-count)
       (λ k h.
       let within : k / l .d < l .n = div-lt-iff-lt-mul (fit .some) .1 h in
-      component-value (k / l .d) (k % l .d) within (mod-lt k (fit .some)) ∙ ap (λ (p : ℕ). getD (l .components) p (pos 0)) (div-add-mod' k (l .d)))
+      component-value (k / l .d) (k % l .d) within (mod-lt k (fit .some))
+      ∙ ap (λ (p : ℕ). getD (l .components) p (pos 0)) (div-add-mod' k (l .d)))
 
   pub read-written : readLibrary bytes ≡ l
   unfolding readLibrary

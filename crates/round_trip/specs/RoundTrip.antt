@@ -24,7 +24,8 @@ pub record Loads (bytes : List ℕ) (l : Library) (used : ℕ) : Type 0 where
   pub length-is : libraryLength (l .d) (l .b) (l .n) ≡ used
 
 -- What was written loads to the same, whatever follows; a settings number has 32 bits.
-pub written-loads : (l : Library) (rest : List ℕ) → first (writeCauses l (length (libraryBytes l))) ≡ Accepted → ((i : ℕ) → getD (l .settings) i 0 < 2 ^ 32)
+pub written-loads : (l : Library) (rest : List ℕ) → first (writeCauses l (length (libraryBytes l))) ≡ Accepted
+    → ((i : ℕ) → getD (l .settings) i 0 < 2 ^ 32)
     → Loads (libraryBytes l ++ rest) l (length (libraryBytes l))
 written-loads l rest accepted settings =
     let w = writable l (length (libraryBytes l)) accepted in
@@ -47,7 +48,8 @@ loaded-writes bytes l used are loads =
     record { accepted = rw (← bytes-are, library-size l) writable; is = bytes-are }
 
 -- So each library has one encoding: two inputs that load to it used the same bytes.
-pub one-encoding : (bytes others : List ℕ) (l : Library) (used used' : ℕ) → AreBytes bytes → AreBytes others → Loads bytes l used → Loads others l used'
+pub one-encoding : (bytes others : List ℕ) (l : Library) (used used' : ℕ) → AreBytes bytes → AreBytes others → Loads bytes l used
+    → Loads others l used'
     → take used bytes ≡ take used' others
 one-encoding bytes others l used used' are are' loads loads' =
     sym (loaded-writes bytes l used are loads .is) ∙ loaded-writes others l used' are' loads' .is

@@ -1,21 +1,16 @@
--- Text put into a buffer from an index on, and lines put together. A store past the end of a list changes nothing (`sets`): what does not fit
--- is not put. Assumes nothing.
+-- Text put into a buffer from an index on, and lines put together. A store past the end of a list changes nothing (`sets`): what does not
+-- fit is not put. Assumes nothing.
 use mathlib.Core.Path.{_≡_, refl, sym, ap, subst, _∙_}
-use mathlib.Core.Bool.{Bool, true, false}
-use mathlib.Core.List.{List, [], _∷_, _++_, append-assoc}
-use Prim.Native.Nat.{ℕ, suc, _+_, _^_, _≤_, _<_, min}
-use native.Mathlib.Nat.{add-zero, zero-add, lt-of-lt-of-le}
-use native.Mathlib.Numerals.{add-one}
+use mathlib.Core.List.{List, [], _∷_, _++_, append-assoc, append-nil}
+use Prim.Native.Nat.{ℕ, zero, suc, _+_, _-_, _^_, _≤_, _<_}
+use native.Mathlib.Nat.{add-zero, lt-of-lt-of-le}
 use native.Mathlib.Omega.{arith}
-use borrow.Author.Tests.{ltb-true, ltb-false}
-use lib.Dec.{lit≤, ltb}
-use lib.ListN.{length, getD, take, drop, set, length-append, drop-of-length-le}
-use lib.Seq.{sets, set-out, length-sets, sets-eq, take-all, drop-cons}
-use Rattle.order.specs.Pair.{Pair}
-use Rattle.order.specs.Pairs.{pair}
-use Rattle.nearest.specs.declared.Entry.{Entry}
-use Rattle.nearest.specs.Entries.{entriesOf}
-use Rattle.text.specs.Text.{space, lineEnd, decimal, line, entryLine, entryLines}
+use lib.Dec.{lit≤}
+use lib.ListN.{length, take, drop, set, length-append, length-drop, drop-of-length-le}
+use lib.Seq.{sets, set-out, length-sets, take-all}
+use borrow.Rule.Slice.PartAt.{part-to-end}
+use borrow.Rule.Slice.PartMut.{midOf, putMid}
+use Rattle.text.specs.Text.{atFront, space, lineEnd, decimal, line}
 use Rattle.text.specs.TextLaws.{decimal-length}
 
 -- the text stands in the buffer from an index on, as far as it fits, all else is as it was, and r is the index behind the whole text
@@ -36,27 +31,73 @@ sets-append l at (x ∷ text) more =
     rw behind (sets-append (set l at x) (suc at) text more)
 
 -- one text behind another
-pub puts-more : {text : List ℕ} {at : ℕ} {before after : List ℕ} {r : ℕ} {more : List ℕ} {then : List ℕ} {r' : ℕ} → Puts text at before after r → Puts more r after then r'
-    → Puts (text ++ more) at before then r'
+pub puts-more : {text : List ℕ} {at : ℕ} {before after : List ℕ} {r : ℕ} {more : List ℕ} {then : List ℕ} {r' : ℕ}
+    → Puts text at before after r → Puts more r after then r' → Puts (text ++ more) at before then r'
 puts-more {text} {at} {before} {more = more} puts next = record {
   is = next .is ∙ rw (puts .is, puts .end) (sets-append before at text more);
   end = omega (arith, next .end, puts .end, length-append text more);
 }
 
-pub puts-then : {text : List ℕ} {at : ℕ} {before after : List ℕ} {r : ℕ} {more : List ℕ} {n : ℕ} {then : List ℕ} {r' : ℕ} → Puts text at before after r
-    → Puts more n after then r' → n ≡ at + length text → Puts (text ++ more) at before then r'
-puts-then {after = after} {more = more} {then = then} {r' = r'} puts next behind = puts-more puts (subst (λ (m : ℕ). Puts more m after then r') (behind ∙ sym (puts .end)) next)
+pub puts-then : {text : List ℕ} {at : ℕ} {before after : List ℕ} {r : ℕ} {more : List ℕ} {n : ℕ} {then : List ℕ} {r' : ℕ}
+    → Puts text at before after r → Puts more n after then r' → n ≡ at + length text → Puts (text ++ more) at before then r'
+puts-then {after = after} {more = more} {then = then} {r' = r'} puts next behind =
+    puts-more puts (subst (λ (m : ℕ). Puts more m after then r') (behind ∙ sym (puts .end)) next)
 
 -- a byte past the end
 pub puts-out : (x at : ℕ) (before : List ℕ) → length before ≤ at → Puts (x ∷ []) at before before (at + 1)
 puts-out x at before past = record { is = sym (set-out before at x past); end = refl }
 
-pub puts-same : {text other : List ℕ} {at : ℕ} {before after : List ℕ} {r : ℕ} → text ≡ other → Puts text at before after r → Puts other at before after r
+pub puts-same : {text other : List ℕ} {at : ℕ} {before after : List ℕ} {r : ℕ}
+    → text ≡ other → Puts text at before after r → Puts other at before after r
 puts-same same puts = rw (← same) puts
 
--- at the front of a buffer with room for it
-pub puts-front : {text before after : List ℕ} {r : ℕ} → Puts text 0 before after r → length text ≤ length before → after ≡ text ++ drop (length text) before
-puts-front {text} {before} puts room = puts .is ∙ sets-eq text before 0 (omega arith) ∙ ap (λ (n : ℕ). text ++ drop n before) (zero-add (length text))
+-- ---- at the front of a buffer
+
+sets-behind : (t : List ℕ) (x : ℕ) (buffer : List ℕ) (at : ℕ) → sets (x ∷ buffer) (suc at) t ≡ x ∷ sets buffer at t
+sets-behind [] x buffer at = refl
+sets-behind (y ∷ t) x buffer at = sets-behind t x (set buffer at y) (suc at)
+
+sets-nothing : (t : List ℕ) (at : ℕ) → sets [] at t ≡ []
+sets-nothing [] at = refl
+sets-nothing (x ∷ t) at = sets-nothing t (suc at)
+
+sets-front : (t buffer : List ℕ) → sets buffer 0 t ≡ atFront t buffer
+sets-front [] [] = refl
+sets-front [] (y ∷ buffer) = refl
+sets-front (x ∷ t) [] = sets-nothing t 1
+sets-front (x ∷ t) (y ∷ buffer) = sets-behind t x buffer 0 ∙ ap (λ (rest : List ℕ). x ∷ rest) (sets-front t buffer)
+
+pub puts-front : {text before after : List ℕ} {r : ℕ} → Puts text 0 before after r → (r ≡ length text) × (after ≡ atFront text before)
+puts-front {text} {before} puts = (omega (arith, puts .end), puts .is ∙ sets-front text before)
+
+pub front-puts : {text before after : List ℕ} {r : ℕ} → r ≡ length text → after ≡ atFront text before → Puts text 0 before after r
+front-puts {text} {before} long is = record { is = is ∙ sym (sets-front text before); end = omega (arith, long) }
+
+-- where there is room for it
+pub front-fits : (text buffer : List ℕ) → length text ≤ length buffer → atFront text buffer ≡ text ++ drop (length text) buffer
+front-fits text buffer room = ap (λ (front : List ℕ). front ++ drop (length text) buffer) (take-all (length buffer) text room)
+
+-- ---- at the front of a part of a buffer, from an index on
+
+sets-part : (t : List ℕ) (at : ℕ) (buffer : List ℕ) → at ≤ length buffer → take at buffer ++ sets (drop at buffer) 0 t ≡ sets buffer at t
+sets-part t zero buffer within = refl
+sets-part t (suc at) [] within = absurd (omega arith)
+sets-part t (suc at) (x ∷ buffer) within =
+    ap (λ (rest : List ℕ). x ∷ rest) (sets-part t at buffer (omega arith)) ∙ sym (sets-behind t x buffer at)
+
+pub part-puts : {text : List ℕ} {at : ℕ} (buffer : List ℕ) {last : List ℕ} {r : ℕ} → at ≤ length buffer → r ≡ length text
+    → last ≡ atFront text (midOf at (length buffer - at) buffer) → Puts text at buffer (putMid at (length buffer - at) buffer last) (at + r)
+part-puts {text} {at} buffer {last} within long is =
+    let past : length (drop at buffer) ≤ length buffer - at = omega (arith, length-drop at buffer) in
+    let nothing : drop (length buffer - at) (drop at buffer) ≡ [] = drop-of-length-le (drop at buffer) past in
+    let last-is = append-nil last ∙ is ∙ ap (atFront text) (part-to-end buffer at) ∙ sym (sets-front text (drop at buffer)) in
+    record {
+      is =
+          ap (λ (rest : List ℕ). take at buffer ++ (last ++ rest)) nothing
+          ∙ ap (λ (part : List ℕ). take at buffer ++ part) last-is
+          ∙ sets-part text at buffer within;
+      end = omega (arith, long);
+    }
 
 -- ---- lines
 
@@ -89,40 +130,3 @@ fieldRoom = 21
 
 pub decimal-room : (x : ℕ) → x < 2 ^ 64 → length (decimal x) + 1 ≤ fieldRoom
 decimal-room x small = omega (arith, decimal-length 19 x (lt-of-lt-of-le small (lit≤ tt)))
-
--- ---- entries
-
--- as pairs
-unfoldable pub pairsIn : List Entry → List Pair
-pairsIn [] = []
-pairsIn (e ∷ es) = pair (e .distance) (e .number) ∷ pairsIn es
-
-pub pairs-back : (ps : List Pair) → pairsIn (entriesOf ps) ≡ ps
-unfolding pairsIn entriesOf
-pairs-back [] = refl
-pairs-back (p ∷ ps) = ap {B = List Pair} (λ rest. p ∷ rest) (pairs-back ps)
-
--- those from index i on
-abbrev pub linesFrom : List ℕ → List Entry → ℕ → List ℕ
-linesFrom settings entries i = entryLines settings (pairsIn (drop i entries))
-
-pub lines-next : (settings : List ℕ) (entries : List Entry) (none : Entry) (i : ℕ) → i < length entries
-    → linesFrom settings entries i ≡ entryLine settings (pair (getD entries i none .distance) (getD entries i none .number)) ++ linesFrom settings entries (i + 1)
-unfolding entryLines pairsIn
-lines-next settings entries none i within = rw (drop-cons entries i none within, add-one i)
-
-pub lines-none : (settings : List ℕ) (entries : List Entry) (i : ℕ) → length entries ≤ i → linesFrom settings entries i ≡ []
-unfolding entryLines pairsIn
-lines-none settings entries i past = rw (drop-of-length-le entries past)
-
--- the first k of n entries, where k may be above n
-pub first-of : (k n : ℕ) (entries : List Entry) → length entries ≡ n → take (min k n) entries ≡ take k entries
-first-of k n entries size = go (ltb k n) refl
-  where
-    go : (t : Bool) → ltb k n ≡ t → take (min k n) entries ≡ take k entries
-    go true e =
-        let few : min k n ≡ k = omega (arith, ltb-true k n e) in
-        ap (λ (m : ℕ). take m entries) few
-    go false e =
-        let all : min k n ≡ n = omega (arith, ltb-false k n e) in
-        ap (λ (m : ℕ). take m entries) all ∙ take-all n entries (omega (arith, size)) ∙ sym (take-all k entries (omega (arith, size, ltb-false k n e)))

@@ -1,12 +1,13 @@
--- Numbers, lines, entries and refusals as text (document 01, "The program"): bytes of ASCII. Assumes nothing.
+-- Numbers and lines as text (document 01, "The program"): bytes of ASCII. Assumes nothing.
 use mathlib.Core.Bool.{cond}
 use mathlib.Core.List.{List, [], _∷_, _++_}
 use Prim.Native.Nat.{ℕ, zero, suc, _+_, _/_, _%_}
 use lib.Dec.{ltb}
-use lib.ListN.{getD}
-use Rattle.refusal.specs.declared.Refusal.{Refusal}
-use Rattle.refusal.specs.Refusal.{numberOf}
-use Rattle.order.specs.Pair.{Pair}
+use lib.ListN.{length, take, drop}
+
+-- a text at the front of a buffer: as many of its bytes as the buffer has room for, then the rest of the buffer as it was
+abbrev pub atFront : List ℕ → List ℕ → List ℕ
+atFront text buffer = take (length buffer) text ++ drop (length text) buffer
 
 -- a digit's byte
 abbrev pub digit : ℕ → ℕ
@@ -39,14 +40,5 @@ line x (y ∷ ys) = decimal x ++ (space ∷ line y ys)
 abbrev pub refusedWord : List ℕ
 refusedWord = 114 ∷ 101 ∷ 102 ∷ 117 ∷ 115 ∷ 101 ∷ 100 ∷ 32 ∷ []
 
--- "Its first fault from the left comes out as `refused ` and the number"
-abbrev pub refusedText : Refusal → List ℕ
-refusedText cause = refusedWord ++ line (numberOf cause) []
-
--- "then one line for each entry: number, settings, distance"
-abbrev pub entryLine : List ℕ → Pair → List ℕ
-entryLine settings p = line (p .number) (getD settings (p .number) 0 ∷ p .key ∷ [])
-
-unfoldable pub entryLines : List ℕ → List Pair → List ℕ
-entryLines settings [] = []
-entryLines settings (p ∷ ps) = entryLine settings p ++ entryLines settings ps
+abbrev pub refusedLine : ℕ → List ℕ
+refusedLine x = refusedWord ++ line x []

@@ -18,7 +18,8 @@ within-same (suc w) zero x small small' = absurd (omega arith)
 within-same (suc w) (suc v) x small small' = go (ltb x 10) refl (λ ten. within-same w v (x / 10) (omega arith) (omega arith))
   where
     go : (t : Bool) → ltb x 10 ≡ t → (10 ≤ x → digitsWithin w (x / 10) ≡ digitsWithin v (x / 10))
-        → cond t (digit x ∷ []) (digitsWithin w (x / 10) ++ (digit (x % 10) ∷ [])) ≡ cond t (digit x ∷ []) (digitsWithin v (x / 10) ++ (digit (x % 10) ∷ []))
+        → cond t (digit x ∷ []) (digitsWithin w (x / 10) ++ (digit (x % 10) ∷ []))
+        ≡ cond t (digit x ∷ []) (digitsWithin v (x / 10) ++ (digit (x % 10) ∷ []))
     go true e same = refl
     go false e same = rw (same (ltb-false x 10 e))
 

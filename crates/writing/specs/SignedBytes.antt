@@ -20,7 +20,8 @@ low-more : (w x k : ℕ) → lowFirst w (x + k * 256 ^ w) ≡ lowFirst w x
 unfolding lowFirst
 low-more zero x k = refl
 low-more (suc w) x k =
-    let grown : k * 256 ^ suc w ≡ 256 * (k * 256 ^ w) = ap (λ (p : ℕ). k * p) (pow-suc 256 w) ∙ sym (mul-assoc k (256 ^ w) 256) ∙ mul-comm (k * 256 ^ w) 256 in
+    let grown : k * 256 ^ suc w ≡ 256 * (k * 256 ^ w) =
+    ap (λ (p : ℕ). k * p) (pow-suc 256 w) ∙ sym (mul-assoc k (256 ^ w) 256) ∙ mul-comm (k * 256 ^ w) 256 in
     let low : (x + 256 * (k * 256 ^ w)) % 256 ≡ x % 256 = omega arith in
     let high : (x + 256 * (k * 256 ^ w)) / 256 ≡ x / 256 + k * 256 ^ w = omega arith in
     rw (grown, low, high, low-more w (x / 256) k)

@@ -1,4 +1,4 @@
--- The causes for which writing a library says no (document 01, "When a call says no"). Assumes nothing.
+-- The causes for which writing a library is refused (document 01, "When a call says no"). Assumes nothing.
 use mathlib.Core.Bool.{Bool, not, _&&_}
 use mathlib.Core.List.{List, [], _∷_, _++_}
 use Prim.Native.Nat.{ℕ, _*_}

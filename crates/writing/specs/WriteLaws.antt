@@ -18,7 +18,8 @@ use Rattle.writing.specs.SignedBytes.{Bits, low-mark}
 pub both-parts : {one two : List ℕ} (front part more : List ℕ) → one ≡ front ++ part → two ≡ one ++ more → two ≡ front ++ (part ++ more)
 both-parts front part more first second = second ∙ rw first (append-assoc front part more)
 
-pub four-parts : {one two three four : List ℕ} (front a b c e : List ℕ) → one ≡ front ++ a → two ≡ one ++ b → three ≡ two ++ c → four ≡ three ++ e → four ≡ front ++ (a ++ b ++ (c ++ e))
+pub four-parts : {one two three four : List ℕ} (front a b c e : List ℕ) → one ≡ front ++ a → two ≡ one ++ b → three ≡ two ++ c
+    → four ≡ three ++ e → four ≡ front ++ (a ++ b ++ (c ++ e))
 four-parts front a b c e first second third fourth = fourth ∙ rw (third, second, first) (simp append-assoc)
 
 -- four bytes are two and two
@@ -37,10 +38,15 @@ unfolding lowFirst recordBytes joined widthsOf widthsAmong formats
 mark-parts {x} {z} bits = rw (low-mark x z bits)
 
 pub vector-parts : (d settings : ℕ) (component : ℕ → ℤ)
-    → lowFirst 1 vectorKind ++ lowFirst 4 settings ++ joined (replicate maxDimensions 2) (drop 1 (vectorValues d settings component)) ≡ vectorBytes d settings component
+    → lowFirst 1 vectorKind ++ lowFirst 4 settings ++ joined (replicate maxDimensions 2) (drop 1 (vectorValues d settings component))
+    ≡ vectorBytes d settings component
 unfolding lowFirst
 vector-parts d settings component =
-    rw (record-is vectorKind (vectorValues d settings component), vector-widths, joined-cons 4 (replicate maxDimensions 2) (vectorValues d settings component))
+    rw (
+      record-is vectorKind (vectorValues d settings component),
+      vector-widths,
+      joined-cons 4 (replicate maxDimensions 2) (vectorValues d settings component),
+    )
 
 pub end-part : lowFirst 1 endKind ≡ endBytes
 unfolding lowFirst recordBytes joined widthsOf widthsAmong formats
@@ -48,7 +54,8 @@ end-part = refl
 
 -- the components from number t on
 pub components-next : (n t : ℕ) (values : List ℕ) → t < n
-    → joined (replicate (n - t) 2) (drop t values) ≡ lowFirst 2 (getD values t 0) ++ joined (replicate (n - (t + 1)) 2) (drop (t + 1) values)
+    → joined (replicate (n - t) 2) (drop t values)
+    ≡ lowFirst 2 (getD values t 0) ++ joined (replicate (n - (t + 1)) 2) (drop (t + 1) values)
 components-next n t values more =
     let one-left : n - t ≡ suc (n - (t + 1)) = omega arith in
     rw (one-left, joined-cons 2 (replicate (n - (t + 1)) 2) (drop t values), getD-drop t values 0 0, add-zero t, drop-drop 1 t values)
@@ -66,7 +73,8 @@ joined-zeros (suc n) =
     let two-more : 2 * suc n ≡ suc (suc (2 * n)) = omega arith in
     rw (two-more, joined-zeros n)
 
-pub joined-beyond : (n : ℕ) (values : List ℕ) → length values ≤ n → joined (replicate n 2) values ≡ joined (replicate (length values) 2) values ++ replicate (2 * (n - length values)) 0
+pub joined-beyond : (n : ℕ) (values : List ℕ) → length values ≤ n
+    → joined (replicate n 2) values ≡ joined (replicate (length values) 2) values ++ replicate (2 * (n - length values)) 0
 unfolding joined
 joined-beyond n [] few =
     let all : n - 0 ≡ n = omega arith in
@@ -74,4 +82,5 @@ joined-beyond n [] few =
 joined-beyond zero (v ∷ values) few = absurd (omega arith)
 joined-beyond (suc n) (v ∷ values) few =
     let less : suc n - suc (length values) ≡ n - length values = omega arith in
-    rw (joined-beyond n values (omega arith), less) (sym (append-assoc (lowFirst 2 v) (joined (replicate (length values) 2) values) (replicate (2 * (n - length values)) 0)))
+    rw (joined-beyond n values (omega arith), less)
+    (sym (append-assoc (lowFirst 2 v) (joined (replicate (length values) 2) values) (replicate (2 * (n - length values)) 0)))

@@ -1,5 +1,4 @@
 // Whether a library can be written.
-use library::ends_of;
 use library::library_length;
 use library::lies;
 use limits::MAX_DIMENSIONS;
@@ -8,13 +7,13 @@ use refusal::Verdict;
 ghost use mathlib.Core.Path.{_≡_};
 ghost use mathlib.Core.Bool.{true};
 ghost use mathlib.Core.List.{[], _++_};
-ghost use Prim.Native.Nat.{_+_, _*_, _≤_};
+ghost use Prim.Native.Nat.{_+_, _*_, _^_, _≤_};
 ghost use lib.IntN.{pos};
 ghost use lib.Dec.{eqb};
 ghost use lib.ListN.{length, getD, drop};
 ghost use Rattle.refusal.specs.declared.Verdict.the-variants.{Accepted};
 ghost use Rattle.refusal.specs.First.{first};
-ghost use Rattle.limits.specs.Limits.{maxVectors};
+ghost use Rattle.limits.specs.Limits.{maxDimensionBits, maxVectors};
 ghost use Rattle.layout.specs.Stretch.{shapeCauses};
 ghost use Rattle.library.specs.Each.{tabulate, every};
 ghost use Rattle.library.specs.Library.{libraryWith};
@@ -23,7 +22,7 @@ ghost use Rattle.library.specs.Ends.{Table, lies, between, firstMark, lastMark}
 ghost use Rattle.writing.specs.Sized.{Dimensioned, Sized};
 ghost use Rattle.writing.specs.Write.{valueCauses, shapedCauses, writeCauses};
 
-// Whether a library can be written to so many bytes.
+// The first cause for which a library cannot be written to so many bytes.
 pub(crate) fn check_library(
     d: usize,
     b: usize,
@@ -33,7 +32,8 @@ pub(crate) fn check_library(
     components: &[i32],
     room: usize,
 ) -> Verdict
-    ensures { λ r. ⌜ r ≡ first (writeCauses (libraryWith d b n (now (marks .entry)) (now (settings .entry)) (now (components .entry))) room) ⌝ }
+    ensures { λ r. ⌜ r
+        ≡ first (writeCauses (libraryWith d b n (now (marks .entry)) (now (settings .entry)) (now (components .entry))) room) ⌝ }
 {
     match layout::check_shape(d, b) {
         Verdict::Accepted => check_shaped(d, b, n, marks, settings, components, room),
@@ -41,6 +41,7 @@ pub(crate) fn check_library(
     }
 }
 
+// The first cause for which a library whose shape passes cannot be written to so many bytes.
 fn check_shaped(
     d: usize,
     b: usize,
@@ -51,7 +52,8 @@ fn check_shaped(
     room: usize,
 ) -> Verdict
     requires { ⌜ first (shapeCauses d b) ≡ Accepted ⌝ }
-    ensures { λ r. ⌜ r ≡ first (shapedCauses (libraryWith d b n (now (marks .entry)) (now (settings .entry)) (now (components .entry))) room) ⌝ }
+    ensures { λ r. ⌜ r
+        ≡ first (shapedCauses (libraryWith d b n (now (marks .entry)) (now (settings .entry)) (now (components .entry))) room) ⌝ }
 {
     if !limits::is_vector_count(n) {
         return Verdict::Refused(Refusal::Count);
@@ -71,7 +73,7 @@ fn check_shaped(
     check_values(d, b, n, marks, components)
 }
 
-// The components, the marks, and each vector against the marks.
+// The first cause of the components, the marks, and the vectors against the marks.
 fn check_values(d: usize, b: usize, n: usize, marks: &[i32], components: &[i32]) -> Verdict
     requires { ⌜ Sized d b n (now marks) (now components) ⌝ }
     ensures { λ r. ⌜ r ≡ first (valueCauses (libraryWith d b n (now (marks .entry)) [] (now (components .entry)))) ⌝ }
@@ -99,25 +101,38 @@ fn all_inside(d: usize, b: usize, n: usize, marks: &[i32], components: &[i32]) -
     all_between(d, n, &lows, &highs, components)
 }
 
-// The first and the last mark of each dimension, into the fronts of two buffers.
+// The first and the last mark of each dimension are copied into the fronts of two buffers.
 fn fill_ends(d: usize, b: usize, marks: &[i32], lows: &mut [i32], highs: &mut [i32])
     requires { ⌜ (Dimensioned d b (now marks)) × (d ≤ length (now lows)) × (d ≤ length (now highs)) ⌝ }
-    ensures { λ _. ⌜ now (lows .exit) ≡ tabulate d (firstMark d b (λ i. getD (now (marks .entry)) i (pos 0))) ++ drop d (now (lows .entry)) ⌝ }
-    ensures { λ _. ⌜ now (highs .exit) ≡ tabulate d (lastMark d b (λ i. getD (now (marks .entry)) i (pos 0))) ++ drop d (now (highs .entry)) ⌝ }
+    ensures { λ _. ⌜ now (lows .exit)
+        ≡ tabulate d (firstMark d b (λ i. getD (now (marks .entry)) i (pos 0))) ++ drop d (now (lows .entry)) ⌝ }
+    ensures { λ _. ⌜ now (highs .exit)
+        ≡ tabulate d (lastMark d b (λ i. getD (now (marks .entry)) i (pos 0))) ++ drop d (now (highs .entry)) ⌝ }
 {
     let mut t = 0;
     while t < d {
-        let ends = ends_of(d, b, t + 1);
-        lows[t] = whole::at(marks, ends.first);
-        highs[t] = whole::at(marks, ends.last);
+        let stretch = layout::stretch_of(d, b, t + 1);
+        let first = stretch.offset;
+        let last = first + regions(stretch.bits);
+        lows[t] = whole::at(marks, first);
+        highs[t] = whole::at(marks, last);
         t += 1;
     }
 }
 
-// Whether each of n vectors lies between the ends.
+// The number of regions of a dimension with w bits.
+fn regions(w: usize) -> usize
+    requires { ⌜ w ≤ maxDimensionBits ⌝ }
+    ensures { λ r. ⌜ r ≡ 2 ^ w ⌝ }
+{
+    1usize << w
+}
+
+// Whether each of n vectors lies between the ends of the marks.
 fn all_between(d: usize, n: usize, lows: &[i32], highs: &[i32], components: &[i32]) -> bool
     requires { ⌜ (Table d (now lows) (now highs)) × (n ≤ maxVectors) × (n * d ≤ length (now components)) ⌝ }
-    ensures { λ r. ⌜ r ≡ every n (λ i. between d (now (lows .entry)) (now (highs .entry)) (λ t. getD (now (components .entry)) (i * d + t) (pos 0))) ⌝ }
+    ensures { λ r. ⌜ r
+        ≡ every n (λ i. between d (now (lows .entry)) (now (highs .entry)) (λ t. getD (now (components .entry)) (i * d + t) (pos 0))) ⌝ }
 {
     let mut i = 0;
     while i < n {
@@ -129,7 +144,8 @@ fn all_between(d: usize, n: usize, lows: &[i32], highs: &[i32], components: &[i3
     true
 }
 
-// Whether the d components from an index on do, each. The answers are gathered in a number, so that the loop has no branch.
+// Whether the d components from an index on lie, each, between the ends of their dimension's marks. The answers are gathered in a number,
+// so that the loop has no branch.
 fn is_between(d: usize, lows: &[i32], highs: &[i32], components: &[i32], from: usize) -> bool
     requires { ⌜ (Table d (now lows) (now highs)) × (from + d ≤ length (now components)) ⌝ }
     ensures { λ r. ⌜ r ≡ between d (now (lows .entry)) (now (highs .entry)) (λ t. getD (now (components .entry)) (from + t) (pos 0)) ⌝ }

@@ -17,7 +17,7 @@ ghost use Rattle.refusal.specs.First.{first, outcome};
 ghost use Rattle.library.specs.Library.{libraryWith, libraryBytes};
 ghost use Rattle.writing.specs.Write.{writeCauses};
 
-// The bytes of a library, into a buffer of as many.
+// The bytes of a library are written into a buffer of as many.
 pub fn write(
     d: usize,
     b: usize,
@@ -44,7 +44,7 @@ pub fn write(
     }
 }
 
-// The records of a library that can be written, one behind the other.
+// The records of a library that can be written are written one behind the other.
 fn write_all(
     d: usize,
     b: usize,

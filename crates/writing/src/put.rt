@@ -90,7 +90,7 @@ fn write_vector(
     write_zeros(at + VECTOR_FRONT + 2 * d, at + VECTOR_LENGTH, bytes);
 }
 
-// The d components.
+// The d components of a vector, two bytes each.
 fn write_stored(d: usize, at: usize, components: &[i32], from: usize, bytes: &mut [u8])
     requires { ⌜ (at + 2 * d ≤ length (now bytes)) × (Row d from (now components)) ⌝ }
     ensures { λ _. ⌜ take (at + 2 * d) (now (bytes .exit))
@@ -130,7 +130,7 @@ pub(crate) fn put_byte(bytes: &mut [u8], at: usize, x: u64)
     bytes[at] = (x % 256) as u8;
 }
 
-// Its two lowest bytes, lowest first, from an index on.
+// A number's two lowest bytes, lowest first, from an index on.
 fn put_pair(bytes: &mut [u8], at: usize, x: u64)
     requires { ⌜ at + 2 ≤ length (now bytes) ⌝ }
     ensures { λ _. ⌜ take (at + 2) (now (bytes .exit)) ≡ take at (now (bytes .entry)) ++ lowFirst 2 x ⌝ }
@@ -139,7 +139,7 @@ fn put_pair(bytes: &mut [u8], at: usize, x: u64)
     bytes[at + 1] = (x / 256 % 256) as u8;
 }
 
-// Its four lowest.
+// A number's four lowest bytes, lowest first, from an index on.
 fn put_quad(bytes: &mut [u8], at: usize, x: u64)
     requires { ⌜ at + 4 ≤ length (now bytes) ⌝ }
     ensures { λ _. ⌜ take (at + 4) (now (bytes .exit)) ≡ take at (now (bytes .entry)) ++ lowFirst 4 x ⌝ }

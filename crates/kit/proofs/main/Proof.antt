@@ -21,7 +21,8 @@ output-holds c =
     let ran = c .before in
     let read = ran .before .before .before .before in
     let bytes = take (read .read-full .result) (read .read-full .last .1 .0) in
-    let few : length bytes ≤ suc longestMatch = omega (arith, length-take (read .read-full .result) (read .read-full .last .1 .0), read-within read) in
+    let few : length bytes ≤ suc longestMatch =
+    omega (arith, length-take (read .read-full .result) (read .read-full .last .1 .0), read-within read) in
     front-within (ran .print .ensures bytes (take-all (suc longestMatch) bytes few))
 
 pub main-spec : {M : Type 1} → statement M

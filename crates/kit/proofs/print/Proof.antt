@@ -35,4 +35,6 @@ returns c =
     prints-read (front (matchText _) _ (s .pre .2) (ran .run .ensures .0) (ran .run .ensures .1))
 
 pub print-spec : {M : Type 1} → statement M
-print-spec = tie.close (tie.spec (λ c. sym (length-take-le _ _ (within (c .before .before .before)))) (λ c κs. search needs) (λ c. search needs) returns)
+print-spec =
+    tie.close
+    (tie.spec (λ c. sym (length-take-le _ _ (within (c .before .before .before)))) (λ c κs. search needs) (λ c. search needs) returns)

@@ -13,20 +13,23 @@ use Rattle.library.proofs.check_counts.Statement.{statement}
 use Rattle.library.proofs.check_counts.Tie as tie
 
 -- behind a shape that passes, the count is what is left to test
-shape-passes : (c : tie.After-is-vector-count) → let args = c .before .before .before .before .args in first (shapeCauses (args .d) (args .b)) ≡ Accepted
+shape-passes : (c : tie.After-is-vector-count) → let args = c .before .before .before .before .args in
+    first (shapeCauses (args .d) (args .b)) ≡ Accepted
 shape-passes c = sym (c .before .before .before .check-shape .ensures) ∙ c .before .enum-told .given .1
 
 returns : tie.Need-returns
 unfolding first
 returns c =
     let args = c .before .before .before .before .before .args in
-    sym (go-on (shapeCauses (args .d) (args .b)) ((not (isVectorCount (args .n)) ⇒ Count) ∷ []) (shape-passes (c .before)) ∙ rw (← c .before .is-vector-count .ensures, c .if1 .taken))
+    sym (go-on (shapeCauses (args .d) (args .b)) ((not (isVectorCount (args .n)) ⇒ Count) ∷ []) (shape-passes (c .before))
+    ∙ rw (← c .before .is-vector-count .ensures, c .if1 .taken))
 
 returns-2 : tie.Need-returns-2
 unfolding first
 returns-2 c =
     let args = c .before .before .before .before .before .args in
-    sym (go-on (shapeCauses (args .d) (args .b)) ((not (isVectorCount (args .n)) ⇒ Count) ∷ []) (shape-passes (c .before)) ∙ rw (← c .before .is-vector-count .ensures, c .if1 .left))
+    sym (go-on (shapeCauses (args .d) (args .b)) ((not (isVectorCount (args .n)) ⇒ Count) ∷ []) (shape-passes (c .before))
+    ∙ rw (← c .before .is-vector-count .ensures, c .if1 .left))
 
 returns-3 : tie.Need-returns-3
 returns-3 c =

@@ -40,7 +40,13 @@ returns : tie.Need-returns
 returns c =
     let marks = c .before in
     let args = start (marks .before) .args in
-    rw (c .vector-place .ensures, vector-place (marks .marks-length .result) (args .n), count-is marks, outcome-accepted _ _ (passes (marks .before)), library-length (args .d) (args .b) (args .n))
+    rw (
+      c .vector-place .ensures,
+      vector-place (marks .marks-length .result) (args .n),
+      count-is marks,
+      outcome-accepted _ _ (passes (marks .before)),
+      library-length (args .d) (args .b) (args .n),
+    )
 
 returns-2 : tie.Need-returns-2
 returns-2 c = sym (outcome-refused _ _ (sym (c .before .before .check-counts .ensures) ∙ c .enum-told2 .given .1))

@@ -19,10 +19,12 @@ module _ (c : tie.After-marks-length) where
   abbrev start : tie.Start
   start = c .before .before .before .before
 
-  can : Loadable (length (start .args .marks .now)) (length (start .args .settings .now)) (length (start .args .components .now)) (start .args .bytes .now)
+  can : Loadable (length (start .args .marks .now)) (length (start .args .settings .now)) (length (start .args .components .now))
+      (start .args .bytes .now)
   can = loadable _ _ _ (start .args .bytes .now) (start .pre)
 
-  head : HeadOf (start .args .bytes .now) (c .before .counts-of .result .d) (c .before .counts-of .result .b) (c .before .counts-of .result .n)
+  head : HeadOf (start .args .bytes .now) (c .before .counts-of .result .d) (c .before .counts-of .result .b)
+      (c .before .counts-of .result .n)
   head =
       let is = c .before .counts-of .ensures in
       head-of (start .args .bytes .now) (can .head-passes) (is .0) (is .1) (is .2)
@@ -42,8 +44,10 @@ module _ (c : tie.After-marks-length) where
       let d = c .before .counts-of .result .d in
       let b = c .before .counts-of .result .b in
       let n = c .before .counts-of .result .n in
-      let within : libraryLength d b n ≤ length (start .args .bytes .now) = rw (head .of-shape .d-is, head .of-shape .b-is, head .n-is) at (can .whole) in
-      subst⁻¹ (λ (m : ℕ). vectorPlace m n ≤ length (start .args .bytes .now)) total-is (rw (vector-place (markTotal d b) n) (omega (arith, rw (library-length d b n) at within)))
+      let within : libraryLength d b n ≤ length (start .args .bytes .now) =
+      rw (head .of-shape .d-is, head .of-shape .b-is, head .n-is) at (can .whole) in
+      subst⁻¹ (λ (m : ℕ). vectorPlace m n ≤ length (start .args .bytes .now)) total-is
+      (rw (vector-place (markTotal d b) n) (omega (arith, rw (library-length d b n) at within)))
 
 fill-marks-requires : tie.Need-fill-marks-requires
 fill-marks-requires c κs = (omega (arith, few-marks (c .before)), omega (arith, few-marks (c .before), can (c .before) .marks-count))

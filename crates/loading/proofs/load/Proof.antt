@@ -18,8 +18,10 @@ returns c =
 
 returns-2 : tie.Need-returns-2
 returns-2 c =
-    let refused = sym (c .before .before .before .check-load .ensures) ∙ c .before .cause .given .1 in
-    (sym (outcome-refused _ _ refused), (sym (outcome-refused _ _ refused), (sym (outcome-refused _ _ refused), sym (outcome-refused _ _ refused))))
+    let refused = sym (c .before .before .before .check-load .ensures) ∙ c .before .cause .given .1 in (
+      sym (outcome-refused _ _ refused),
+      (sym (outcome-refused _ _ refused), (sym (outcome-refused _ _ refused), sym (outcome-refused _ _ refused))),
+    )
 
 pub load-spec : {M : Type 1} → statement M
 load-spec =

@@ -1,7 +1,7 @@
 -- `match_input` meets its contract: the text is that of the library's first cause, or of what follows the library. Assumes nothing.
 use mathlib.Core.Path.{_≡_, sym}
 use borrow.Author.Needs.{needs}
-use Rattle.text.specs.Text.{refusedText}
+use Rattle.matching.specs.Answer.{refusedText}
 use Rattle.matching.specs.Match.{matchText}
 use Rattle.text.specs.Puts.{puts-same}
 use Rattle.matching.specs.Steps.{loaded-refused, loaded-holds}
@@ -17,14 +17,17 @@ match-loaded-requires c κs =
     let load = told .before .before .before .before .before .before in
     let pre = start load .pre in
     let of = load .load .ensures in
-    loaded-holds (start load .args .input .now) (pre .0) (pre .1) (pre .2) (of .0) (told .enum-told .given .1) _ _ _ (of .1 .0) (of .1 .1 .0) (of .1 .1 .1)
+    let input = start load .args .input .now in
+    let accepted = told .enum-told .given .1 in
+    (loaded-holds input (pre .0 .0) (pre .0 .1) (pre .0 .2) (of .0) accepted _ _ _ (of .1 .0) (of .1 .1 .0) (of .1 .1 .1), pre .1)
 
 -- the library is refused
-refused-is : (c : tie.After-verdict) → let load = c .before .before .before .before .before .before in matchText (start load .args .input .now) ≡ refusedText (c .verdict .given .0 .0)
+refused-is : (c : tie.After-verdict) → let load = c .before .before .before .before .before .before in
+    matchText (start load .args .input .now) ≡ refusedText (c .verdict .given .0 .0)
 refused-is c =
     let load = c .before .before .before .before .before .before in
     let pre = start load .pre in
-    loaded-refused (start load .args .input .now) (pre .0) (pre .1) (pre .2) (load .load .ensures .0) (c .verdict .given .1)
+    loaded-refused (start load .args .input .now) (pre .0 .0) (pre .0 .1) (pre .0 .2) (load .load .ensures .0) (c .verdict .given .1)
 
 returns-2 : tie.Need-returns-2
 returns-2 c =

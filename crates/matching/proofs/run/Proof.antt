@@ -13,14 +13,15 @@ use Rattle.refusal.specs.First.{first, first-here, first-next, first-none, outc
 use Rattle.matching.specs.declared.Printed.{Printed}
 use Rattle.matching.specs.Match.{matchText, textRoom, roomCauses}
 use Rattle.matching.specs.Room.{text-room}
-use Rattle.text.specs.Puts.{puts-length, puts-front}
+use Rattle.text.specs.Puts.{puts-length, puts-front, front-fits}
 use Rattle.matching.proofs.run.Statement.{statement}
 use Rattle.matching.proofs.run.Tie as tie
 
 returns : tie.Need-returns
 returns c =
     let s = c .before .before .before in
-    let refused : first (roomCauses (length (s .args .output .now))) ≡ Refused Length = first-here Length [] (ap not (ne-eqb _ textRoom (c .if1 .taken))) in
+    let refused : first (roomCauses (length (s .args .output .now))) ≡ Refused Length =
+    first-here Length [] (ap not (ne-eqb _ textRoom (c .if1 .taken))) in
     (sym (outcome-refused _ _ refused), sym (outcome-refused _ _ refused))
 
 -- the output has room
@@ -34,11 +35,11 @@ returns-2 c =
     let put = c .before .before .before .before .before in
     let tested = put .before .before .before .before .before in
     let s = tested .before .before .before in
-    let accepted : first (roomCauses (length (s .args .output .now))) ≡ Accepted = first-next Length [] (ap not (eq-eqb _ textRoom (tested .if1 .left))) ∙ first-none in
-    let puts = put .match-input .ensures in
-    let count : put .match-input .result ≡ length (matchText (s .args .input .now)) = omega (arith, puts .end) in (
-      ap {B = Printed} (λ n. record { verdict = Accepted; length = n }) count ∙ sym (outcome-accepted _ _ accepted),
-      puts-front puts (room tested) ∙ sym (outcome-accepted _ _ accepted),
+    let accepted : first (roomCauses (length (s .args .output .now))) ≡ Accepted =
+    first-next Length [] (ap not (eq-eqb _ textRoom (tested .if1 .left))) ∙ first-none in
+    let front = puts-front (put .match-input .ensures) in (
+      ap {B = Printed} (λ n. record { verdict = Accepted; length = n }) (front .0) ∙ sym (outcome-accepted _ _ accepted),
+      front .1 ∙ front-fits _ (s .args .output .now) (room tested) ∙ sym (outcome-accepted _ _ accepted),
     )
 
 pub run-spec : {M : Type 1} → statement M
@@ -49,6 +50,6 @@ run-spec =
     (λ c. search needs)
     (λ c. search needs)
     (λ c. search needs)
-    (λ c κs. (refl, refl, refl))
+    (λ c κs. ((refl, refl, refl), room (c .before .before .before .before)))
     (λ c. puts-length (c .before .before .before .before .before .match-input .ensures))
     returns-2)

@@ -23,7 +23,8 @@ module _ (placed : Bool) (bytes : List ℕ) (at : ℕ) where
   at-end past = rw (length-drop at bytes, eq-eqb (length bytes - at) 0 (omega arith))
 
   before-end : at < length bytes → first (frameCauses placed (drop at bytes))
-      ≡ first ((not (isKind (getD bytes at 0)) ⇒ Kind) ∷ (not placed ⇒ Misplaced) ∷ (ltb (length bytes - at) (recordLength (getD bytes at 0)) ⇒ Truncated) ∷ [])
+      ≡ first ((not (isKind (getD bytes at 0)) ⇒ Kind) ∷ (not placed ⇒ Misplaced) ∷
+      (ltb (length bytes - at) (recordLength (getD bytes at 0)) ⇒ Truncated) ∷ [])
   unfolding first frameCauses
   before-end within = rw (length-drop at bytes, kind-at bytes at, ne-eqb (length bytes - at) 0 (λ e. omega arith))
 
@@ -33,30 +34,41 @@ returns c =
     sym (at-end (args .placed) (args .bytes .now) (args .at) (c .if1 .taken))
 
 -- the kind is known or not
-kind-known : (c : tie.After-is-kind) → c .is-kind .result ≡ isKind (getD (c .before .before .before .before .args .bytes .now) (c .before .before .before .before .args .at) 0)
+kind-known : (c : tie.After-is-kind)
+    → c .is-kind .result
+    ≡ isKind (getD (c .before .before .before .before .args .bytes .now) (c .before .before .before .before .args .at) 0)
 kind-known c = rw (← c .before .byte-at .ensures) (c .is-kind .ensures)
 
 returns-2 : tie.Need-returns-2
 unfolding first
 returns-2 c =
     let args = c .before .before .before .before .before .args in
-    sym (before-end (args .placed) (args .bytes .now) (args .at) (c .before .before .before .if1 .left) ∙ rw (← kind-known (c .before), c .if2 .taken))
+    sym (before-end (args .placed) (args .bytes .now) (args .at) (c .before .before .before .if1 .left)
+    ∙ rw (← kind-known (c .before), c .if2 .taken))
 
 returns-3 : tie.Need-returns-3
 unfolding first
 returns-3 c =
     let args = c .before .before .before .before .before .before .args in
-    sym (before-end (args .placed) (args .bytes .now) (args .at) (c .before .before .before .before .if1 .left) ∙ rw (← kind-known (c .before .before), c .before .if2 .left, c .if3 .taken))
+    sym (before-end (args .placed) (args .bytes .now) (args .at) (c .before .before .before .before .if1 .left)
+    ∙ rw (← kind-known (c .before .before), c .before .if2 .left, c .if3 .taken))
 
 -- the body's end is what is left to test
 last-test : (c : tie.After-record-length) → let args = c .before .before .before .before .before .before .before .args in
-    first (frameCauses (args .placed) (drop (args .at) (args .bytes .now))) ≡ first ((ltb (length (args .bytes .now) - args .at) (c .record-length .result) ⇒ Truncated) ∷ [])
+    first (frameCauses (args .placed) (drop (args .at) (args .bytes .now)))
+    ≡ first ((ltb (length (args .bytes .now) - args .at) (c .record-length .result) ⇒ Truncated) ∷ [])
 unfolding first
 last-test c =
     let known = c .before .before .before in
     let args = known .before .before .before .before .args in
     before-end (args .placed) (args .bytes .now) (args .at) (known .before .before .if1 .left)
-    ∙ rw (← kind-known known, c .before .before .if2 .left, c .before .if3 .left, ← known .before .byte-at .ensures, ← c .record-length .ensures)
+    ∙ rw (
+      ← kind-known known,
+      c .before .before .if2 .left,
+      c .before .if3 .left,
+      ← known .before .byte-at .ensures,
+      ← c .record-length .ensures,
+    )
 
 returns-4 : tie.Need-returns-4
 unfolding first

@@ -25,7 +25,15 @@ not-among : (kind : ℕ) → ((k : ℕ) → 1 ≤ k → k ≤ 7 → kind ≡ k �
 unfolding isKind isAmong formats
 not-among kind none =
     let other : (k : ℕ) → 1 ≤ k → k ≤ 7 → eqb kind k ≡ false = λ k some few. ne-eqb kind k (none k some few) in
-    rw (other 1 (omega arith) (omega arith), other 2 (omega arith) (omega arith), other 3 (omega arith) (omega arith), other 4 (omega arith) (omega arith), other 5 (omega arith) (omega arith), other 6 (omega arith) (omega arith), other 7 (omega arith) (omega arith))
+    rw (
+      other 1 (omega arith) (omega arith),
+      other 2 (omega arith) (omega arith),
+      other 3 (omega arith) (omega arith),
+      other 4 (omega arith) (omega arith),
+      other 5 (omega arith) (omega arith),
+      other 6 (omega arith) (omega arith),
+      other 7 (omega arith) (omega arith),
+    )
 
 pub is-kind-spec : {M : Type 1} → statement M
 is-kind-spec =

@@ -9,7 +9,15 @@ unfolding recordLength sum widthsOf widthsAmong formats
 returns-8 c =
     let kind = c .before .args .kind in
     let none = c .match .rest in
-    rw (ne-eqb kind 1 (none .0 .0 .0 .0 .0 .0 .1), ne-eqb kind 2 (none .0 .0 .0 .0 .0 .1), ne-eqb kind 3 (none .0 .0 .0 .0 .1), ne-eqb kind 4 (none .0 .0 .0 .1), ne-eqb kind 5 (none .0 .0 .1), ne-eqb kind 6 (none .0 .1), ne-eqb kind 7 (none .1))
+    rw (
+      ne-eqb kind 1 (none .0 .0 .0 .0 .0 .0 .1),
+      ne-eqb kind 2 (none .0 .0 .0 .0 .0 .1),
+      ne-eqb kind 3 (none .0 .0 .0 .0 .1),
+      ne-eqb kind 4 (none .0 .0 .0 .1),
+      ne-eqb kind 5 (none .0 .0 .1),
+      ne-eqb kind 6 (none .0 .1),
+      ne-eqb kind 7 (none .1),
+    )
 
 pub record-length-spec : {M : Type 1} → statement M
 unfolding recordLength sum widthsOf widthsAmong formats

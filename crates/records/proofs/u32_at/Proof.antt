@@ -11,7 +11,8 @@ use Rattle.records.specs.ByteLaws.{from-none, from-below, bytes-drop}
 use Rattle.records.proofs.u32_at.Statement.{statement}
 use Rattle.records.proofs.u32_at.Tie as tie
 
-halves : (bytes : List ℕ) (at : ℕ) → fromLowFirst 4 (drop at bytes) ≡ fromLowFirst 2 (drop at bytes) + 65536 * fromLowFirst 2 (drop (at + 2) bytes)
+halves : (bytes : List ℕ) (at : ℕ)
+    → fromLowFirst 4 (drop at bytes) ≡ fromLowFirst 2 (drop at bytes) + 65536 * fromLowFirst 2 (drop (at + 2) bytes)
 unfolding fromLowFirst
 halves bytes at = rw (← drop-drop 2 at bytes, drop-drop 1 1 (drop at bytes)) (omega arith)
 
@@ -24,7 +25,8 @@ small c =
     let start = c .before .before .before in
     let bytes = start .before .args .bytes .now in
     let at = start .before .args .at in
-    let half : (n : ℕ) → fromLowFirst 2 (drop n bytes) < 65536 = λ n. from-below 2 (drop n bytes) (bytes-drop n bytes (λ i. start .shared-slice-known .given i .fits)) in
+    let half : (n : ℕ) → fromLowFirst 2 (drop n bytes) < 65536 =
+    λ n. from-below 2 (drop n bytes) (bytes-drop n bytes (λ i. start .shared-slice-known .given i .fits)) in
     (rw (c .before .u16-at .ensures) (half at), rw (c .u16-at2 .ensures) (half (at + 2)))
 
 returns-2 : tie.Need-returns-2

@@ -34,39 +34,52 @@ more-length : (x : ℕ) → 10 ≤ x → length (decimal x) ≡ length (decimal 
 more-length x large = ap length (decimal-more x large) ∙ length-append (decimal (x / 10)) (digit (x % 10) ∷ [])
 
 module _ {t : ℕ} where
-  one-requires : put-number-lts.Need-put-byte-requires (put-byte.Asked, put-byte.Learnt, put-number-below t, put-number.Post) (put-number-at t) put-number.Post
+  one-requires :
+      put-number-lts.Need-put-byte-requires (put-byte.Asked, put-byte.Learnt, put-number-below t, put-number.Post)
+      (put-number-at t) put-number.Post
   one-requires c κs =
       let start = c .before .before .before in
       omega (arith, start .pre .1, one-length (start .args .x) (c .before .if1 .taken))
 
-  returns : put-number-lts.Need-returns (put-byte.Asked, put-byte.Learnt, put-number-below t, put-number.Post) (put-number-at t) put-number.Post
+  returns :
+      put-number-lts.Need-returns (put-byte.Asked, put-byte.Learnt, put-number-below t, put-number.Post)
+      (put-number-at t) put-number.Post
   returns c =
       let byte = c .before .before in
       let small = byte .before .before in
       puts-same (sym (decimal-one (small .before .before .args .x) (small .if1 .taken))) (byte .put-byte .ensures)
 
-  calls : put-number-lts.Need-put-number-requires (put-byte.Asked, put-byte.Learnt, put-number-below t, put-number.Post) (put-number-at t) put-number.Post
+  calls :
+      put-number-lts.Need-put-number-requires (put-byte.Asked, put-byte.Learnt, put-number-below t, put-number.Post)
+      (put-number-at t) put-number.Post
   calls c κs =
       let start = c .before .before .before in
       (omega (arith, start .pre .0), omega (arith, start .pre .1, more-length (start .args .x) (c .before .if1 .left)))
 
-  last-requires : put-number-lts.Need-put-byte-requires-2 (put-byte.Asked, put-byte.Learnt, put-number-below t, put-number.Post) (put-number-at t) put-number.Post
+  last-requires :
+      put-number-lts.Need-put-byte-requires-2 (put-byte.Asked, put-byte.Learnt, put-number-below t, put-number.Post)
+      (put-number-at t) put-number.Post
   last-requires c κs =
       let number = c .before .before .before in
       let start = number .before .before .before .before in
       omega (arith, start .pre .1, more-length (start .args .x) (number .before .before .if1 .left), number .put-number .ensures .end)
 
-  same-length-2 : put-number-lts.Need-same-length-2 (put-byte.Asked, put-byte.Learnt, put-number-below t, put-number.Post) (put-number-at t) put-number.Post
+  same-length-2 :
+      put-number-lts.Need-same-length-2 (put-byte.Asked, put-byte.Learnt, put-number-below t, put-number.Post)
+      (put-number-at t) put-number.Post
   same-length-2 c =
       let byte = c .before .before in
       puts-length (byte .put-byte2 .ensures) ∙ puts-length (byte .before .before .before .before .put-number .ensures)
 
-  returns-2 : put-number-lts.Need-returns-2 (put-byte.Asked, put-byte.Learnt, put-number-below t, put-number.Post) (put-number-at t) put-number.Post
+  returns-2 :
+      put-number-lts.Need-returns-2 (put-byte.Asked, put-byte.Learnt, put-number-below t, put-number.Post)
+      (put-number-at t) put-number.Post
   returns-2 c =
       let byte = c .before .before in
       let number = byte .before .before .before .before in
       let large = number .before .before in
-      puts-same (sym (decimal-more (large .before .before .args .x) (large .if1 .left))) (puts-more (number .put-number .ensures) (byte .put-byte2 .ensures))
+      let digits = puts-more (number .put-number .ensures) (byte .put-byte2 .ensures) in
+      puts-same (sym (decimal-more (large .before .before .args .x) (large .if1 .left))) digits
 
 pub +put-number-spec : {M : Type 1} → statement M
 +put-number-spec =

@@ -26,7 +26,22 @@ module _ (c : tie.Start) where
   few-marks = rw marks-counted (marks-few (c .args .d) (c .args .b) (can .shaped))
 
   whole : length (c .args .bytes .now) ≡ 5 + length (c .args .marks .now) * 5 + c .args .n * 69 + 1
-  whole = can .sizes .bytes-count ∙ library-length (c .args .d) (c .args .b) (c .args .n) ∙ ap (λ (m : ℕ). 5 + m * 5 + c .args .n * 69 + 1) (sym marks-counted)
+  whole =
+      can .sizes .bytes-count ∙ library-length (c .args .d) (c .args .b) (c .args .n)
+      ∙ ap (λ (m : ℕ). 5 + m * 5 + c .args .n * 69 + 1) (sym marks-counted)
+
+-- the states behind the head and behind the marks, and the start
+abbrev before-head : tie.After-write-head → tie.Start
+before-head c = c .before .before .before .before
+
+abbrev before-marks : tie.After-write-marks → tie.After-write-head
+before-marks c = c .before .before .before .before
+
+abbrev before-vectors : tie.After-write-vectors → tie.After-write-marks
+before-vectors c = c .before .before .before .before
+
+abbrev begin : tie.After-write-vectors → tie.Start
+begin c = before-head (before-marks (before-vectors c))
 
 write-head-requires : tie.Need-write-head-requires
 write-head-requires c κs = rw (mark-place 0) (omega (arith, whole (c .before .before .before)))
@@ -34,14 +49,16 @@ write-head-requires c κs = rw (mark-place 0) (omega (arith, whole (c .before .b
 write-marks-requires : tie.Need-write-marks-requires
 write-marks-requires c κs =
     let head = c .before .before .before in
-    let start = head .before .before .before .before in
-    (omega (arith, few-marks start), rw (mark-place (length (start .args .marks .now))) (omega (arith, whole start, head .write-head .kept)))
+    let start = before-head head in (
+      omega (arith, few-marks start),
+      rw (mark-place (length (start .args .marks .now))) (omega (arith, whole start, head .write-head .kept)),
+    )
 
 write-vectors-requires : tie.Need-write-vectors-requires
 write-vectors-requires c κs =
     let marks = c .before .before .before in
-    let head = marks .before .before .before .before in
-    let start = head .before .before .before .before in
+    let head = before-marks marks in
+    let start = before-head head in
     record {
       few-dimensions = can start .shaped .few;
       few = can start .few;
@@ -49,34 +66,43 @@ write-vectors-requires c κs =
       settings-count = can start .sizes .settings-count;
       components-count = can start .sizes .components-count;
       of-components = can start .components;
-      fits = rw (vector-place (length (start .args .marks .now)) (start .args .n)) (omega (arith, whole start, head .write-head .kept, marks .write-marks .kept));
+      fits = rw (vector-place (length (start .args .marks .now)) (start .args .n))
+          (omega (arith, whole start, head .write-head .kept, marks .write-marks .kept));
     }
 
 put-byte-requires : tie.Need-put-byte-requires
 put-byte-requires c κs =
     let vectors = c .before .before .before .before in
-    let marks = vectors .before .before .before .before in
-    let head = marks .before .before .before .before in
-    let start = head .before .before .before .before in
-    omega (arith, c .vector-place .ensures, vector-place (length (start .args .marks .now)) (start .args .n), whole start, head .write-head .kept, marks .write-marks .kept, vectors .write-vectors .kept)
+    let marks = before-vectors vectors in
+    let head = before-marks marks in
+    let start = before-head head in
+    omega (
+      arith,
+      c .vector-place .ensures,
+      vector-place (length (start .args .marks .now)) (start .args .n),
+      whole start,
+      head .write-head .kept,
+      marks .write-marks .kept,
+      vectors .write-vectors .kept,
+    )
 
 -- the buffer's length is kept by all four
-kept : (c : tie.After-put-byte) → let start = c .before .before .before .before .before .before .before .before .before .before .before .before .before .before .before .before .before in
-    length (c .put-byte .last .0) ≡ length (start .args .bytes .now)
+kept : (c : tie.After-put-byte) → length (c .put-byte .last .0) ≡ length (begin (c .before .before .before .before .before) .args .bytes .now)
 kept c =
     let vectors = c .before .before .before .before .before in
-    let marks = vectors .before .before .before .before in
-    let head = marks .before .before .before .before in
-    c .put-byte .kept .0 ∙ vectors .write-vectors .kept .1 .1 .1 .1 .1 .0 ∙ marks .write-marks .kept .1 .0 ∙ head .write-head .kept .1 .1 .1 .0
+    let marks = before-vectors vectors in
+    let head = before-marks marks in
+    c .put-byte .kept .0 ∙ vectors .write-vectors .kept .1 .1 .1 .1 .1 .0 ∙ marks .write-marks .kept .1 .0
+    ∙ head .write-head .kept .1 .1 .1 .0
 
 returns : tie.Need-returns
 unfolding libraryBytes
 returns c =
     let last = c .before .before in
     let vectors = last .before .before .before .before .before in
-    let marks = vectors .before .before .before .before in
-    let head = marks .before .before .before .before in
-    let start = head .before .before .before .before in
+    let marks = before-vectors vectors in
+    let head = before-marks marks in
+    let start = before-head head in
     let m = length (start .args .marks .now) in
     let full : last .before .vector-place .result + 1 ≡ length (last .put-byte .last .0) =
     omega (arith, last .before .vector-place .ensures, vector-place m (start .args .n), whole start, kept last) in
@@ -84,7 +110,15 @@ returns c =
     let filled = rw full at (last .put-byte .ensures) in
     sym (take-all (length (last .put-byte .last .0)) (last .put-byte .last .0) (omega arith))
     ∙ filled
-    ∙ rw (last .before .vector-place .ensures, vectors .write-vectors .ensures, from, marks .write-marks .ensures, head .write-head .ensures, marks-counted start, end-part)
+    ∙ rw (
+      last .before .vector-place .ensures,
+      vectors .write-vectors .ensures,
+      from,
+      marks .write-marks .ensures,
+      head .write-head .ensures,
+      marks-counted start,
+      end-part,
+    )
 
 pub write-all-spec : {M : Type 1} → statement M
 write-all-spec =
@@ -93,8 +127,8 @@ write-all-spec =
     write-head-requires
     write-marks-requires
     write-vectors-requires
-    (λ c. omega (arith, few-marks (c .before .before .before .before .before .before .before .before .before .before .before .before .before .before .before)))
-    (λ c. omega (arith, can (c .before .before .before .before .before .before .before .before .before .before .before .before .before .before .before) .few))
+    (λ c. omega (arith, few-marks (begin (c .before .before .before))))
+    (λ c. omega (arith, can (begin (c .before .before .before)) .few))
     (λ c κs. search needs)
     (λ c. search needs)
     put-byte-requires

@@ -30,7 +30,8 @@ returns c =
     let now = here .before .before in
     let args = now .before .before .args in
     let refused = sym (here .check-mark .ensures) ∙ c .before .cause .given .1 in
-    sym (each-stops (args .count) (markCauses (args .bytes .now) (args .from)) (now .loop .i) (here .before .loop-test .taken) (now .loop .inv .1) refused)
+    sym (each-stops (args .count) (markCauses (args .bytes .now) (args .from)) (now .loop .i) (here .before .loop-test .taken)
+    (now .loop .inv .1) refused)
 
 returns-2 : tie.Need-returns-2 Inv-loop μ-loop
 returns-2 c =

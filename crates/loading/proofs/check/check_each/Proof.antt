@@ -35,8 +35,11 @@ loop-again c =
     let vector = c .before .before in
     let now = vector .before .before .before in
     let args = now .before .before .args in
-    let passes = sym (here vector) ∙ c .enum-told .given .1 in
-    (omega (arith, vector .before .before .loop-test .taken), each-more (now .loop .i) (causes (args .bytes .now) (args .d) (args .m) (args .lows .now) (args .highs .now)) (now .loop .inv .1) passes)
+    let passes = sym (here vector) ∙ c .enum-told .given .1 in (
+      omega (arith, vector .before .before .loop-test .taken),
+      each-more (now .loop .i) (causes (args .bytes .now) (args .d) (args .m) (args .lows .now) (args .highs .now))
+          (now .loop .inv .1) passes,
+    )
 
 returns : tie.Need-returns Inv-loop μ-loop
 returns c =
@@ -44,7 +47,8 @@ returns c =
     let now = vector .before .before .before in
     let args = now .before .before .args in
     let refused = sym (here vector) ∙ c .before .cause .given .1 in
-    sym (each-stops (args .n) (causes (args .bytes .now) (args .d) (args .m) (args .lows .now) (args .highs .now)) (now .loop .i) (vector .before .before .loop-test .taken) (now .loop .inv .1) refused)
+    sym (each-stops (args .n) (causes (args .bytes .now) (args .d) (args .m) (args .lows .now) (args .highs .now)) (now .loop .i)
+    (vector .before .before .loop-test .taken) (now .loop .inv .1) refused)
 
 returns-2 : tie.Need-returns-2 Inv-loop μ-loop
 returns-2 c =

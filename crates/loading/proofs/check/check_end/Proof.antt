@@ -14,14 +14,16 @@ use Rattle.loading.proofs.check.check_end.Statement.{statement}
 use Rattle.loading.proofs.check.check_end.Tie as tie
 
 -- the head
-head : (c : tie.After-counts-of) → let counts = c .counts-of .result in HeadOf (c .before .before .args .bytes .now) (counts .d) (counts .b) (counts .n)
+head : (c : tie.After-counts-of) → let counts = c .counts-of .result in
+    HeadOf (c .before .before .args .bytes .now) (counts .d) (counts .b) (counts .n)
 head c =
     let start = c .before .before in
     let is = c .counts-of .ensures in
     head-of (start .args .bytes .now) (start .pre) (is .0) (is .1) (is .2)
 
 -- the number of marks
-counted : (c : tie.After-marks-length) → let counts = c .before .counts-of .result in c .marks-length .result ≡ markTotal (counts .d) (counts .b)
+counted : (c : tie.After-marks-length) → let counts = c .before .counts-of .result in
+    c .marks-length .result ≡ markTotal (counts .d) (counts .b)
 counted c =
     let counts = c .before .counts-of .result in
     c .marks-length .ensures ∙ marks-length-is (counts .d) (counts .b) (head (c .before) .of-shape .shape-passes)
@@ -38,7 +40,8 @@ returns c =
     let bytes = marks .before .before .before .args .bytes .now in
     let counts = marks .before .counts-of .result in
     let is = head (marks .before) in
-    frame-at {place = vectorPlace (markTotal (counts .d) (counts .b)) (counts .n)} endKind bytes (place .vector-place .ensures ∙ rw (counted marks)) (c .before .byte-at .ensures) (c .check-frame .ensures)
+    frame-at {place = vectorPlace (markTotal (counts .d) (counts .b)) (counts .n)} endKind bytes
+    (place .vector-place .ensures ∙ rw (counted marks)) (c .before .byte-at .ensures) (c .check-frame .ensures)
     ∙ rw (append-nil, is .of-shape .d-is, is .of-shape .b-is, is .n-is)
 
 pub check-end-spec : {M : Type 1} → statement M

@@ -14,7 +14,9 @@ use Rattle.loading.proofs.check.check_head.Tie as tie
 -- the frame's verdict
 frame : (c : tie.After-check-frame) → let bytes = c .before .before .before .before .args .bytes .now in
     c .check-frame .result ≡ first (frameCauses (eqb (kindOf bytes) headKind) bytes)
-frame c = frame-at {place = 0} headKind (c .before .before .before .before .args .bytes .now) refl (c .before .byte-at .ensures) (c .check-frame .ensures)
+frame c =
+    frame-at {place = 0} headKind (c .before .before .before .before .args .bytes .now) refl (c .before .byte-at .ensures)
+    (c .check-frame .ensures)
 
 returns : tie.Need-returns
 unfolding readLibrary

@@ -17,9 +17,12 @@ use Rattle.loading.proofs.check.check_mark.Statement.{statement}
 use Rattle.loading.proofs.check.check_mark.Tie as tie
 
 -- the frame's verdict
-frame : (c : tie.After-check-frame) → let args = c .before .before .before .before .args in let rest = drop (markPlace (args .from + args .i)) (args .bytes .now) in
+frame : (c : tie.After-check-frame) → let args = c .before .before .before .before .args in
+    let rest = drop (markPlace (args .from + args .i)) (args .bytes .now) in
     c .check-frame .result ≡ first (frameCauses (eqb (kindOf rest) markKind) rest)
-frame c = frame-at markKind (c .before .before .before .before .args .bytes .now) (c .before .before .mark-place .ensures) (c .before .byte-at .ensures) (c .check-frame .ensures)
+frame c =
+    frame-at markKind (c .before .before .before .before .args .bytes .now) (c .before .before .mark-place .ensures)
+    (c .before .byte-at .ensures) (c .check-frame .ensures)
 
 -- behind a frame that passes, the mark is what is left to test
 own : (c : tie.After-is-mark-wrong) → let args = c .before .before .before .before .before .before .before .args in
@@ -28,7 +31,8 @@ own c =
     let framed = c .before .before .before in
     let args = framed .before .before .before .before .args in
     let rest = drop (markPlace (args .from + args .i)) (args .bytes .now) in
-    go-on (frameCauses (eqb (kindOf rest) markKind) rest) _ (sym (frame framed) ∙ c .before .enum-told .given .1) ∙ rw (← c .is-mark-wrong .ensures)
+    go-on (frameCauses (eqb (kindOf rest) markKind) rest) _ (sym (frame framed) ∙ c .before .enum-told .given .1)
+    ∙ rw (← c .is-mark-wrong .ensures)
 
 returns : tie.Need-returns
 unfolding first

@@ -1,5 +1,5 @@
 -- `check_marks` meets its contract: the dimensions so far pass. Assumes nothing.
-use mathlib.Core.Path.{_≡_, sym, _∙_}
+use mathlib.Core.Path.{_≡_, sym, ap₂, _∙_}
 use mathlib.Core.List.{List}
 use Prim.Native.Nat.{ℕ, suc, _+_, _-_, _≤_}
 use native.Mathlib.Omega.{arith}
@@ -9,8 +9,9 @@ use Rattle.refusal.specs.First.{Row, first, first-none}
 use Rattle.layout.specs.Layout.{markCount, firstMarks}
 use Rattle.layout.specs.Stretch.{shape}
 use Rattle.library.specs.Each.{each}
-use Rattle.library.specs.Sizes.{EndsAt, ends-at}
+use Rattle.library.specs.Sizes.{EndsAt, stretch-bits, ends-at}
 use Rattle.library.specs.EachLaws.{each-more, each-stops}
+use Rattle.loading.specs.declared.values.Counts.{Counts}
 use Rattle.loading.specs.Load.{markCauses}
 use Rattle.loading.specs.Heads.{HeadOf, head-of}
 use Rattle.loading.proofs.check.check_marks.Statement.{statement}
@@ -27,49 +28,70 @@ abbrev μ-loop : tie.MeasureT-loop
 μ-loop bytes counts t₀ t = counts .d - t
 
 -- the head
-head : (c : tie.After-counts-of Inv-loop μ-loop) → let counts = c .counts-of .result in HeadOf (c .before .before .args .bytes .now) (counts .d) (counts .b) (counts .n)
+head : (c : tie.After-counts-of Inv-loop μ-loop) → let counts = c .counts-of .result in
+    HeadOf (c .before .before .args .bytes .now) (counts .d) (counts .b) (counts .n)
 head c =
     let start = c .before .before in
     let is = c .counts-of .ensures in
     head-of (start .args .bytes .now) (start .pre) (is .0) (is .1) (is .2)
 
--- the numbers of a dimension's first and last mark
-ends-are : (c : tie.After-ends-of Inv-loop μ-loop) → let now = c .before .before .before in let counts = now .before .counts-of .result in
-    EndsAt (counts .d) (counts .b) (now .loop .t) (c .ends-of .result .first) (c .ends-of .result .last)
-ends-are c =
+regions-requires : tie.Need-regions-requires Inv-loop μ-loop
+regions-requires c κs =
     let now = c .before .before .before in
     let counts = now .before .counts-of .result in
-    ends-at (counts .d) (counts .b) (now .loop .t) (head (now .before) .of-shape .shape-passes) (c .before .if1 .taken) (c .ends-of .ensures)
+    stretch-bits (counts .d) (counts .b) (now .loop .t) (head (now .before) .of-shape .shape-passes) (c .before .if1 .taken)
+    (c .stretch-of .ensures)
+
+-- the turn of the loop, and the numbers of its dimension's first and last mark
+module _ (c : tie.After-regions Inv-loop μ-loop) where
+  abbrev turn : tie.Then1 Inv-loop μ-loop
+  turn = c .before .before
+
+  abbrev now : tie.At-loop Inv-loop μ-loop
+  now = turn .before .before
+
+  abbrev counts : Counts
+  counts = now .before .counts-of .result
+
+  ends-are : let s = c .before .stretch-of .result in
+      EndsAt (counts .d) (counts .b) (now .loop .t) (s .offset) (s .offset + c .regions .result)
+  ends-are =
+      let passes = head (now .before) .of-shape .shape-passes in
+      ends-at (counts .d) (counts .b) (now .loop .t) passes (turn .if1 .taken) (c .before .stretch-of .ensures) (c .regions .ensures)
 
 -- the verdict on a dimension
-here : (c : tie.After-check-dimension Inv-loop μ-loop) → let now = c .before .before .before .before .before in let counts = now .before .counts-of .result in
-    c .check-dimension .result ≡ first (causes (now .before .before .before .args .bytes .now) (counts .d) (counts .b) (now .loop .t))
+here : (c : tie.After-check-dimension Inv-loop μ-loop) → let at = c .before in
+    c .check-dimension .result
+    ≡ first (causes (now at .before .before .before .args .bytes .now) (counts at .d) (counts at .b) (now at .loop .t))
 here c =
-    let ends = c .before .before .ends-of in
-    let is = ends-are (c .before .before) in
-    let counts = c .before .before .before .before .before .before .counts-of .result in
-    let t = c .before .before .before .before .before .loop .t in
-    let count : ends .result .last - ends .result .first + 1 ≡ markCount (counts .d) (counts .b) (suc t) = omega (arith, is .first-is, is .last-is) in
-    c .check-dimension .ensures ∙ rw (count, is .first-is)
+    let at = c .before in
+    let is = ends-are at in
+    let count : at .regions .result + 1 ≡ markCount (counts at .d) (counts at .b) (suc (now at .loop .t)) =
+    omega (arith, is .first-is, is .last-is) in
+    let bytes = now at .before .before .before .args .bytes .now in
+    c .check-dimension .ensures ∙ ap₂ (λ (m from : ℕ). first (each m (markCauses bytes from))) count (is .first-is)
 
 loop-again : tie.Need-loop-again Inv-loop μ-loop
 loop-again c =
     let dimension = c .before .before in
-    let now = dimension .before .before .before .before .before in
-    let counts = now .before .counts-of .result in
-    let bytes = now .before .before .before .args .bytes .now in
-    let passes = sym (here dimension) ∙ c .enum-told .given .1 in
-    (omega (arith, dimension .before .before .before .if1 .taken), each-more (now .loop .t) (causes bytes (counts .d) (counts .b)) (now .loop .inv .1) passes)
+    let at = dimension .before in
+    let bytes = now at .before .before .before .args .bytes .now in
+    let passes = sym (here dimension) ∙ c .enum-told .given .1 in (
+      omega (arith, turn at .if1 .taken),
+      each-more (now at .loop .t) (causes bytes (counts at .d) (counts at .b)) (now at .loop .inv .1) passes,
+    )
 
 returns : tie.Need-returns Inv-loop μ-loop
 returns c =
     let dimension = c .before .before .before in
-    let now = dimension .before .before .before .before .before in
-    let counts = now .before .counts-of .result in
-    let bytes = now .before .before .before .args .bytes .now in
-    let is = head (now .before) .of-shape in
+    let at = dimension .before in
+    let bytes = now at .before .before .before .args .bytes .now in
+    let is = head (now at .before) .of-shape in
     let refused = sym (here dimension) ∙ c .before .cause .given .1 in
-    rw (is .d-is, is .b-is) (sym (each-stops (counts .d) (causes bytes (counts .d) (counts .b)) (now .loop .t) (dimension .before .before .before .if1 .taken) (now .loop .inv .1) refused))
+    let stops =
+    each-stops (counts at .d) (causes bytes (counts at .d) (counts at .b)) (now at .loop .t) (turn at .if1 .taken)
+    (now at .loop .inv .1) refused in
+    rw (is .d-is, is .b-is) (sym stops)
 
 returns-2 : tie.Need-returns-2 Inv-loop μ-loop
 returns-2 c =
@@ -98,12 +120,12 @@ check-marks-spec =
     (λ c. (omega arith, first-none))
     (λ c. omega (arith, few c))
     (λ c κs. search needs)
-    (λ c. omega (arith, ends-are (c .before) .first-is, ends-are (c .before) .last-is))
-    (λ c. omega (arith, ends-are (c .before) .within, ends-are (c .before) .small))
-    (λ c κs. omega (arith, ends-are (c .before) .within, ends-are (c .before) .small, ends-are (c .before) .first-is, ends-are (c .before) .last-is))
+    regions-requires
+    (λ c. omega (arith, ends-are c .within, ends-are c .small))
+    (λ c κs. omega (arith, ends-are c .within, ends-are c .small))
     (λ c. search needs)
-    (λ c. omega (arith, few (c .before .before .before .before .before)))
-    (λ c. omega (arith, c .before .before .before .before .before .if1 .taken))
+    (λ c. omega (arith, few (turn (c .before .before .before))))
+    (λ c. omega (arith, turn (c .before .before .before) .if1 .taken))
     loop-again
     (λ c. search needs)
     returns

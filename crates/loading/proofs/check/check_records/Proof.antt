@@ -27,36 +27,46 @@ module _ (bytes : List ℕ) where
 head-passes : (c : tie.After-enum-told) → first (head (c .before .before .before .before .args .bytes .now)) ≡ Accepted
 head-passes c = sym (c .before .before .check-head .ensures) ∙ c .enum-told .given .1
 
-to-marks-pass : (c : tie.After-enum-told3) → let bytes = c .before .before .before .before .before .before .before .args .bytes .now in first (head bytes ++ marks bytes) ≡ Accepted
+to-marks-pass : (c : tie.After-enum-told3) → let bytes = c .before .before .before .before .before .before .before .args .bytes .now in
+    first (head bytes ++ marks bytes) ≡ Accepted
 to-marks-pass c =
     let bytes = c .before .before .before .before .before .before .before .args .bytes .now in
-    go-on (head bytes) (marks bytes) (head-passes (c .before .before .before)) ∙ sym (c .before .before .check-marks .ensures) ∙ c .enum-told3 .given .1
+    go-on (head bytes) (marks bytes) (head-passes (c .before .before .before)) ∙ sym (c .before .before .check-marks .ensures)
+    ∙ c .enum-told3 .given .1
 
 returns : tie.Need-returns
 returns c =
     let bytes = c .before .before .before .before .args .bytes .now in
     let refused = sym (c .before .before .check-head .ensures) ∙ c .enum-told2 .given .1 in
-    c .enum-told2 .given .1 ∙ sym (stop (head bytes ++ marks bytes ++ vectors bytes) (end bytes) (stop (head bytes ++ marks bytes) (vectors bytes) (stop (head bytes) (marks bytes) refused)))
+    c .enum-told2 .given .1
+    ∙ sym (stop (head bytes ++ marks bytes ++ vectors bytes) (end bytes)
+    (stop (head bytes ++ marks bytes) (vectors bytes) (stop (head bytes) (marks bytes) refused)))
 
 returns-2 : tie.Need-returns-2
 returns-2 c =
     let found = c .before .before in
     let bytes = found .before .before .before .before .before .args .bytes .now in
-    let refused = go-on (head bytes) (marks bytes) (head-passes (found .before)) ∙ sym (found .check-marks .ensures) ∙ c .enum-told4 .given .1 in
-    c .enum-told4 .given .1 ∙ sym (stop (head bytes ++ marks bytes ++ vectors bytes) (end bytes) (stop (head bytes ++ marks bytes) (vectors bytes) refused))
+    let refused =
+    go-on (head bytes) (marks bytes) (head-passes (found .before)) ∙ sym (found .check-marks .ensures) ∙ c .enum-told4 .given .1 in
+    c .enum-told4 .given .1
+    ∙ sym (stop (head bytes ++ marks bytes ++ vectors bytes) (end bytes) (stop (head bytes ++ marks bytes) (vectors bytes) refused))
 
 returns-3 : tie.Need-returns-3
 returns-3 c =
     let found = c .before .before in
     let bytes = found .before .before .before .before .before .before .before .before .args .bytes .now in
-    let refused = go-on (head bytes ++ marks bytes) (vectors bytes) (to-marks-pass (found .before)) ∙ sym (found .check-vectors .ensures) ∙ c .enum-told6 .given .1 in
+    let refused =
+    go-on (head bytes ++ marks bytes) (vectors bytes) (to-marks-pass (found .before)) ∙ sym (found .check-vectors .ensures)
+    ∙ c .enum-told6 .given .1 in
     c .enum-told6 .given .1 ∙ sym (stop (head bytes ++ marks bytes ++ vectors bytes) (end bytes) refused)
 
 returns-4 : tie.Need-returns-4
 returns-4 c =
     let found = c .before .before .before in
     let bytes = found .before .before .before .before .before .before .before .before .args .bytes .now in
-    let passes = go-on (head bytes ++ marks bytes) (vectors bytes) (to-marks-pass (found .before)) ∙ sym (found .check-vectors .ensures) ∙ c .before .enum-told5 .given .1 in
+    let passes =
+    go-on (head bytes ++ marks bytes) (vectors bytes) (to-marks-pass (found .before)) ∙ sym (found .check-vectors .ensures)
+    ∙ c .before .enum-told5 .given .1 in
     c .check-end .ensures ∙ sym (go-on (head bytes ++ marks bytes ++ vectors bytes) (end bytes) passes)
 
 pub check-records-spec : {M : Type 1} → statement M

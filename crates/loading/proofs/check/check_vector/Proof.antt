@@ -19,10 +19,13 @@ use Rattle.loading.proofs.check.check_vector.Tie as tie
 frame : (c : tie.After-check-frame) → let args = c .before .before .before .args in
     let rest = drop (args .at) (args .bytes .now) in
     c .check-frame .result ≡ first (frameCauses (eqb (kindOf rest) vectorKind) rest)
-frame c = frame-at {place = c .before .before .before .args .at} vectorKind (c .before .before .before .args .bytes .now) refl (c .before .byte-at .ensures) (c .check-frame .ensures)
+frame c =
+    frame-at {place = c .before .before .before .args .at} vectorKind (c .before .before .before .args .bytes .now) refl
+    (c .before .byte-at .ensures) (c .check-frame .ensures)
 
 -- a record that passes is whole
-whole : (c : tie.After-enum-told) → let args = c .before .before .before .before .before .args in args .at + recordLength vectorKind ≤ length (args .bytes .now)
+whole : (c : tie.After-enum-told) → let args = c .before .before .before .before .before .args in
+    args .at + recordLength vectorKind ≤ length (args .bytes .now)
 whole c =
     let args = c .before .before .before .before .before .args in
     let rest = drop (args .at) (args .bytes .now) in
@@ -36,7 +39,8 @@ returns c =
     let told = c .before in
     let args = told .before .before .before .before .before .args in
     let rest = drop (args .at) (args .bytes .now) in
-    c .check-components .ensures ∙ sym (go-on (frameCauses (eqb (kindOf rest) vectorKind) rest) _ (sym (frame (told .before .before)) ∙ told .enum-told .given .1))
+    c .check-components .ensures
+    ∙ sym (go-on (frameCauses (eqb (kindOf rest) vectorKind) rest) _ (sym (frame (told .before .before)) ∙ told .enum-told .given .1))
 
 returns-2 : tie.Need-returns-2
 returns-2 c =

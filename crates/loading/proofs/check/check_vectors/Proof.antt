@@ -24,7 +24,8 @@ module _ (c : tie.After-counts-of) where
   few = shape _ _ (head .of-shape .shape-passes) .few
 
 -- the number of marks
-total-is : (c : tie.After-marks-length) → let counts = c .before .counts-of .result in c .marks-length .result ≡ markTotal (counts .d) (counts .b)
+total-is : (c : tie.After-marks-length) → let counts = c .before .counts-of .result in
+    c .marks-length .result ≡ markTotal (counts .d) (counts .b)
 total-is c = c .marks-length .ensures ∙ marks-length-is _ _ (head (c .before) .of-shape .shape-passes)
 
 few-marks : (c : tie.After-marks-length) → c .marks-length .result ≤ 2080
@@ -32,7 +33,8 @@ few-marks c = rw (total-is c) (marks-few _ _ (shape _ _ (head (c .before) .of-sh
 
 -- the buffers hold the ends
 ends : (c : tie.After-read-ends) → let counts = c .before .before .before .before .counts-of .result in
-    EndMarks (counts .d) (counts .b) (markAt (c .before .before .before .before .before .before .args .bytes .now)) (c .read-ends .last .1 .1 .1 .0) (c .read-ends .last .1 .1 .1 .1 .0)
+    EndMarks (counts .d) (counts .b) (markAt (c .before .before .before .before .before .before .args .bytes .now))
+    (c .read-ends .last .1 .1 .1 .0) (c .read-ends .last .1 .1 .1 .1 .0)
 ends c = record { rest = _; rest' = _; lows-are = c .read-ends .ensures .0; highs-are = c .read-ends .ensures .1 }
 
 check-each-requires : tie.Need-check-each-requires
@@ -40,7 +42,11 @@ check-each-requires c κs =
     let filled = c .before .before .before .before in
     let marks = filled .before .before .before in
     let kept = filled .read-ends .kept .1 .1 .1 in (
-      record { few = few (marks .before); low = omega (arith, few (marks .before), kept .0); high = omega (arith, few (marks .before), kept .1 .0) },
+      record {
+        few = few (marks .before);
+        low = omega (arith, few (marks .before), kept .0);
+        high = omega (arith, few (marks .before), kept .1 .0);
+      },
       omega (arith, few-marks marks),
       omega (arith, head (marks .before) .few),
     )

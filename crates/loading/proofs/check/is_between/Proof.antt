@@ -45,7 +45,8 @@ unfolding between
 returns c =
     let inside = c .before .before .before .before .before in
     let args = inside .before .before .before .args in
-    sym (every-fails (args .d) (test (args .lows .now) (args .highs .now) (args .bytes .now) (args .at)) (inside .before .loop .t) (inside .loop-test .taken)
+    sym (every-fails (args .d) (test (args .lows .now) (args .highs .now) (args .bytes .now) (args .at)) (inside .before .loop .t)
+    (inside .loop-test .taken)
     (here (c .before) ∙ not-true (c .before .lies .result) (c .if1 .taken)))
 
 loop-again : tie.Need-loop-again Inv-loop μ-loop
@@ -54,7 +55,8 @@ loop-again c =
     let now = inside .before .loop in
     let args = inside .before .before .before .args in (
       omega (arith, inside .loop-test .taken),
-      every-more (now .t) (test (args .lows .now) (args .highs .now) (args .bytes .now) (args .at)) (now .inv .1) (here (c .before) ∙ not-false (c .before .lies .result) (c .if1 .left)),
+      every-more (now .t) (test (args .lows .now) (args .highs .now) (args .bytes .now) (args .at)) (now .inv .1)
+          (here (c .before) ∙ not-false (c .before .lies .result) (c .if1 .left)),
     )
 
 returns-2 : tie.Need-returns-2 Inv-loop μ-loop
@@ -74,7 +76,10 @@ is-between-spec =
     (λ c. (omega arith, refl))
     (λ c. omega (arith, c .before .before .before .pre .0 .few))
     (λ c. omega (arith, c .before .before .before .pre .0 .low))
-    (λ c κs. (c .before .before .before .before .pre .1, omega (arith, c .before .before .before .before .pre .0 .few, c .before .loop-test .taken)))
+    (λ c κs. (
+      c .before .before .before .before .pre .1,
+      omega (arith, c .before .before .before .before .pre .0 .few, c .before .loop-test .taken),
+    ))
     (λ c. omega (arith, c .before .before .before .before .before .pre .0 .few))
     (λ c. omega (arith, c .before .before .before .before .before .pre .0 .high))
     (λ c κs. search needs)

@@ -38,14 +38,18 @@ unfolding zeroBeyond
 returns c =
     let now = c .before .before .before in
     let args = now .before .before .args in
-    sym (every-fails maxDimensions (test (args .d) (drop (args .at) (args .bytes .now))) (now .loop .t) (c .before .before .loop-test .taken)
+    sym
+    (every-fails maxDimensions (test (args .d) (drop (args .at) (args .bytes .now))) (now .loop .t) (c .before .before .loop-test .taken)
     (here (c .before) ∙ ne-eqb _ _ (c .if1 .taken)))
 
 loop-again : tie.Need-loop-again Inv-loop μ-loop
 loop-again c =
     let now = c .before .before .before in
-    let args = now .before .before .args in
-    (omega (arith, now .loop .inv .0), every-more (now .loop .t) (test (args .d) (drop (args .at) (args .bytes .now))) (now .loop .inv .1) (here (c .before) ∙ eq-eqb _ _ (c .if1 .left)))
+    let args = now .before .before .args in (
+      omega (arith, now .loop .inv .0),
+      every-more (now .loop .t) (test (args .d) (drop (args .at) (args .bytes .now))) (now .loop .inv .1)
+          (here (c .before) ∙ eq-eqb _ _ (c .if1 .left)),
+    )
 
 returns-2 : tie.Need-returns-2 Inv-loop μ-loop
 unfolding zeroBeyond
@@ -53,7 +57,8 @@ returns-2 c =
     let now = c .before .loop in
     let args = c .before .before .before .args in
     let past : maxDimensions ≤ now .t = c .loop-test .left in
-    sym (every-all maxDimensions (test (args .d) (drop (args .at) (args .bytes .now))) (λ i h. every-at (now .t) (test (args .d) (drop (args .at) (args .bytes .now))) (now .inv .1) i (omega arith)))
+    sym (every-all maxDimensions (test (args .d) (drop (args .at) (args .bytes .now)))
+    (λ i h. every-at (now .t) (test (args .d) (drop (args .at) (args .bytes .now))) (now .inv .1) i (omega arith)))
 
 loop-holds : tie.Need-loop-holds Inv-loop μ-loop
 loop-holds c =

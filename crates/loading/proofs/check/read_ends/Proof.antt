@@ -1,11 +1,12 @@
 -- `read_ends` meets its contract: the ends so far stand in front of what is kept. Assumes nothing.
-use Prim.Native.Nat.{_-_, _^_, _≤_, _<_}
+use Prim.Native.Nat.{_+_, _-_, _≤_, _<_}
 use native.Mathlib.Omega.{arith}
+use lib.ListN.{length}
 use borrow.Author.Needs.{needs}
 use Rattle.whole.proofs.ReadBack.{given}
 use Rattle.layout.specs.Stretch.{shape}
 use Rattle.library.specs.Library.{markAt}
-use Rattle.library.specs.Sizes.{EndsAt, ends-at}
+use Rattle.library.specs.Sizes.{EndsAt, stretch-bits, ends-at}
 use Rattle.library.proofs.Filling.{Ending, ending-start, ending-next, ending-end}
 use Rattle.loading.proofs.check.read_ends.Statement.{statement}
 use Rattle.loading.proofs.check.read_ends.Tie as tie
@@ -16,19 +17,34 @@ Inv-loop bytes d b lows₀ highs₀ t₀ lows highs t = Ending d b (markAt bytes
 abbrev μ-loop : tie.MeasureT-loop
 μ-loop bytes d b lows₀ highs₀ t₀ lows highs t = d - t
 
--- the numbers of the ends, which are small
-module _ (c : tie.After-ends-of Inv-loop μ-loop) where
-  ends-are : let now = c .before .before in let args = now .before .before .args in EndsAt (args .d) (args .b) (now .loop .t) (c .ends-of .result .first) (c .ends-of .result .last)
+regions-requires : tie.Need-regions-requires Inv-loop μ-loop
+regions-requires c κs =
+    let now = c .before .before in
+    let start = now .before .before in
+    stretch-bits (start .args .d) (start .args .b) (now .loop .t) (start .pre .0) (c .before .loop-test .taken) (c .stretch-of .ensures)
+
+-- the turn of the loop, the numbers of the ends, and the room that the buffers have for them
+module _ (c : tie.After-regions Inv-loop μ-loop) where
+  abbrev turn : tie.In-loop Inv-loop μ-loop
+  turn = c .before .before
+
+  abbrev now : tie.At-loop Inv-loop μ-loop
+  now = turn .before
+
+  abbrev start : tie.Start Inv-loop μ-loop
+  start = now .before .before
+
+  ends-are : let s = c .before .stretch-of .result in
+      EndsAt (start .args .d) (start .args .b) (now .loop .t) (s .offset) (s .offset + c .regions .result)
   ends-are =
-      let now = c .before .before in
-      let start = now .before .before in
-      ends-at (start .args .d) (start .args .b) (now .loop .t) (start .pre .0) (c .before .loop-test .taken) (c .ends-of .ensures)
+      ends-at (start .args .d) (start .args .b) (now .loop .t) (start .pre .0) (turn .loop-test .taken) (c .before .stretch-of .ensures)
+      (c .regions .ensures)
 
-  first-small : c .ends-of .result .first < 2 ^ 32
-  first-small = omega (arith, ends-are .within, ends-are .small, ends-are .first-is, ends-are .last-is)
+  low-room : now .loop .t < length (now .loop .lows)
+  low-room = omega (arith, start .pre .1, turn .loop-test .taken, now .loop .inv .low .room)
 
-  last-small : c .ends-of .result .last < 2 ^ 32
-  last-small = omega (arith, ends-are .within, ends-are .small)
+  high-room : now .loop .t < length (now .loop .highs)
+  high-room = omega (arith, start .pre .2, turn .loop-test .taken, now .loop .inv .high .room)
 
 few : (c : tie.In-loop Inv-loop μ-loop) → c .before .loop .t ≤ 32
 few c =
@@ -39,17 +55,19 @@ loop-again : tie.Need-loop-again Inv-loop μ-loop
 loop-again c =
     let low = c .before in
     let ends = low .before in
-    let now = ends .before .before in
-    let start = now .before .before in
-    let args = start .args in
-    ending-next (args .d) (args .b) (markAt (args .bytes .now)) (args .lows .now) (args .highs .now) (now .loop .t) (start .pre .1) (start .pre .2) (ends .before .loop-test .taken) (ends-are ends)
-    (given (low .mark-at .ok) (low .mark-at .ensures)) (given (c .mark-at2 .ok) (c .mark-at2 .ensures)) (now .loop .inv)
+    let pre = start ends .pre in
+    let args = start ends .args in
+    let at = now ends .loop in
+    ending-next (args .d) (args .b) (markAt (args .bytes .now)) (args .lows .now) (args .highs .now) (at .t) (pre .1) (pre .2)
+    (turn ends .loop-test .taken) (ends-are ends) (given (low .mark-at .ok) (low .mark-at .ensures))
+    (given (c .mark-at2 .ok) (c .mark-at2 .ensures)) (at .inv)
 
 returns : tie.Need-returns Inv-loop μ-loop
 returns c =
     let now = c .before in
     let args = now .before .before .args in
-    ending-end (args .d) (args .b) (markAt (args .bytes .now)) (args .lows .now) (args .highs .now) (now .loop .t) (c .loop-test .left) (now .loop .inv)
+    ending-end (args .d) (args .b) (markAt (args .bytes .now)) (args .lows .now) (args .highs .now) (now .loop .t) (c .loop-test .left)
+    (now .loop .inv)
 
 pub read-ends-spec : {M : Type 1} → statement M
 read-ends-spec =
@@ -60,14 +78,16 @@ read-ends-spec =
     (λ c. let args = c .before .args in ending-start (args .d) (args .b) (markAt (args .bytes .now)) (args .lows .now) (args .highs .now))
     (λ c. omega (arith, few c))
     (λ c κs. search needs)
-    (λ c κs. first-small c)
-    (λ c. omega (arith, few (c .before .before)))
-    (λ c. omega (arith, c .before .before .before .before .before .pre .1, c .before .before .loop-test .taken, c .before .before .before .loop .inv .low .room))
-    (λ c κs. last-small (c .before))
-    (λ c. omega (arith, few (c .before .before .before)))
-    (λ c. omega (arith, c .before .before .before .before .before .before .pre .2, c .before .before .before .loop-test .taken, c .before .before .before .before .loop .inv .high .room))
-    (λ c. omega (arith, few (c .before .before .before)))
-    (λ c. omega (arith, c .before .before .before .loop-test .taken))
+    regions-requires
+    (λ c. omega (arith, ends-are c .within, ends-are c .small))
+    (λ c κs. omega (arith, ends-are c .within, ends-are c .small))
+    (λ c. omega (arith, few (turn (c .before))))
+    (λ c. low-room (c .before))
+    (λ c κs. omega (arith, ends-are (c .before) .within, ends-are (c .before) .small))
+    (λ c. omega (arith, few (turn (c .before .before))))
+    (λ c. omega (arith, high-room (c .before .before)))
+    (λ c. omega (arith, few (turn (c .before .before))))
+    (λ c. omega (arith, turn (c .before .before) .loop-test .taken))
     loop-again
     (λ c. c .before .loop .inv .low .room)
     (λ c. c .before .loop .inv .high .room)

@@ -27,8 +27,11 @@ abbrev μ-loop : tie.MeasureT-loop
 
 loop-holds : tie.Need-loop-holds Inv-loop μ-loop
 loop-holds c =
-    let args = c .before .args in
-    (omega arith, rw (zero-mul (args .d)) (filling-start (args .n * args .d) (component (args .bytes .now) (args .m) (args .d)) (args .components .now)))
+    let args = c .before .args in (
+      omega arith,
+      rw (zero-mul (args .d))
+          (filling-start (args .n * args .d) (component (args .bytes .now) (args .m) (args .d)) (args .components .now)),
+    )
 
 module _ (c : tie.In-loop Inv-loop μ-loop) where
   abbrev start : tie.Start Inv-loop μ-loop
@@ -52,8 +55,11 @@ module _ (c : tie.In-loop Inv-loop μ-loop) where
 
 fill-vector-requires : tie.Need-fill-vector-requires Inv-loop μ-loop
 fill-vector-requires c κs =
-    let inside = c .before .before in
-    (rw (c .before .vector-place .ensures) (record-within inside), start inside .pre .1, omega (arith, row inside, start inside .pre .3, inside .before .loop .inv .1 .room))
+    let inside = c .before .before in (
+      rw (c .before .vector-place .ensures) (record-within inside),
+      start inside .pre .1,
+      omega (arith, row inside, start inside .pre .3, inside .before .loop .inv .1 .room),
+    )
 
 loop-again : tie.Need-loop-again Inv-loop μ-loop
 loop-again c =
@@ -67,8 +73,10 @@ loop-again c =
     let is = rw (place .vector-place .ensures) at (vector .fill-vector .ensures) in (
       omega (arith, inside .loop-test .taken),
       rw next
-          (filling-more (args .n * args .d) (component bytes (args .m) (args .d)) (args .components .now) (now .i * args .d) (args .d) (storedAt (drop (vectorPlace (args .m) (now .i)) bytes))
-          (row inside) (vector .fill-vector .kept .1 .1 .1 .1 .0) is (λ t h. rw (digits-div (now .i) h, digits-mod (now .i) h)) (now .inv .1)),
+          (filling-more (args .n * args .d) (component bytes (args .m) (args .d)) (args .components .now) (now .i * args .d) (args .d)
+          (storedAt (drop (vectorPlace (args .m) (now .i)) bytes))
+          (row inside) (vector .fill-vector .kept .1 .1 .1 .1 .0) is (λ t h. rw (digits-div (now .i) h, digits-mod (now .i) h))
+          (now .inv .1)),
     )
 
 returns : tie.Need-returns Inv-loop μ-loop
@@ -76,7 +84,8 @@ returns c =
     let now = c .before .loop in
     let args = c .before .before .before .args in
     let all : now .i ≡ args .n = omega (arith, now .inv .0, c .loop-test .left) in
-    filling-end (args .n * args .d) (component (args .bytes .now) (args .m) (args .d)) (args .components .now) (args .n * args .d) (omega arith) (rw all at (now .inv .1))
+    filling-end (args .n * args .d) (component (args .bytes .now) (args .m) (args .d)) (args .components .now) (args .n * args .d)
+    (omega arith) (rw all at (now .inv .1))
 
 pub fill-components-spec : {M : Type 1} → statement M
 fill-components-spec =

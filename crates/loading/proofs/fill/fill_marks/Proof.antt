@@ -17,7 +17,8 @@ loop-again : tie.Need-loop-again Inv-loop μ-loop
 loop-again c =
     let now = c .before .before in
     let start = now .before .before in
-    filling-next (start .args .m) (markAt (start .args .bytes .now)) (start .args .marks .now) (now .loop .i) (start .pre .1) (c .before .loop-test .taken)
+    filling-next (start .args .m) (markAt (start .args .bytes .now)) (start .args .marks .now) (now .loop .i) (start .pre .1)
+    (c .before .loop-test .taken)
     (given (c .mark-at .ok) (c .mark-at .ensures)) (now .loop .inv)
 
 returns : tie.Need-returns Inv-loop μ-loop

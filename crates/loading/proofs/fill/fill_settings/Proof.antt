@@ -29,13 +29,15 @@ loop-again c =
     let args = start .args in
     let i = now .loop .i in
     let is = rw (place .vector-place .ensures) at (c .u32-at .ensures) in
-    filling-next (args .n) (settingsAt (args .m) (args .bytes .now)) (args .settings .now) i (start .pre .2) (place .before .loop-test .taken)
+    filling-next (args .n) (settingsAt (args .m) (args .bytes .now)) (args .settings .now) i (start .pre .2)
+    (place .before .loop-test .taken)
     (is ∙ sym (settings-value (args .m) (args .bytes .now) i)) (now .loop .inv)
 
 returns : tie.Need-returns Inv-loop μ-loop
 returns c =
     let args = c .before .before .before .before .args in
-    filling-end (args .n) (settingsAt (args .m) (args .bytes .now)) (args .settings .now) (c .before .loop .i) (c .loop-test .left) (c .before .loop .inv)
+    filling-end (args .n) (settingsAt (args .m) (args .bytes .now)) (args .settings .now) (c .before .loop .i) (c .loop-test .left)
+    (c .before .loop .inv)
 
 pub fill-settings-spec : {M : Type 1} → statement M
 fill-settings-spec =

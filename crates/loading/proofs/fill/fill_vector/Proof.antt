@@ -24,14 +24,16 @@ loop-again c =
     let now = c .before .before in
     let start = now .before .before in
     let args = start .args in
-    placing-next (args .d) (storedAt (drop (args .at) (args .bytes .now))) (args .from) (args .components .now) (now .loop .t) (start .pre .2) (c .before .loop-test .taken)
+    placing-next (args .d) (storedAt (drop (args .at) (args .bytes .now))) (args .from) (args .components .now) (now .loop .t)
+    (start .pre .2) (c .before .loop-test .taken)
     (given (c .component-at .ok) (c .component-at .ensures)) (now .loop .inv)
 
 returns : tie.Need-returns Inv-loop μ-loop
 returns c =
     let now = c .before in
     let args = now .before .before .args in
-    placing-end (args .d) (storedAt (drop (args .at) (args .bytes .now))) (args .from) (args .components .now) (now .loop .t) (c .loop-test .left) (now .loop .inv)
+    placing-end (args .d) (storedAt (drop (args .at) (args .bytes .now))) (args .from) (args .components .now) (now .loop .t)
+    (c .loop-test .left) (now .loop .inv)
 
 pub fill-vector-spec : {M : Type 1} → statement M
 fill-vector-spec =

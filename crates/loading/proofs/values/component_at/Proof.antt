@@ -11,7 +11,9 @@ signed-requires : tie.Need-signed-requires
 signed-requires c κs =
     let known = c .before in
     let start = known .before in
-    let few = component-below (start .args .bytes .now) (λ i. known .shared-slice-known .given i .fits) (start .args .at) (start .args .t) (start .pre .1) in
+    let few =
+    component-below (start .args .bytes .now) (λ i. known .shared-slice-known .given i .fits) (start .args .at) (start .args .t)
+    (start .pre .1) in
     (omega arith, omega (arith, c .component-bits .ensures, few))
 
 returns : tie.Need-returns

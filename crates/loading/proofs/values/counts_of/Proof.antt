@@ -7,8 +7,12 @@ use Rattle.loading.proofs.values.counts_of.Tie as tie
 
 returns : tie.Need-returns
 returns c =
-    let bytes = c .before .before .before .before .args .bytes .now in
-    (c .before .before .byte-at .ensures ∙ sym (head-d bytes), c .before .byte-at2 .ensures ∙ sym (head-b bytes), c .u16-at .ensures ∙ sym (head-n bytes))
+    let bytes = c .before .before .before .before .args .bytes .now in (
+      c .before .before .byte-at .ensures ∙ sym (head-d bytes),
+      c .before .byte-at2 .ensures ∙ sym (head-b bytes),
+      c .u16-at .ensures
+          ∙ sym (head-n bytes),
+    )
 
 pub counts-of-spec : {M : Type 1} → statement M
 counts-of-spec =

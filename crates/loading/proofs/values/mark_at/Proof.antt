@@ -19,4 +19,5 @@ returns c =
     given (c .signed .ok) (is ∙ sym (mark-bits (args .bytes .now) (args .i)))
 
 pub mark-at-spec : {M : Type 1} → statement M
-mark-at-spec = tie.close (tie.spec (λ c. search needs) (λ c κs. search needs) add-u32-at (λ c κs. search needs) (λ c κs. search needs) returns)
+mark-at-spec =
+    tie.close (tie.spec (λ c. search needs) (λ c κs. search needs) add-u32-at (λ c κs. search needs) (λ c κs. search needs) returns)

@@ -25,7 +25,9 @@ use Rattle.matching.proofs.answer.answer.Tie as tie
 -- the bits of all codes are few
 few-bits : (d b n codes : ℕ) (vectors marks : List ℤ) → first (packVectorsCauses d b n vectors marks codes) ≡ Accepted → n * b ≤ 98304
 few-bits d b n codes vectors marks accepted =
-    let is = sizes d b n (length vectors) codes (accepted-front (sizeCauses d b n (length vectors) codes) (locateCauses d b vectors marks) accepted) in
+    let is =
+    sizes d b n (length vectors) codes
+    (accepted-front (sizeCauses d b n (length vectors) codes) (locateCauses d b vectors marks) accepted) in
     mul-le-mul {n₂ = 512} {m₂ = 192} (is .few) (omega (arith, is .shaped .bits, is .shaped .few))
 
 few : (s : tie.Start) → s .args .n * s .args .b ≤ 98304
@@ -37,11 +39,14 @@ codes-hold c = omega (arith, few (c .before .before))
 codes-within : tie.Need-array-share-prefix-codes
 codes-within c =
     let back = c .before in
-    back-within _ _ (back .pack-vectors .last .1 .1 .1 .1 .1 .0) (codes-hold (back .before .before)) (back .pack-vectors .kept .1 .1 .1 .1 .1 .0)
+    back-within _ _ (back .pack-vectors .last .1 .1 .1 .1 .1 .0) (codes-hold (back .before .before))
+    (back .pack-vectors .kept .1 .1 .1 .1 .1 .0)
 
 -- what packing gives for a buffer of the right length
-packed-are : (d b n : ℕ) (vectors marks : List ℤ) (old : List ℕ) {new : List ℕ} (room : ℕ) → first (packVectorsCauses d b n vectors marks (codeLength b n)) ≡ Accepted → room ≡ codeLength b n
-    → new ≡ outcome (first (packVectorsCauses d b n vectors marks room)) (vectorCodes d b n marks vectors) (λ _. old) → new ≡ vectorCodes d b n marks vectors
+packed-are : (d b n : ℕ) (vectors marks : List ℤ) (old : List ℕ) {new : List ℕ} (room : ℕ)
+    → first (packVectorsCauses d b n vectors marks (codeLength b n)) ≡ Accepted → room ≡ codeLength b n
+    → new ≡ outcome (first (packVectorsCauses d b n vectors marks room)) (vectorCodes d b n marks vectors) (λ _. old)
+    → new ≡ vectorCodes d b n marks vectors
 packed-are d b n vectors marks old room accepted exact new-is =
     new-is ∙ outcome-accepted _ _ (ap (λ (m : ℕ). first (packVectorsCauses d b n vectors marks m)) exact ∙ accepted)
 
@@ -55,20 +60,23 @@ codes-are c =
     let s = c .before .before .before .before in
     let hold = codes-hold (c .before .before) in
     shared-is _ _ (codes-back c) hold (c .pack-vectors .kept .1 .1 .1 .1 .1 .0)
-    ∙ packed-are (s .args .d) (s .args .b) (s .args .n) (s .args .components .now) (s .args .marks .now) _ _ (s .pre .0) (length-take-le _ _ hold) (c .pack-vectors .ensures .1)
+    ∙ packed-are (s .args .d) (s .args .b) (s .args .n) (s .args .components .now) (s .args .marks .now) _ _ (s .pre .0)
+    (length-take-le _ _ hold) (c .pack-vectors .ensures .1)
 
 answer-coded-requires : tie.Need-answer-coded-requires
 answer-coded-requires c κs =
     let back = c .before .before .before in
     let s = back .before .before .before .before in
-    rw (codes-are back) (s .pre .1)
+    (rw (codes-are back) (s .pre .1 .0), (s .pre .1 .1 .0, rw (codes-are back) (s .pre .1 .1 .1)))
 
 returns : tie.Need-returns
 returns c =
     let put = c .before .before in
     let back = put .before .before .before .before in
     let a = back .before .before .before .before .args in
-    puts-same (ap (λ (codes : List ℕ). answerLines (a .settings .now) (a .k) (searched (library (a .d) (a .b) (a .n) (a .marks .now) codes (a .components .now)) (a .query .now) (a .k))) (codes-are back))
+    puts-same (ap
+    (λ (codes : List ℕ). answerLines (a .settings .now) (a .k)
+    (searched (library (a .d) (a .b) (a .n) (a .marks .now) codes (a .components .now)) (a .query .now) (a .k))) (codes-are back))
     (put .answer-coded .ensures)
 
 pub answer-spec : {M : Type 1} → statement M

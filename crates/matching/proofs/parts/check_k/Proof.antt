@@ -26,10 +26,14 @@ returns : tie.Need-returns
 returns c = sym (k-truncated (c .before .before .args .n) (c .before .before .args .rest .now) (c .if1 .taken))
 
 returns-2 : tie.Need-returns-2
-returns-2 c = sym (tested (c .before) ∙ ap (λ (t : Bool). cond t Accepted (Refused Neighbours)) (not-true (c .before .is-between .result) (c .if2 .taken)))
+returns-2 c =
+    sym (tested (c .before)
+    ∙ ap (λ (t : Bool). cond t Accepted (Refused Neighbours)) (not-true (c .before .is-between .result) (c .if2 .taken)))
 
 returns-3 : tie.Need-returns-3
-returns-3 c = sym (tested (c .before) ∙ ap (λ (t : Bool). cond t Accepted (Refused Neighbours)) (not-false (c .before .is-between .result) (c .if2 .left)))
+returns-3 c =
+    sym (tested (c .before)
+    ∙ ap (λ (t : Bool). cond t Accepted (Refused Neighbours)) (not-false (c .before .is-between .result) (c .if2 .left)))
 
 pub check-k-spec : {M : Type 1} → statement M
 check-k-spec = tie.close (tie.spec returns (λ c κs. search needs) (λ c. search needs) (λ c κs. search needs) returns-2 returns-3)

@@ -12,8 +12,7 @@ use Rattle.limits.specs.Tests.{between}
 use Rattle.whole.specs.Components.{areComponents}
 use Rattle.library.specs.Library.{Library, libraryWith}
 use Rattle.query.specs.Query.{recordsCauses, componentsOf}
-use Rattle.text.specs.Text.{refusedText}
-use Rattle.matching.specs.Answer.{answerText}
+use Rattle.matching.specs.Answer.{refusedText, answerText}
 use Rattle.matching.specs.Answerable.{query-components, query-length}
 use Rattle.matching.specs.Lent.{back-within, shared-is}
 use Rattle.text.specs.Puts.{puts-length, puts-same}
@@ -24,14 +23,16 @@ use Rattle.matching.proofs.parts.match_query.Tie as tie
 query-holds : tie.Need-array-borrow-prefix-query
 query-holds c =
     let start = c .before .before .before in
-    between 1 (start .args .d) maxDimensions (ready-dimensions (start .pre .0)) .below
+    between 1 (start .args .d) maxDimensions (ready-dimensions (start .pre .0 .0)) .below
 
 -- the call's verdict is that of the query's records
 verdict-is : (c : tie.After-query2) → let start = c .before .before .before .before .before in
     c .query2 .result ≡ first (recordsCauses (start .args .d) (start .args .bytes .now))
 verdict-is c =
     let start = c .before .before .before .before .before in
-    c .query2 .ensures .0 ∙ query-rows (start .args .d) _ (start .args .bytes .now) (ready-dimensions (start .pre .0)) (length-take-le _ _ (query-holds (c .before .before)))
+    c .query2 .ensures .0
+    ∙ query-rows (start .args .d) _ (start .args .bytes .now) (ready-dimensions (start .pre .0 .0))
+    (length-take-le _ _ (query-holds (c .before .before)))
 
 abbrev query-back : tie.After-query2 → List ℤ
 query-back c = c .query2 .last .1 .1 .0
@@ -53,12 +54,14 @@ module _ (c : tie.After-query2) (is : c .query2 .result ≡ Accepted) where
   passes : first (recordsCauses (s .args .d) (s .args .bytes .now)) ≡ Accepted
   passes = sym (verdict-is c) ∙ is
 
-  components-are : take (s .args .d) (query-back c ++ drop (s .args .d) (replicate 32 (pos 0))) ≡ componentsOf (s .args .d) (s .args .bytes .now)
+  components-are : take (s .args .d) (query-back c ++ drop (s .args .d) (replicate 32 (pos 0)))
+      ≡ componentsOf (s .args .d) (s .args .bytes .now)
   components-are =
       shared-is _ _ (query-back c) (query-holds (c .before .before)) (c .query2 .kept .1 .1 .0)
       ∙ c .query2 .ensures .1 ∙ outcome-accepted _ _ (sym (c .query2 .ensures .0) ∙ is)
 
-  text-is : answerText (given s) (take (s .args .d) (query-back c ++ drop (s .args .d) (replicate 32 (pos 0)))) (s .args .k) ≡ queryText (given s) (s .args .k) (s .args .bytes .now)
+  text-is : answerText (given s) (take (s .args .d) (query-back c ++ drop (s .args .d) (replicate 32 (pos 0)))) (s .args .k)
+      ≡ queryText (given s) (s .args .k) (s .args .bytes .now)
   text-is = ap (λ (query : List ℤ). answerText (given s) query (s .args .k)) components-are ∙ sym (outcome-accepted _ refusedText passes)
 
 answer-requires : tie.Need-answer-requires
@@ -67,10 +70,12 @@ answer-requires c κs =
     let back = told .before .before .before in
     let is = told .enum-told .given .1 in
     let s = back .before .before .before .before .before in
-    let ready = s .pre .0 in
+    let ready = s .pre .0 .0 in
     let size = ap length (components-are back is) ∙ query-length (s .args .d) (s .args .bytes .now) in
-    let components = ap areComponents (components-are back is) ∙ query-components (s .args .d) (s .args .bytes .now) (passes back is) in
-    (ready .of-packing, ready .of-search _ (s .args .k) size components (s .pre .1))
+    let components = ap areComponents (components-are back is) ∙ query-components (s .args .d) (s .args .bytes .now) (passes back is) in (
+      ready .of-packing,
+      (ready .of-search _ (s .args .k) size components (s .pre .0 .1), (ready .of-settings, rw (text-is back is) (s .pre .1))),
+    )
 
 returns : tie.Need-returns
 returns c =

@@ -10,7 +10,7 @@ use borrow.Author.Needs.{needs}
 use Rattle.refusal.specs.declared.Verdict.the-variants.{Accepted}
 use Rattle.refusal.specs.First.{first}
 use Rattle.library.specs.Library.{Library, libraryWith}
-use Rattle.text.specs.Text.{refusedText}
+use Rattle.matching.specs.Answer.{refusedText}
 use Rattle.matching.specs.Match.{kLength, kCauses}
 use Rattle.text.specs.Puts.{puts-length, puts-same}
 use Rattle.matching.specs.Steps.{restText, queryText, k-refused, k-passes, k-among, k-there}
@@ -18,10 +18,12 @@ use Rattle.matching.proofs.parts.match_rest.Statement.{statement}
 use Rattle.matching.proofs.parts.match_rest.Tie as tie
 
 -- k passes
-accepted : (c : tie.After-enum-told) → let start = c .before .before .before .before .before .before in first (kCauses (start .args .n) (start .args .rest .now)) ≡ Accepted
+accepted : (c : tie.After-enum-told) → let start = c .before .before .before .before .before .before in
+    first (kCauses (start .args .n) (start .args .rest .now)) ≡ Accepted
 accepted c = sym (c .before .before .check-k .ensures) ∙ c .enum-told .given .1
 
-there : (c : tie.After-u16-at) → let start = c .before .before .before .before .before .before .before in kLength ≤ length (start .args .rest .now)
+there : (c : tie.After-u16-at) → let start = c .before .before .before .before .before .before .before in
+    kLength ≤ length (start .args .rest .now)
 there c =
     let start = c .before .before .before .before .before .before .before in
     k-there (start .args .n) (start .args .rest .now) (accepted (c .before))
@@ -43,11 +45,13 @@ match-query-requires : tie.Need-match-query-requires
 match-query-requires c κs =
     let u = c .before .before in
     let s = u .before .before .before .before .before .before .before in
-    let among = ap (λ (k : ℕ). leb 1 k && leb k (s .args .n)) (u .u16-at .ensures) ∙ k-among (s .args .n) (s .args .rest .now) (accepted (u .before)) in
-    (s .pre, among)
+    let among =
+    ap (λ (k : ℕ). leb 1 k && leb k (s .args .n)) (u .u16-at .ensures) ∙ k-among (s .args .n) (s .args .rest .now) (accepted (u .before)) in
+    ((s .pre .0, among), rw (text-is u) (s .pre .1))
 
 -- k is refused
-refused-is : (c : tie.After-cause) → let s = c .before .before .before .before .before .before in restText (given s) (s .args .rest .now) ≡ refusedText (c .cause .given .0 .0)
+refused-is : (c : tie.After-cause) → let s = c .before .before .before .before .before .before in
+    restText (given s) (s .args .rest .now) ≡ refusedText (c .cause .given .0 .0)
 refused-is c =
     let s = c .before .before .before .before .before .before in
     k-refused (given s) (s .args .rest .now) (sym (c .before .before .check-k .ensures) ∙ c .cause .given .1)

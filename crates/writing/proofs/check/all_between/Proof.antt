@@ -36,7 +36,8 @@ returns : tie.Need-returns Inv-loop μ-loop
 returns c =
     let now = c .before .before .before in
     let args = now .before .args in
-    sym (every-fails (args .n) (test (args .d) (args .lows .now) (args .highs .now) (args .components .now)) (now .loop .i) (c .before .before .loop-test .taken)
+    sym (every-fails (args .n) (test (args .d) (args .lows .now) (args .highs .now) (args .components .now)) (now .loop .i)
+    (c .before .before .loop-test .taken)
     (sym (c .before .is-between .ensures) ∙ not-true (c .before .is-between .result) (c .if1 .taken)))
 
 loop-again : tie.Need-loop-again Inv-loop μ-loop

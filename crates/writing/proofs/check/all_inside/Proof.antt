@@ -17,7 +17,8 @@ few c = shape (c .args .d) (c .args .b) (c .pre .of-marks .shape-passes) .few
 
 -- the buffers hold the ends
 ends : (c : tie.After-fill-ends) → let args = c .before .before .before .args in
-    EndMarks (args .d) (args .b) (λ i. getD (args .marks .now) i (pos 0)) (c .fill-ends .last .1 .1 .1 .0) (c .fill-ends .last .1 .1 .1 .1 .0)
+    EndMarks (args .d) (args .b) (λ i. getD (args .marks .now) i (pos 0)) (c .fill-ends .last .1 .1 .1 .0)
+    (c .fill-ends .last .1 .1 .1 .1 .0)
 ends c = record { rest = _; rest' = _; lows-are = c .fill-ends .ensures .0; highs-are = c .fill-ends .ensures .1 }
 
 all-between-requires : tie.Need-all-between-requires
@@ -35,7 +36,9 @@ returns c =
     let filled = c .before .before .before .before .before in
     let start = filled .before .before .before in
     let args = start .args in
-    let law = inside-between (args .d) (args .b) (args .marks .now) (λ i. getD (args .marks .now) i (pos 0)) (start .pre .of-marks .marks-count) (λ i h. refl) (ends filled) in
+    let law =
+    inside-between (args .d) (args .b) (args .marks .now) (λ i. getD (args .marks .now) i (pos 0)) (start .pre .of-marks .marks-count)
+    (λ i h. refl) (ends filled) in
     c .all-between .ensures ∙ sym (every-same (args .n) _ _ (λ i h. law (λ t. getD (args .components .now) (i * args .d + t) (pos 0))))
 
 pub all-inside-spec : {M : Type 1} → statement M

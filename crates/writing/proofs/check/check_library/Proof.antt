@@ -13,14 +13,17 @@ returns c =
     let shape = c .before .before .before in
     let args = shape .before .before .args in
     let l = libraryWith (args .d) (args .b) (args .n) (args .marks .now) (args .settings .now) (args .components .now) in
-    c .check-shaped .ensures ∙ sym (go-on (shapeCauses (args .d) (args .b)) (shapedCauses l (args .room)) (sym (shape .check-shape .ensures) ∙ c .before .enum-told .given .1))
+    c .check-shaped .ensures
+    ∙ sym (go-on (shapeCauses (args .d) (args .b)) (shapedCauses l (args .room))
+    (sym (shape .check-shape .ensures) ∙ c .before .enum-told .given .1))
 
 returns-2 : tie.Need-returns-2
 returns-2 c =
     let shape = c .before .before .before in
     let args = shape .before .before .args in
     let l = libraryWith (args .d) (args .b) (args .n) (args .marks .now) (args .settings .now) (args .components .now) in
-    sym (stop (shapeCauses (args .d) (args .b)) (shapedCauses l (args .room)) (sym (shape .check-shape .ensures) ∙ c .before .cause .given .1))
+    sym
+    (stop (shapeCauses (args .d) (args .b)) (shapedCauses l (args .room)) (sym (shape .check-shape .ensures) ∙ c .before .cause .given .1))
 
 pub check-library-spec : {M : Type 1} → statement M
 check-library-spec =

@@ -46,14 +46,25 @@ unfolding first
 returns-3 c =
     let marks = c .before .before in
     let count = marks .before in
-    rw (← count .before .is-vector-count .ensures, count .if1 .left, eq-eqb _ _ (c .before .if2 .left ∙ marks-counted marks), ne-eqb _ _ (c .if3 .taken))
+    rw (
+      ← count .before .is-vector-count .ensures,
+      count .if1 .left,
+      eq-eqb _ _ (c .before .if2 .left ∙ marks-counted marks),
+      ne-eqb _ _ (c .if3 .taken),
+    )
 
 returns-4 : tie.Need-returns-4
 unfolding first
 returns-4 c =
     let marks = c .before .before .before in
     let count = marks .before in
-    rw (← count .before .is-vector-count .ensures, count .if1 .left, eq-eqb _ _ (c .before .before .if2 .left ∙ marks-counted marks), eq-eqb _ _ (c .before .if3 .left), ne-eqb _ _ (c .if4 .taken))
+    rw (
+      ← count .before .is-vector-count .ensures,
+      count .if1 .left,
+      eq-eqb _ _ (c .before .before .if2 .left ∙ marks-counted marks),
+      eq-eqb _ _ (c .before .if3 .left),
+      ne-eqb _ _ (c .if4 .taken),
+    )
 
 -- the counts pass
 length-is : (c : tie.After-library-length) → let args = c .before .before .before .before .before .before .before .before .args in
@@ -63,7 +74,8 @@ length-is c =
     let count = c .before .before .before .before .before in
     let start = count .before .before .before in
     let passes : first (countsCauses (start .args .d) (start .args .b) (start .args .n)) ≡ Accepted =
-    go-on (shapeCauses (start .args .d) (start .args .b)) ((not (isVectorCount (start .args .n)) ⇒ Count) ∷ []) (start .pre) ∙ rw (← count .before .is-vector-count .ensures, count .if1 .left) in
+    go-on (shapeCauses (start .args .d) (start .args .b)) ((not (isVectorCount (start .args .n)) ⇒ Count) ∷ []) (start .pre)
+    ∙ rw (← count .before .is-vector-count .ensures, count .if1 .left) in
     c .library-length .ensures ∙ outcome-accepted _ _ passes
 
 returns-5 : tie.Need-returns-5
@@ -72,7 +84,14 @@ returns-5 c =
     let size = c .before in
     let marks = size .before .before .before .before in
     let count = marks .before in
-    rw (← count .before .is-vector-count .ensures, count .if1 .left, eq-eqb _ _ (size .before .before .before .if2 .left ∙ marks-counted marks), eq-eqb _ _ (size .before .before .if3 .left), eq-eqb _ _ (size .before .if4 .left), ne-eqb _ _ (rw (length-is size) at (c .if5 .taken)))
+    rw (
+      ← count .before .is-vector-count .ensures,
+      count .if1 .left,
+      eq-eqb _ _ (size .before .before .before .if2 .left ∙ marks-counted marks),
+      eq-eqb _ _ (size .before .before .if3 .left),
+      eq-eqb _ _ (size .before .if4 .left),
+      ne-eqb _ _ (rw (length-is size) at (c .if5 .taken)),
+    )
 
 check-values-requires : tie.Need-check-values-requires
 check-values-requires c κs =
@@ -92,13 +111,21 @@ returns-6 c =
     let marks = size .before .before .before .before in
     let count = marks .before in
     c .check-values .ensures
-    ∙ rw (← count .before .is-vector-count .ensures, count .if1 .left, eq-eqb _ _ (size .before .before .before .if2 .left ∙ marks-counted marks), eq-eqb _ _ (size .before .before .if3 .left), eq-eqb _ _ (size .before .if4 .left), eq-eqb _ _ (c .before .if5 .left ∙ length-is size))
+    ∙ rw (
+      ← count .before .is-vector-count .ensures,
+      count .if1 .left,
+      eq-eqb _ _ (size .before .before .before .if2 .left ∙ marks-counted marks),
+      eq-eqb _ _ (size .before .before .if3 .left),
+      eq-eqb _ _ (size .before .if4 .left),
+      eq-eqb _ _ (c .before .if5 .left ∙ length-is size),
+    )
 
 mul-if4 : tie.Need-mul-if4
 mul-if4 c =
     let marks = c .before .before in
     let start = marks .before .before .before .before in
-    let product : start .args .n * start .args .d ≤ 16384 = mul-le-mul (few (marks .before)) (shape (start .args .d) (start .args .b) (start .pre) .few) in
+    let product : start .args .n * start .args .d ≤ 16384 =
+    mul-le-mul (few (marks .before)) (shape (start .args .d) (start .args .b) (start .pre) .few) in
     omega arith
 
 pub check-shaped-spec : {M : Type 1} → statement M

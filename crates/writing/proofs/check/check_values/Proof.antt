@@ -26,7 +26,8 @@ module _ (d b : ℕ) (marks : List ℤ) (is : Dimensioned d b marks) where
   values-left : first (marksCauses d b marks) ≡ first ((not (goodMarks d b marks) ⇒ Mark) ∷ [])
   values-left =
       let counted = ap not (eq-eqb (length marks) _ (is .marks-count)) in
-      go-on (shapeCauses d b) (shapedCauses d b marks) (is .shape-passes) ∙ first-next Length ((not (goodMarks d b marks) ⇒ Mark) ∷ []) counted
+      go-on (shapeCauses d b) (shapedCauses d b marks) (is .shape-passes)
+      ∙ first-next Length ((not (goodMarks d b marks) ⇒ Mark) ∷ []) counted
 
   good-if : first (marksCauses d b marks) ≡ Accepted → goodMarks d b marks ≡ true
   good-if accepted = not-false (goodMarks d b marks) (passed (not (goodMarks d b marks)) Mark [] (sym values-left ∙ accepted) .fails)
@@ -48,17 +49,22 @@ unfolding first
 returns-2 c =
     let marks = c .before .before in
     let start = marks .before .before .before in
-    let bad = bad-if (start .args .d) (start .args .b) (start .args .marks .now) (start .pre .of-marks) (sym (marks .check-marks .ensures) ∙ c .enum-told2 .given .1) in
+    let bad =
+    bad-if (start .args .d) (start .args .b) (start .args .marks .now) (start .pre .of-marks)
+    (sym (marks .check-marks .ensures) ∙ c .enum-told2 .given .1) in
     rw (← marks .before .before .are-components .ensures, marks .before .if1 .left, bad)
 
 -- the components and the marks pass
 outside-left : (c : tie.After-all-inside) → let args = c .before .before .before .before .before .before .args in
-    first (valueCauses (libraryWith (args .d) (args .b) (args .n) (args .marks .now) [] (args .components .now))) ≡ first ((not (c .all-inside .result) ⇒ Outside) ∷ [])
+    first (valueCauses (libraryWith (args .d) (args .b) (args .n) (args .marks .now) [] (args .components .now)))
+    ≡ first ((not (c .all-inside .result) ⇒ Outside) ∷ [])
 unfolding first
 outside-left c =
     let marks = c .before .before .before in
     let start = marks .before .before .before in
-    let good = good-if (start .args .d) (start .args .b) (start .args .marks .now) (start .pre .of-marks) (sym (marks .check-marks .ensures) ∙ c .before .enum-told .given .1) in
+    let good =
+    good-if (start .args .d) (start .args .b) (start .args .marks .now) (start .pre .of-marks)
+    (sym (marks .check-marks .ensures) ∙ c .before .enum-told .given .1) in
     rw (← marks .before .before .are-components .ensures, marks .before .if1 .left, good, ← c .all-inside .ensures)
 
 returns-3 : tie.Need-returns-3

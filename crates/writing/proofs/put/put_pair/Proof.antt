@@ -19,7 +19,12 @@ returns c =
     let low = c .args .x % 256 in
     let next : at + 2 ≡ suc (at + 1) = omega arith in
     let room : at + 1 < length (set bytes at low) = rw (length-set bytes at low) (omega (arith, c .pre)) in
-    rw (next, take-suc-set (set bytes at low) (at + 1) (c .args .x / 256 % 256) room, add-one at, take-suc-set bytes at low (omega (arith, c .pre)))
+    rw (
+      next,
+      take-suc-set (set bytes at low) (at + 1) (c .args .x / 256 % 256) room,
+      add-one at,
+      take-suc-set bytes at low (omega (arith, c .pre)),
+    )
     (simp append-assoc)
 
 pub put-pair-spec : {M : Type 1} → statement M

@@ -14,7 +14,8 @@ returns c =
     let one = two .before .before .before .before in
     let args = one .before .before .before .args in
     let place : args .at + 2 + 2 ≡ args .at + 4 = omega arith in
-    rw (← place) (both-parts (take (args .at) (args .bytes .now)) _ _ (one .put-pair .ensures) (two .put-pair2 .ensures) ∙ rw (four-bytes (args .x)))
+    rw (← place)
+    (both-parts (take (args .at) (args .bytes .now)) _ _ (one .put-pair .ensures) (two .put-pair2 .ensures) ∙ rw (four-bytes (args .x)))
 
 pub put-quad-spec : {M : Type 1} → statement M
 put-quad-spec =

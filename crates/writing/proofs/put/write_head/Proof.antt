@@ -13,7 +13,8 @@ room : (c : tie.Start) → 5 ≤ length (c .args .bytes .now)
 room c = rw (mark-place 0) at (c .pre)
 
 put-byte-requires-2 : tie.Need-put-byte-requires-2
-put-byte-requires-2 c κs = omega (arith, room (c .before .before .before .before .before .before), c .before .before .before .put-byte .kept)
+put-byte-requires-2 c κs =
+    omega (arith, room (c .before .before .before .before .before .before), c .before .before .before .put-byte .kept)
 
 put-byte-requires-3 : tie.Need-put-byte-requires-3
 put-byte-requires-3 c κs =
@@ -41,7 +42,8 @@ returns c =
     let two = three .before .before .before .before in
     let one = two .before .before .before .before in
     let args = one .before .before .before .args in
-    rw (mark-place 0, four .put-pair .ensures, three .put-byte3 .ensures, two .put-byte2 .ensures, one .put-byte .ensures) (head-parts (args .d) (args .b) (args .n))
+    rw (mark-place 0, four .put-pair .ensures, three .put-byte3 .ensures, two .put-byte2 .ensures, one .put-byte .ensures)
+    (head-parts (args .d) (args .b) (args .n))
 
 pub write-head-spec : {M : Type 1} → statement M
 write-head-spec =

@@ -31,8 +31,11 @@ loop-holds : tie.Need-loop-holds Inv-loop μ-loop
 unfolding each
 loop-holds c = record { few = omega arith; room = refl; so-far = sym (append-nil _) }
 
--- a turn has room for its record
+-- the start and the turn of a place, and that the turn has room for its record
 module _ (c : tie.After-mark-place Inv-loop μ-loop) where
+  abbrev begin : tie.Start Inv-loop μ-loop
+  begin = c .before .before .before .before
+
   abbrev place : ℕ
   place = c .mark-place .result
 
@@ -41,8 +44,7 @@ module _ (c : tie.After-mark-place Inv-loop μ-loop) where
 
   room-left : place + 5 ≤ length (c .before .before .loop .bytes)
   room-left =
-      let start = c .before .before .before .before in
-      let whole = rw (mark-place (length (start .args .marks .now))) at (start .pre .1) in
+      let whole = rw (mark-place (length (begin .args .marks .now))) at (begin .pre .1) in
       omega (arith, place-is, c .before .loop-test .taken, c .before .before .loop .inv .room)
 
 put-quad-requires : tie.Need-put-quad-requires Inv-loop μ-loop
@@ -61,12 +63,14 @@ loop-again c =
     let next : place at + 1 + 4 ≡ markPlace (i + 1) = omega (arith, place-is at, mark-place (i + 1)) in
     let parts = both-parts (take (place at) (now .loop .bytes)) _ _ (one .put-byte .ensures) (two .put-quad .ensures) in
     let mark = toZ-ofZ w32 (getD marks i (pos 0)) (record { sfits = two .before .before .bits-of-arg .given }) in
-    let start : take (place at) (now .loop .bytes) ≡ take (markPlace i) (now .loop .bytes) = ap (λ (p : ℕ). take p (now .loop .bytes)) (at .mark-place .ensures) in
+    let start : take (place at) (now .loop .bytes) ≡ take (markPlace i) (now .loop .bytes) =
+    ap (λ (p : ℕ). take p (now .loop .bytes)) (at .mark-place .ensures) in
     record {
       few = omega (arith, at .before .loop-test .taken);
       room = two .put-quad .kept .0 ∙ one .put-byte .kept .0 ∙ now .loop .inv .room;
       so-far =
-          each-grows (take (markPlace 0) (now .before .before .args .bytes .now)) i (λ i. markBytes (getD marks i (pos 0))) (now .loop .inv .so-far)
+          each-grows (take (markPlace 0) (now .before .before .args .bytes .now)) i (λ i. markBytes (getD marks i (pos 0)))
+          (now .loop .inv .so-far)
           (rw (next, start, mark-parts (rw mark at (two .before .bits-of .ensures))) at parts);
     }
 
@@ -87,9 +91,9 @@ write-marks-spec =
     (λ c κs. search needs)
     (λ c. search needs)
     (λ c κs. omega (arith, room-left (c .before)))
-    (λ c. omega (arith, place-is (c .before .before .before .before .before), c .before .before .before .before .before .before .before .before .before .pre .0))
-    (λ c. omega (arith, c .before .before .before .before .before .before .loop-test .taken, c .before .before .before .before .before .before .before .before .before .pre .0))
-    (λ c. omega (arith, c .before .before .before .before .before .before .loop-test .taken))
+    (λ c. let at = c .before .before .before .before .before in omega (arith, place-is at, begin at .pre .0))
+    (λ c. let at = c .before .before .before .before .before in omega (arith, at .before .loop-test .taken, begin at .pre .0))
+    (λ c. let at = c .before .before .before .before .before in omega (arith, at .before .loop-test .taken))
     (λ c κs. search needs)
     put-quad-requires
     (λ c. omega arith)

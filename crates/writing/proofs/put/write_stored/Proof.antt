@@ -55,7 +55,8 @@ here c =
     let back = toZ-ofZ w32 z (record { sfits = c .before .bits-of-arg .given }) in
     let fits = component-fits z (component-at numbers (start .pre .1 .of-components) (args .from + now .loop .t)) in
     low-component (c .bits-of .result) z (rw back at (c .bits-of .ensures)) (fits .sfits)
-    ∙ ap (lowFirst 2) (sym (tabulate-at (args .d) (λ t. ofZ w16 (getD numbers (args .from + t) (pos 0))) 0 (now .loop .t) (inside .loop-test .taken)))
+    ∙ ap (lowFirst 2)
+    (sym (tabulate-at (args .d) (λ t. ofZ w16 (getD numbers (args .from + t) (pos 0))) 0 (now .loop .t) (inside .loop-test .taken)))
 
 -- an index is small
 small : (c : tie.In-loop Inv-loop μ-loop) → c .before .loop .t ≤ 32
@@ -79,7 +80,13 @@ loop-again c =
       few = omega (arith, inside .loop-test .taken);
       room = put .put-pair .kept .0 ∙ now .loop .inv .room;
       so-far =
-          rw (← place, put .put-pair .ensures, here (put .before), append-assoc, ← components-next (args .d) t stored (inside .loop-test .taken))
+          rw (
+            ← place,
+            put .put-pair .ensures,
+            here (put .before),
+            append-assoc,
+            ← components-next (args .d) t stored (inside .loop-test .taken),
+          )
           (now .loop .inv .so-far);
     }
 

@@ -56,7 +56,8 @@ returns c =
     let parts = vector-parts (args .d) (args .settings) component in
     let settings = rw before at (two .put-quad .ensures) in
     rw vector-length
-    (four-parts (take at (args .bytes .now)) _ _ _ _ (one .put-byte .ensures) settings (three .write-stored .ensures) (four .write-zeros .ensures) ∙ rw (count, ← beyond, parts))
+    (four-parts (take at (args .bytes .now)) _ _ _ _ (one .put-byte .ensures) settings (three .write-stored .ensures)
+    (four .write-zeros .ensures) ∙ rw (count, ← beyond, parts))
 
 pub write-vector-spec : {M : Type 1} → statement M
 write-vector-spec =

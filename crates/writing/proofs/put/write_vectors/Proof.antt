@@ -56,8 +56,14 @@ write-vector-requires : tie.Need-write-vector-requires Inv-loop μ-loop
 write-vector-requires c κs =
     let at = c .before .before in
     let start = at .before .before .before .before .before in
-    let row = row-within (start .args .d) (at .before .loop-test .taken) in
-    (room-left at, record { few = start .pre .few-dimensions; within = omega (arith, row, start .pre .components-count); of-components = start .pre .of-components })
+    let row = row-within (start .args .d) (at .before .loop-test .taken) in (
+      room-left at,
+      record {
+        few = start .pre .few-dimensions;
+        within = omega (arith, row, start .pre .components-count);
+        of-components = start .pre .of-components;
+      },
+    )
 
 loop-again : tie.Need-loop-again Inv-loop μ-loop
 loop-again c =
@@ -72,7 +78,8 @@ loop-again c =
       few = omega (arith, at .before .loop-test .taken);
       room = one .write-vector .kept .1 .1 .1 .1 .1 .0 ∙ now .loop .inv .room;
       so-far =
-          each-grows (take (vectorPlace (args .m) 0) (args .bytes .now)) i (vector (args .d) (args .settings .now) (args .components .now)) (now .loop .inv .so-far)
+          each-grows (take (vectorPlace (args .m) 0) (args .bytes .now)) i (vector (args .d) (args .settings .now) (args .components .now))
+          (now .loop .inv .so-far)
           (rw (next, at .vector-place .ensures) at (one .write-vector .ensures));
     }
 

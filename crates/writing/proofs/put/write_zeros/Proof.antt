@@ -27,7 +27,8 @@ loop-again c =
     record {
       few = omega arith;
       room = simp length-set (now .inv .room);
-      so-far = written-one (now .bytes) (now .i) 0 (replicate (args .to - (now .i + 1)) 0) _ (omega (arith, now .inv .room, c .before .before .pre .1)) (rw one-left at (now .inv .so-far));
+      so-far = written-one (now .bytes) (now .i) 0 (replicate (args .to - (now .i + 1)) 0) _
+          (omega (arith, now .inv .room, c .before .before .pre .1)) (rw one-left at (now .inv .so-far));
     }
 
 returns : tie.Need-returns Inv-loop μ-loop
