@@ -42,11 +42,12 @@ static size_t given;
 CALL(load, input, length, marks, MATCHER_MAX_MARKS, settings, MATCHER_MAX_VECTORS,
      vectors, MATCHER_MAX_COMPONENTS, &d, &b, &n, &used)
 CALL(query, d, input + used + 2, length - used - 2, query, d)
-CALL(library_length, d, b, n)
+CALL(library_length, d, b, n, &place)
 CALL(write, d, b, n, MARKS, settings, n, VECTORS, file, MATCHER_LIBRARY(d, b, n))
 CALL(fresh, 0x3F800000, &component)
 CALL(fresh_value, 1.0F, &component)
 CALL(held, 0x3F800000, 20, &component)
+CALL(held_value, 1.0F, 20, &component)
 CALL(lost, &component)
 CALL(stretch, d, b, d, &place, &bits)
 CALL(check_marks, d, b, MARKS)
@@ -115,6 +116,7 @@ int main(void)
     MEASURE(fresh);
     MEASURE(fresh_value);
     MEASURE(held);
+    MEASURE(held_value);
     MEASURE(lost);
     MEASURE(stretch);
     MEASURE(check_marks);

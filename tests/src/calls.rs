@@ -108,3 +108,25 @@ pub const SEARCH: Call = call!(
     [1, 2, 3, 4, 5, 6, 7, 9, 10]
 );
 pub const WRITE: Call = call!(write, [D, B, N, Marks, Settings, Vectors, Components, RoomBytes], [1, 2, 3, 5, 6, 7, 8]);
+pub const LIBRARY_LENGTH: Call = call!(library_length, [D, B, N], [1, 2, 3]);
+
+/// All of them.
+pub const ALL: [&Call; 17] = [
+    &STRETCH,
+    &CHECK_MARKS,
+    &PART,
+    &DIMENSION_REGION,
+    &REGION,
+    &MAKE_MARKS,
+    &REGIONS,
+    &PACK,
+    &PACK_VECTORS,
+    &UNPACK,
+    &CHECK_CODES,
+    &DISTANCE,
+    &BOUNDS,
+    &SCAN,
+    &SEARCH,
+    &WRITE,
+    &LIBRARY_LENGTH,
+];

@@ -37,7 +37,7 @@ pub fn input(d: usize, b: usize, marks: &[i32], vectors: &[i32], query: &[i32], 
         codes: codes.len(),
         entries: k,
         reads: n,
-        bytes: reference::library_length(d, b, n),
+        bytes: reference::bytes_length(d, b, n),
     };
     Input {
         origin: String::new(),

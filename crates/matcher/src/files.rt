@@ -1,4 +1,5 @@
-// The library file and a query from bytes, for C. Each gives 0, or the refusal's number; a refused call leaves the buffers as they were, and its counts are 0.
+// The library file and a query from bytes, for C. Each gives 0, or the refusal's number; a refused call leaves the buffers as they were,
+// and its counts are 0.
 ghost use mathlib.Core.Path.{_≡_};
 ghost use lib.ListN.{length};
 ghost use Rattle.refusal.specs.Refusal.{verdictNumber};
@@ -9,12 +10,14 @@ ghost use Rattle.writing.specs.Write.{writeCauses};
 ghost use Rattle.loading.specs.Load.{loadCauses, filled};
 ghost use Rattle.query.specs.Query.{queryCauses, componentsOf};
 
-// How many bytes a library of these counts has, 0 where they are out of range.
+// How many bytes a library of these counts has.
 #[no_mangle]
-pub extern "C" fn matcher_library_length(d: usize, b: usize, n: usize) -> usize
-    ensures { λ r. ⌜ r ≡ outcome (first (countsCauses d b n)) (libraryLength d b n) (λ _. 0) ⌝ }
+pub extern "C" fn matcher_library_length(d: usize, b: usize, n: usize, length: &mut usize) -> u32
+    ensures { λ r. ⌜ r ≡ verdictNumber (first (countsCauses d b n)) ⌝ }
+    ensures { λ _. ⌜ now (length .exit) ≡ outcome (first (countsCauses d b n)) (libraryLength d b n) (λ _. 0) ⌝ }
 {
-    library::library_length(d, b, n)
+    *length = library::library_length(d, b, n);
+    library::check_counts(d, b, n).number()
 }
 
 // The bytes of a library, into a buffer of as many.

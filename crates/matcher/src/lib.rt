@@ -43,3 +43,11 @@ pub extern "C" fn matcher_fresh_value(value: f32, component: &mut i32) -> u32
 {
     tell::component(Reading::Fresh(value), component)
 }
+
+// A held reading of a float, of an age in tenths of a second.
+#[no_mangle]
+pub extern "C" fn matcher_held_value(value: f32, age: u8, component: &mut i32) -> u32
+    ensures { λ r. ⌜ Answered (intakeOf (Held value age)) r (now (component .entry)) (now (component .exit)) ⌝ }
+{
+    tell::component(Reading::Held(value, age), component)
+}

@@ -1,4 +1,5 @@
-// Marks and regions, for C. Each gives 0, or the refusal's number; a refused call leaves a buffer as it was, and 0 in a place for a count.
+// Marks and regions, for C. Each gives 0, or the refusal's number; a refused call leaves what it was to write as it was.
+use refusal::Verdict;
 ghost use mathlib.Core.Path.{_≡_};
 ghost use lib.IntN.{pos};
 ghost use lib.ListN.{length, getD};
@@ -24,13 +25,18 @@ pub extern "C" fn matcher_stretch(
     bits: &mut usize,
 ) -> u32
     ensures { λ r. ⌜ r ≡ verdictNumber (first (dimensionCauses d b j)) ⌝ }
-    ensures { λ _. ⌜ now (offset .exit) ≡ stretchOf d b j .offset ⌝ }
-    ensures { λ _. ⌜ now (bits .exit) ≡ stretchOf d b j .bits ⌝ }
+    ensures { λ _. ⌜ now (offset .exit) ≡ outcome (first (dimensionCauses d b j)) (stretchOf d b j .offset) (λ _. now (offset .entry)) ⌝ }
+    ensures { λ _. ⌜ now (bits .exit) ≡ outcome (first (dimensionCauses d b j)) (stretchOf d b j .bits) (λ _. now (bits .entry)) ⌝ }
 {
-    let stretch = layout::stretch_of(d, b, j);
-    *offset = stretch.offset;
-    *bits = stretch.bits;
-    layout::check_dimension(d, b, j).number()
+    match layout::check_dimension(d, b, j) {
+        Verdict::Accepted => {
+            let stretch = layout::stretch_of(d, b, j);
+            *offset = stretch.offset;
+            *bits = stretch.bits;
+            0
+        }
+        Verdict::Refused(cause) => cause.number(),
+    }
 }
 
 // Whether the marks are as many as d dimensions with b bits have, in range, and never fall.
@@ -77,7 +83,7 @@ pub extern "C" fn matcher_region_of(
 ) -> u32
     ensures { λ r. ⌜ r ≡ verdictNumber (first (valueCauses d b (now (marks .entry)) j v)) ⌝ }
     ensures { λ _. ⌜ now (region .exit)
-        ≡ outcome (first (valueCauses d b (now (marks .entry)) j v)) (regionOf (dimensionMarks d b (now (marks .entry)) j) v) (λ _. 0) ⌝ }
+        ≡ outcome (first (valueCauses d b (now (marks .entry)) j v)) (regionOf (dimensionMarks d b (now (marks .entry)) j) v) (λ _. now (region .entry)) ⌝ }
 {
     tell::region(view::region_of(d, b, marks, j, v), region)
 }
@@ -86,7 +92,8 @@ pub extern "C" fn matcher_region_of(
 #[no_mangle]
 pub extern "C" fn matcher_region(marks: &[i32], regions: usize, v: i32, region: &mut usize) -> u32
     ensures { λ r. ⌜ r ≡ verdictNumber (first (regionCauses (now (marks .entry)) regions v)) ⌝ }
-    ensures { λ _. ⌜ now (region .exit) ≡ outcome (first (regionCauses (now (marks .entry)) regions v)) (regionOf (now (marks .entry)) v) (λ _. 0) ⌝ }
+    ensures { λ _. ⌜ now (region .exit)
+        ≡ outcome (first (regionCauses (now (marks .entry)) regions v)) (regionOf (now (marks .entry)) v) (λ _. now (region .entry)) ⌝ }
 {
     tell::region(region::region(marks, regions, v), region)
 }

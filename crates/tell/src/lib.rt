@@ -1,5 +1,5 @@
-// What a call from C tells of an answer: its values, each in its place, and 0 or the refusal's number. A refusal leaves the place of a
-// component or a distance as it was, and 0 in that of a count.
+// What a call from C gives of an answer: its values, each in its place, and 0 or the refusal's number. Where the answer is a refusal, a
+// count is 0, and every other place is as it was.
 use bounds::cell::Bounds;
 use distance::Distance;
 use loading::Loaded;
@@ -10,11 +10,11 @@ use search::search::Searched;
 ghost use mathlib.Core.Path.{_≡_};
 ghost use Rattle.refusal.specs.Refusal.{verdictNumber};
 ghost use Rattle.reading.specs.Intake.{intakeOf};
-ghost use Rattle.region.specs.Lookup.{lookupNumber, lookupRegion};
+ghost use Rattle.region.specs.Lookup.{lookupNumber};
 ghost use Rattle.distance.specs.Measured.{distanceNumber};
 ghost use Rattle.bounds.specs.Bounded.{boundsNumber, lowerOr, upperOr};
 ghost use Rattle.search.specs.Answer.{searchedNumber, searchedCount};
-ghost use Rattle.tell.specs.Answered.{Answered, distanceOr};
+ghost use Rattle.tell.specs.Answered.{Answered, regionOr, distanceOr};
 
 // A reading's component.
 pub fn component(reading: Reading, place: &mut i32) -> u32
@@ -31,17 +31,14 @@ pub fn component(reading: Reading, place: &mut i32) -> u32
 
 // The region that was found.
 pub fn region(lookup: Lookup, place: &mut usize) -> u32
-    ensures { λ r. ⌜ (r ≡ lookupNumber lookup) × (now (place .exit) ≡ lookupRegion lookup) ⌝ }
+    ensures { λ r. ⌜ (r ≡ lookupNumber lookup) × (now (place .exit) ≡ regionOr (now (place .entry)) lookup) ⌝ }
 {
     match lookup {
         Lookup::Region(number) => {
             *place = number;
             0
         }
-        Lookup::Refused(cause) => {
-            *place = 0;
-            cause.number()
-        }
+        Lookup::Refused(cause) => cause.number(),
     }
 }
 

@@ -5,7 +5,8 @@ use mir.Syntax.{w32}
 use mir.ValLaws.{toZ-ofZ}
 use Rattle.refusal.specs.declared.Verdict.{Verdict}
 use Rattle.refusal.specs.First.{first}
-use Rattle.region.specs.Lookup.{regionCauses, lookedUp, lookupNumber, lookupRegion}
+use Rattle.region.specs.Lookup.{regionCauses, lookedUp, lookupNumber}
+use Rattle.tell.specs.Answered.{regionOr}
 use Rattle.matcher.proofs.Told.{told-number, told-value}
 use Rattle.matcher.proofs.marks.matcher_region.Statement.{statement}
 use Rattle.matcher.proofs.marks.matcher_region.Tie as tie
@@ -20,9 +21,10 @@ looked-up c =
 
 returns : tie.Need-returns
 returns c =
-    let asked = c .before .before in (
+    let asked = c .before .before in
+    let a = asked .before .args in (
       c .region2 .ensures .0 ∙ told-number lookupNumber _ _ refl (λ cause. refl) (verdict asked) (looked-up asked),
-      c .region2 .ensures .1 ∙ told-value lookupRegion _ _ (verdict asked) (looked-up asked),
+      c .region2 .ensures .1 ∙ told-value (regionOr (a .region .now)) _ _ (verdict asked) (looked-up asked),
     )
 
 pub matcher-region-spec : {M : Type 1} → statement M
