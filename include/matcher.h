@@ -260,8 +260,8 @@ uint32_t matcher_scan(size_t d, size_t n, size_t k, const int32_t *query, size_t
 
 /*
  * The same from the codes. Where the codes are the vectors' own, as matcher_pack_vectors makes them, the entries are
- * the scan's, and no vector is read that could be left out, but for those whose cell has one distance: each other one
- * that is read could be another vector of its cell with which the answer would be another.
+ * the scan's, and no vector is read that could be left out, but for those whose cell has one distance: with some other
+ * vector of its cell in its place alone, a number or a distance of the answer would be another.
  *
  * The search reads vectors in order of the least distance of their cells, of equal ones the lower number first. It
  * reads the next while fewer than k have been read, or while the pair of that least distance and the number is below

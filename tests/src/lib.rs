@@ -10,6 +10,7 @@ pub mod input;
 pub mod interface;
 pub mod kit;
 pub mod machine_code;
+pub mod map;
 pub mod matches;
 pub mod random;
 pub mod reference;
