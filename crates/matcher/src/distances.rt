@@ -11,12 +11,11 @@ ghost use Rattle.bounds.specs.Bounded.{boundsCauses};
 // The distance of a vector from a query, of as many components as the query has.
 #[no_mangle]
 pub extern "C" fn matcher_distance(query: &[i32], vector: &[i32], distance: &mut u64) -> u32
-    ensures { λ r. ⌜ r ≡ verdictNumber (first (distanceCauses (now (query .entry)) (now (vector .entry)))) ⌝ }
-    ensures { λ _. ⌜ now (distance .exit)
-        ≡ outcome (first (distanceCauses (now (query .entry)) (now (vector .entry))))
-        (distanceOf (length (now (query .entry))) (now (query .entry)) (now (vector .entry))) (λ _. now (distance .entry)) ⌝ }
+    ensures { λ r. let v = first (distanceCauses (now (query .entry)) (now (vector .entry))) in
+        let between = distanceOf (length (now (query .entry))) (now (query .entry)) (now (vector .entry)) in
+        ⌜ (r ≡ verdictNumber v) × (now (distance .exit) ≡ outcome v between (λ _. now (distance .entry))) ⌝ }
 {
-    tell::distance(distance::measure(query, vector), distance)
+    c_answers::put_distance(distance::measure(query, vector), distance)
 }
 
 // The least and the greatest distance of code i's cell from a query.
@@ -41,5 +40,5 @@ pub extern "C" fn matcher_bounds(
         (upperOf d b (now (marks .entry)) (now (codes .entry)) (now (query .entry)) i) (λ _. now (upper .entry)) ⌝ }
 {
     let bounds = bounds::cell::cell_bounds(d, b, n, query, marks, codes, i);
-    tell::bounds(bounds, lower, upper)
+    c_answers::put_bounds(bounds, lower, upper)
 }

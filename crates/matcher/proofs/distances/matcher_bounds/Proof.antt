@@ -1,9 +1,9 @@
--- `matcher_bounds` meets its contract: what is told is read off the answer. Assumes nothing.
+-- `matcher_bounds` meets its contract: number and bounds are read off the answer. Assumes nothing.
 use mathlib.Core.Path.{refl, _∙_}
 use borrow.Author.Needs.{needs}
 use Rattle.refusal.specs.First.{first}
 use Rattle.bounds.specs.Bounded.{boundsCauses, boundsNumber, lowerOr, upperOr}
-use Rattle.matcher.proofs.Told.{told-number, told-value}
+use Rattle.matcher.proofs.Outcome.{outcome-number, outcome-value}
 use Rattle.matcher.proofs.distances.matcher_bounds.Statement.{statement}
 use Rattle.matcher.proofs.distances.matcher_bounds.Tie as tie
 
@@ -13,9 +13,9 @@ returns c =
     let a = asked .before .before .args in
     let v = first (boundsCauses (a .d) (a .b) (a .n) (a .query .now) (a .marks .now) (a .codes .now) (a .i)) in
     let is = asked .cell-bounds .ensures in
-    let told = c .bounds .ensures in (
-      told .0 ∙ told-number boundsNumber _ _ refl (λ cause. refl) v is,
-      (told .1 ∙ told-value (lowerOr (a .lower .now)) _ _ v is, told .2 ∙ told-value (upperOr (a .upper .now)) _ _ v is),
+    let put = c .put-bounds .ensures in (
+      put .0 ∙ outcome-number boundsNumber _ _ refl (λ cause. refl) v is,
+      (put .1 ∙ outcome-value (lowerOr (a .lower .now)) _ _ v is, put .2 ∙ outcome-value (upperOr (a .upper .now)) _ _ v is),
     )
 
 pub matcher-bounds-spec : {M : Type 1} → statement M

@@ -14,13 +14,13 @@ returns c =
     let stretch = c .stretch-of .ensures in
     let offset = ap (λ (s : Stretch). s .offset) stretch ∙ sym (outcome-accepted _ _ accepted) in
     let bits = ap (λ (s : Stretch). s .bits) stretch ∙ sym (outcome-accepted _ _ accepted) in
-    (sym (ap verdictNumber accepted), (offset, bits))
+    (sym (ap verdictNumber accepted), offset, bits)
 
 returns-2 : tie.Need-returns-2
 returns-2 c =
     let matched = c .before .before in
     let refused = sym (matched .before .before .check-dimension .ensures) ∙ matched .cause .given .1 in
-    (c .number .ensures ∙ sym (ap verdictNumber refused), (sym (outcome-refused _ _ refused), sym (outcome-refused _ _ refused)))
+    (c .number .ensures ∙ sym (ap verdictNumber refused), sym (outcome-refused _ _ refused), sym (outcome-refused _ _ refused))
 
 pub matcher-stretch-spec : {M : Type 1} → statement M
 matcher-stretch-spec =

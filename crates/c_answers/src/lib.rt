@@ -14,10 +14,10 @@ ghost use Rattle.region.specs.Lookup.{lookupNumber};
 ghost use Rattle.distance.specs.Measured.{distanceNumber};
 ghost use Rattle.bounds.specs.Bounded.{boundsNumber, lowerOr, upperOr};
 ghost use Rattle.search.specs.Answer.{searchedNumber, searchedCount};
-ghost use Rattle.tell.specs.Answered.{Answered, regionOr, distanceOr};
+ghost use Rattle.c_answers.specs.Answered.{Answered, regionOr, distanceOr};
 
-// A reading's component.
-pub fn component(reading: Reading, place: &mut i32) -> u32
+// Takes a reading in, and puts its component into a place.
+pub fn put_component(reading: Reading, place: &mut i32) -> u32
     ensures { λ r. ⌜ Answered (intakeOf reading) r (now (place .entry)) (now (place .exit)) ⌝ }
 {
     match reading.intake() {
@@ -29,8 +29,8 @@ pub fn component(reading: Reading, place: &mut i32) -> u32
     }
 }
 
-// The region that was found.
-pub fn region(lookup: Lookup, place: &mut usize) -> u32
+// Puts the region that was found into a place.
+pub fn put_region(lookup: Lookup, place: &mut usize) -> u32
     ensures { λ r. ⌜ (r ≡ lookupNumber lookup) × (now (place .exit) ≡ regionOr (now (place .entry)) lookup) ⌝ }
 {
     match lookup {
@@ -42,8 +42,8 @@ pub fn region(lookup: Lookup, place: &mut usize) -> u32
     }
 }
 
-// A distance.
-pub fn distance(answer: Distance, place: &mut u64) -> u32
+// Puts a distance into a place.
+pub fn put_distance(answer: Distance, place: &mut u64) -> u32
     ensures { λ r. ⌜ (r ≡ distanceNumber answer) × (now (place .exit) ≡ distanceOr (now (place .entry)) answer) ⌝ }
 {
     match answer {
@@ -55,8 +55,8 @@ pub fn distance(answer: Distance, place: &mut u64) -> u32
     }
 }
 
-// The least and the greatest distance of a cell.
-pub fn bounds(answer: Bounds, lower: &mut u64, upper: &mut u64) -> u32
+// Puts the least and the greatest distance of a cell into two places.
+pub fn put_bounds(answer: Bounds, lower: &mut u64, upper: &mut u64) -> u32
     ensures { λ r. ⌜ (r ≡ boundsNumber answer) × (now (lower .exit) ≡ lowerOr (now (lower .entry)) answer)
         × (now (upper .exit) ≡ upperOr (now (upper .entry)) answer) ⌝ }
 {
@@ -70,8 +70,8 @@ pub fn bounds(answer: Bounds, lower: &mut u64, upper: &mut u64) -> u32
     }
 }
 
-// How many vectors a search read.
-pub fn searched(answer: Searched, place: &mut usize) -> u32
+// Puts the number of vectors that a search read into a place, 0 where it is refused.
+pub fn put_read_count(answer: Searched, place: &mut usize) -> u32
     ensures { λ r. ⌜ (r ≡ searchedNumber answer) × (now (place .exit) ≡ searchedCount answer) ⌝ }
 {
     match answer {
@@ -86,8 +86,14 @@ pub fn searched(answer: Searched, place: &mut usize) -> u32
     }
 }
 
-// The counts of a loaded library, and how many bytes it is.
-pub fn loaded(answer: Loaded, d: &mut usize, b: &mut usize, n: &mut usize, used: &mut usize) -> u32
+// Puts the counts of a loaded library and its number of bytes into four places; all are 0 where it is refused.
+pub fn put_counts(
+    answer: Loaded,
+    d: &mut usize,
+    b: &mut usize,
+    n: &mut usize,
+    used: &mut usize,
+) -> u32
     ensures { λ r. ⌜ (r ≡ verdictNumber (answer .verdict)) × (now (d .exit) ≡ answer .d) × (now (b .exit) ≡ answer .b)
         × (now (n .exit) ≡ answer .n) × (now (used .exit) ≡ answer .used) ⌝ }
 {
