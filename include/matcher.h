@@ -47,7 +47,7 @@ enum matcher_refusal {
     MATCHER_ACCEPTED = 0,      /* not refused */
     MATCHER_DIMENSION = 1,     /* d not 1 to 32, or a dimension number not 1 to d */
     MATCHER_BITS = 2,          /* b above 6 d, or a number of regions other than 1, 2, 4, 8, 16, 32 or 64 */
-    MATCHER_COUNT = 3,         /* n not 1 to 512, or a vector's number not below n */
+    MATCHER_COUNT = 3,         /* n not 1 to 512 */
     MATCHER_NEIGHBOURS = 4,    /* k is 0 or above n */
     MATCHER_LENGTH = 5,        /* the length of a buffer is not the exact one */
     MATCHER_COMPONENT = 6,     /* a component out of range, or not zero beyond d */
@@ -233,13 +233,13 @@ uint32_t matcher_distance(const int32_t *query, size_t query_len, const int32_t 
                           uint64_t *distance);
 
 /*
- * The least and the greatest distance from a query that a vector in the cell of code i can have, i from 0.
- * Lengths: query d; marks MATCHER_MARKS(d, b); codes MATCHER_CODES(b, n).
- * Refusals: 1, 2, 3 (n or i), 5, 6 (query), 7, 9 (any code).
+ * For each of n codes, the least and the greatest distance from a query that a vector in its cell can have.
+ * Lengths: query d; marks MATCHER_MARKS(d, b); codes MATCHER_CODES(b, n); lowers n; uppers n.
+ * Refusals: 1, 2, 3, 5, 6 (query), 7, 9 (any code).
  */
 uint32_t matcher_bounds(size_t d, size_t b, size_t n, const int32_t *query, size_t query_len, const int32_t *marks,
-                        size_t marks_len, const uint8_t *codes, size_t codes_len, size_t i, uint64_t *lower,
-                        uint64_t *upper);
+                        size_t marks_len, const uint8_t *codes, size_t codes_len, uint64_t *lowers, size_t lowers_len,
+                        uint64_t *uppers, size_t uppers_len);
 
 /* ---- the nearest vectors */
 

@@ -22,7 +22,7 @@ static int32_t marks[MATCHER_MAX_MARKS], made[MATCHER_MAX_MARKS], vectors[MATCHE
 static int32_t query[MATCHER_MAX_DIMENSIONS], component;
 static uint32_t settings[MATCHER_MAX_VECTORS], reads[MATCHER_MAX_VECTORS];
 static struct matcher_entry entries[MATCHER_MAX_VECTORS];
-static uint64_t lower, upper;
+static uint64_t distance, lowers[MATCHER_MAX_VECTORS], uppers[MATCHER_MAX_VECTORS];
 static uint8_t codes[MATCHER_MAX_CODES], regions[MATCHER_MAX_COMPONENTS];
 
 #define MARKS marks, MATCHER_MARKS(d, b)
@@ -62,8 +62,8 @@ CALL(pack_vectors, d, b, n, VECTORS, MARKS, CODES)
 CALL(pack, d, b, n, regions, n * d, CODES)
 CALL(unpack, d, b, n, CODES, regions, n * d)
 CALL(check_codes, d, b, n, MARKS, CODES)
-CALL(distance, query, d, vectors, d, &lower)
-CALL(bounds, d, b, n, query, d, MARKS, CODES, n - 1, &lower, &upper)
+CALL(distance, query, d, vectors, d, &distance)
+CALL(bounds, d, b, n, query, d, MARKS, CODES, lowers, n, uppers, n)
 CALL(scan, d, n, n, query, d, VECTORS, entries, n)
 CALL(search, d, b, n, n, query, d, MARKS, CODES, VECTORS, entries, n, reads, n, &place)
 CALL(match, input, length, output, MATCHER_MAX_TEXT, &place)

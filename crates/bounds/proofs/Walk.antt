@@ -9,10 +9,10 @@ use lib.Bits.{bitAnd, and-mask}
 use lib.ListN.{length}
 use lib.Pow.{pow-pos}
 use Rattle.layout.specs.Layout.{firstMarks}
+use Rattle.layout.specs.Runs.{two-bits, two-marks}
 use Rattle.codes.specs.Bits.{bitsAt}
 use Rattle.cells.proofs.Runs.{Sized, regions}
-use Rattle.bounds.specs.Run.{two-bits, two-marks}
-use Rattle.bounds.specs.Waiting.{Waits, Taken}
+use Rattle.bounds.specs.BitBuffer.{Waits, Taken}
 
 -- both runs' bits are there, and their places, of `room` in all
 pub record Runs (d b i codes room : ℕ) : Type 0 where
@@ -24,7 +24,7 @@ pub record Runs (d b i codes room : ℕ) : Type 0 where
 pub runs : {d b i codes room : ℕ} → Sized d b i → room ≡ firstMarks d b d → suc i * b ≤ codes * 8 → Runs d b i codes room
 runs {d} {b} {i} {codes} told whole there =
     let few : b % d ≤ d = omega (arith, told .more) in
-    let bits = two-bits d b (told .fewest) (told .some) few in
+    let bits = two-bits d b (told .fewest) few (told .some) in
     let marks = two-marks d b (told .fewest) few in
     let code : i * b + b ≤ codes * 8 = rw suc-mul at there in
     record {

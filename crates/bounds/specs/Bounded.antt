@@ -1,98 +1,83 @@
--- The causes for which a cell's bounds are refused, and what an answer stands for. Assumes nothing.
-use mathlib.Core.Path.{_≡_, refl, _∙_}
+-- The causes for which the bounds of n codes' cells are refused. Assumes nothing.
+use mathlib.Core.Path.{_≡_}
 use mathlib.Core.Bool.{true, not, _&&_, and-eq-true-iff}
 use mathlib.Core.List.{List, [], _∷_, _++_}
-use Prim.Native.Nat.{ℕ, suc, _*_, _<_, _≤_}
-use native.Mathlib.Nat.{mul-le-mul, le-refl}
-use native.Mathlib.Omega.{arith}
-use lib.Dec.{eqb, ltb}
+use Prim.Native.Nat.{ℕ}
+use lib.Dec.{eqb}
 use lib.IntN.{ℤ}
 use lib.ListN.{length}
-use borrow.Author.Tests.{not-false, eqb-true, eq-eqb, ltb-true}
+use borrow.Author.Tests.{not-false, eqb-true}
 use Rattle.refusal.specs.declared.Refusal.the-variants.{Count, Length, Component, Mark, Code}
 use Rattle.refusal.specs.declared.Verdict.the-variants.{Accepted}
-use Rattle.refusal.specs.Refusal.{numberOf}
-use Rattle.refusal.specs.First.{Row, _⇒_, first, passed, accepted-front, accepted-behind, first-append, first-next, first-none, outcome-accepted}
-use Rattle.limits.specs.Limits.{maxVectors, isVectorCount}
-use Rattle.limits.specs.Tests.{between}
+use Rattle.refusal.specs.First.{Row, _⇒_, first, passed, accepted-front, accepted-behind}
+use Rattle.limits.specs.Limits.{isVectorCount}
 use Rattle.whole.specs.Components.{areComponents}
-use Rattle.layout.specs.Layout.{firstMarks}
+use Rattle.layout.specs.Layout.{firstMarks, codeLength}
 use Rattle.layout.specs.Stretch.{shapeCauses}
 use Rattle.partition.specs.Marks.{goodMarks}
-use Rattle.codes.specs.Codes.{codeLength}
-use Rattle.cells.specs.Cells.{goodCodes}
-use Rattle.table.specs.Table.{tableCauses, lengthCauses}
-use Rattle.bounds.specs.declared.cell.Bounds.{Bounds}
-use Rattle.bounds.specs.declared.cell.Bounds.the-variants.{Between, Refused}
+use Rattle.codes.specs.Codes.{spareZero}
+use Rattle.cells.specs.Cells.{noEmptyCodes, goodCodes}
 
--- 3 also where there is no code of this number; 5, 6, 7, 9
-abbrev pub shapedBoundsCauses : ℕ → ℕ → ℕ → List ℤ → List ℤ → List ℕ → ℕ → List Row
-shapedBoundsCauses d b n query marks codes i =
-    (not (isVectorCount n && ltb i n) ⇒ Count)
-    ∷ (not (eqb (length query) d && (eqb (length marks) (firstMarks d b d) && eqb (length codes) (codeLength b n))) ⇒ Length)
+-- 3; 5, for the query, the marks and the codes, and for the two buffers of bounds; 6, 7, 9
+abbrev pub shapedBoundsCauses : ℕ → ℕ → ℕ → List ℤ → List ℤ → List ℕ → ℕ → ℕ → List Row
+shapedBoundsCauses d b n query marks codes lowers uppers =
+    (not (isVectorCount n) ⇒ Count)
+    ∷ (not ((eqb (length query) d && (eqb (length marks) (firstMarks d b d) && eqb (length codes) (codeLength b n)))
+    && (eqb lowers n && eqb uppers n)) ⇒ Length)
     ∷ (not (areComponents query) ⇒ Component)
     ∷ (not (goodMarks d b marks) ⇒ Mark)
     ∷ (not (goodCodes d b n marks codes) ⇒ Code)
     ∷ []
 
 -- 1, 2, 3, 5, 6, 7, 9
-abbrev pub boundsCauses : ℕ → ℕ → ℕ → List ℤ → List ℤ → List ℕ → ℕ → List Row
-boundsCauses d b n query marks codes i = shapeCauses d b ++ shapedBoundsCauses d b n query marks codes i
-
--- document 01's number of an answer, 0 where there are bounds
-abbrev pub boundsNumber : Bounds → ℕ
-boundsNumber (Between lower upper) = 0
-boundsNumber (Refused cause) = numberOf cause
-
--- an answer's bounds, or what stood in their places where it is refused
-abbrev pub lowerOr : ℕ → Bounds → ℕ
-lowerOr old (Between lower upper) = lower
-lowerOr old (Refused cause) = old
-
-abbrev pub upperOr : ℕ → Bounds → ℕ
-upperOr old (Between lower upper) = upper
-upperOr old (Refused cause) = old
+abbrev pub boundsCauses : ℕ → ℕ → ℕ → List ℤ → List ℤ → List ℕ → ℕ → ℕ → List Row
+boundsCauses d b n query marks codes lowers uppers = shapeCauses d b ++ shapedBoundsCauses d b n query marks codes lowers uppers
 
 -- ---- what holds where nothing refuses
 
-pub record Bounded (d b n : ℕ) (query marks : List ℤ) (codes : List ℕ) (i : ℕ) : Type 0 where
+-- a query, marks that are good, and n codes without a spare bit that is set, of the right lengths
+pub record Bounding (d b n : ℕ) (query marks : List ℤ) (codes : List ℕ) : Type 0 where
   pub shaped : first (shapeCauses d b) ≡ Accepted
-  pub few : i < maxVectors
+  pub count : isVectorCount n ≡ true
   pub of-query : length query ≡ d
   pub of-marks : length marks ≡ firstMarks d b d
-  pub within : suc i * b ≤ length codes * 8
+  pub of-codes : length codes ≡ codeLength b n
   pub components : areComponents query ≡ true
   pub good : goodMarks d b marks ≡ true
+  pub spare : spareZero b n codes ≡ true
 
-pub bounded : (d b n : ℕ) (query marks : List ℤ) (codes : List ℕ) (i : ℕ) → first (boundsCauses d b n query marks codes i) ≡ Accepted
-    → Bounded d b n query marks codes i
-bounded d b n query marks codes i accepted =
-    let count = passed _ _ _ (accepted-behind (shapeCauses d b) (shapedBoundsCauses d b n query marks codes i) accepted) in
+pub record Bounded (d b n : ℕ) (query marks : List ℤ) (codes : List ℕ) (lowers uppers : ℕ) : Type 0 where
+  pub are : Bounding d b n query marks codes
+  pub of-lowers : lowers ≡ n
+  pub of-uppers : uppers ≡ n
+
+pub bounded : (d b n : ℕ) (query marks : List ℤ) (codes : List ℕ) (lowers uppers : ℕ)
+    → first (boundsCauses d b n query marks codes lowers uppers) ≡ Accepted → Bounded d b n query marks codes lowers uppers
+bounded d b n query marks codes lowers uppers accepted =
+    let rows = shapedBoundsCauses d b n query marks codes lowers uppers in
+    let given = eqb (length query) d && (eqb (length marks) (firstMarks d b d) && eqb (length codes) (codeLength b n)) in
+    let lent = eqb lowers n && eqb uppers n in
+    let count = passed _ _ _ (accepted-behind (shapeCauses d b) rows accepted) in
     let lengths = passed _ _ _ (count .rest) in
     let components = passed _ _ _ (lengths .rest) in
     let good = passed _ _ _ (components .rest) in
-    let counted = and-eq-true-iff _ _ .0 (not-false (isVectorCount n && ltb i n) (count .fails)) in
-    let exact = and-eq-true-iff (eqb (length query) d) _ .0 (not-false (eqb (length query) d && (eqb (length marks) (firstMarks d b d) && eqb (length codes) (codeLength b n))) (lengths .fails)) in
-    let among : i < n = ltb-true i n (counted .1) in
-    let bits : suc i * b ≤ n * b = mul-le-mul among (le-refl b) in
-    let others = and-eq-true-iff (eqb (length marks) (firstMarks d b d)) (eqb (length codes) (codeLength b n)) .0 (exact .1) in
-    let of-codes = eqb-true (length codes) (codeLength b n) (others .1) in
-    let below : n ≤ maxVectors = between 1 n maxVectors (counted .0) .below in
+    let named = passed _ _ _ (good .rest) in
+    let exact = and-eq-true-iff given lent .0 (not-false (given && lent) (lengths .fails)) in
+    let query-first = and-eq-true-iff (eqb (length query) d) _ .0 (exact .0) in
+    let others = and-eq-true-iff (eqb (length marks) (firstMarks d b d)) (eqb (length codes) (codeLength b n)) .0 (query-first .1) in
+    let both = and-eq-true-iff (eqb lowers n) (eqb uppers n) .0 (exact .1) in
+    let codes-good = and-eq-true-iff (noEmptyCodes d b marks codes n) (spareZero b n codes) .0 (not-false (goodCodes d b n marks codes) (named .fails)) in
     record {
-      shaped = accepted-front (shapeCauses d b) (shapedBoundsCauses d b n query marks codes i) accepted;
-      few = omega arith;
-      of-query = eqb-true _ _ (exact .0);
-      of-marks = eqb-true _ _ (others .0);
-      within = omega arith;
-      components = not-false (areComponents query) (components .fails);
-      good = not-false (goodMarks d b marks) (good .fails);
+      are = record {
+        shaped = accepted-front (shapeCauses d b) rows accepted;
+        count = not-false (isVectorCount n) (count .fails);
+        of-query = eqb-true (length query) d (query-first .0);
+        of-marks = eqb-true (length marks) (firstMarks d b d) (others .0);
+        of-codes = eqb-true (length codes) (codeLength b n) (others .1);
+        components = not-false (areComponents query) (components .fails);
+        good = not-false (goodMarks d b marks) (good .fails);
+        spare = codes-good .1;
+      };
+      of-lowers = eqb-true lowers n (both .0);
+      of-uppers = eqb-true uppers n (both .1);
     }
-
--- and so its table is filled
-pub table-accepted : (d b query marks room : ℕ) → first (shapeCauses d b) ≡ Accepted → query ≡ d → marks ≡ firstMarks d b d → room ≡ firstMarks d b d
-    → first (tableCauses d b marks query room) ≡ Accepted
-table-accepted d b query marks room shaped of-query of-marks of-room =
-    first-append (shapeCauses d b) (lengthCauses d b marks query room)
-    ∙ outcome-accepted _ _ shaped
-    ∙ first-next Length [] (rw (eq-eqb _ _ of-query, eq-eqb _ _ of-marks, eq-eqb _ _ of-room) refl)
-    ∙ first-none

@@ -1,5 +1,5 @@
 pub mod Run
-pub mod Waiting
+pub mod BitBuffer
 pub mod Bounded
 pub mod Sums
 pub mod Inside

@@ -1,10 +1,10 @@
-// The bounds of one code's cell.
-use crate::sum::code_bound;
+// The bounds of codes' cells.
+use crate::sum::sum_all;
 use refusal::Refusal;
 use refusal::Verdict;
 use step::Bound;
 use table::MAX_TABLE;
-use table::fill_table;
+use table::fill_steps;
 ghost use mathlib.Core.Path.{_≡_};
 ghost use mathlib.Core.Bool.{_&&_};
 ghost use Prim.Native.Nat.{_≤_};
@@ -13,20 +13,15 @@ ghost use lib.ListN.{length};
 ghost use Rattle.refusal.specs.First.{first, outcome};
 ghost use Rattle.refusal.specs.declared.Verdict.the-variants.{Accepted};
 ghost use Rattle.limits.specs.Limits.{maxVectors};
-ghost use Rattle.layout.specs.Layout.{firstMarks};
+ghost use Rattle.layout.specs.Layout.{firstMarks, codeLength};
 ghost use Rattle.layout.specs.Stretch.{shapeCauses};
-ghost use Rattle.codes.specs.Codes.{codeLength};
 ghost use Rattle.distance.specs.Bounds.{firstBound, lowerOf, upperOf};
+ghost use Rattle.distance.specs.Values.{valuesFrom};
 ghost use Rattle.step.specs.Step.{stepOf};
-ghost use Rattle.bounds.specs.Bounded.{boundsCauses, shapedBoundsCauses};
+ghost use Rattle.table.specs.Table.{tableOf};
+ghost use Rattle.bounds.specs.Bounded.{Bounding, boundsCauses, shapedBoundsCauses};
 
-// The answer where a cell's bounds are asked for: its least distance and its greatest.
-pub enum Bounds {
-    Between(u64, u64),
-    Refused(Refusal),
-}
-
-// The bounds of code i's cell, of n codes.
+// The bounds of n codes' cells: the least distances in one buffer, the greatest in the other.
 pub fn cell_bounds(
     d: usize,
     b: usize,
@@ -34,22 +29,32 @@ pub fn cell_bounds(
     query: &[i32],
     marks: &[i32],
     codes: &[u8],
-    i: usize,
-) -> Bounds
-    ensures { λ r. ⌜ r ≡ outcome (first (boundsCauses d b n (now (query .entry)) (now (marks .entry)) (now (codes .entry)) i))
-        (Bounds.Between (lowerOf d b (now (marks .entry)) (now (codes .entry)) (now (query .entry)) i)
-        (upperOf d b (now (marks .entry)) (now (codes .entry)) (now (query .entry)) i)) Bounds.Refused ⌝ }
+    lowers: &mut [u64],
+    uppers: &mut [u64],
+) -> Verdict
+    ensures { λ r. ⌜ r ≡ first (boundsCauses d b n (now (query .entry)) (now (marks .entry)) (now (codes .entry))
+        (length (now (lowers .entry))) (length (now (uppers .entry)))) ⌝ }
+    ensures { λ _. ⌜ now (lowers .exit)
+        ≡ outcome (first (boundsCauses d b n (now (query .entry)) (now (marks .entry)) (now (codes .entry))
+        (length (now (lowers .entry))) (length (now (uppers .entry)))))
+        (valuesFrom (lowerOf d b (now (marks .entry)) (now (codes .entry)) (now (query .entry))) 0 n) (λ _. now (lowers .entry)) ⌝ }
+    ensures { λ _. ⌜ now (uppers .exit)
+        ≡ outcome (first (boundsCauses d b n (now (query .entry)) (now (marks .entry)) (now (codes .entry))
+        (length (now (lowers .entry))) (length (now (uppers .entry)))))
+        (valuesFrom (upperOf d b (now (marks .entry)) (now (codes .entry)) (now (query .entry))) 0 n) (λ _. now (uppers .entry)) ⌝ }
 {
-    match check_bounds(d, b, n, query, marks, codes, i) {
+    let verdict = check_bounds(d, b, n, query, marks, codes, lowers.len(), uppers.len());
+    match verdict {
         Verdict::Accepted => {
-            let lower = bound_of(Bound::Lower, d, b, n, query, marks, codes, i);
-            let upper = bound_of(Bound::Upper, d, b, n, query, marks, codes, i);
-            Bounds::Between(lower, upper)
+            fill_bounds(Bound::Lower, d, b, query, marks, codes, lowers);
+            fill_bounds(Bound::Upper, d, b, query, marks, codes, uppers);
+            Verdict::Accepted
         }
-        Verdict::Refused(cause) => Bounds::Refused(cause),
+        Verdict::Refused(cause) => Verdict::Refused(cause),
     }
 }
 
+// Whether there are such bounds, in buffers of these lengths.
 fn check_bounds(
     d: usize,
     b: usize,
@@ -57,12 +62,13 @@ fn check_bounds(
     query: &[i32],
     marks: &[i32],
     codes: &[u8],
-    i: usize,
+    lowers: usize,
+    uppers: usize,
 ) -> Verdict
-    ensures { λ r. ⌜ r ≡ first (boundsCauses d b n (now (query .entry)) (now (marks .entry)) (now (codes .entry)) i) ⌝ }
+    ensures { λ r. ⌜ r ≡ first (boundsCauses d b n (now (query .entry)) (now (marks .entry)) (now (codes .entry)) lowers uppers) ⌝ }
 {
     match layout::check_shape(d, b) {
-        Verdict::Accepted => check_shaped(d, b, n, query, marks, codes, i),
+        Verdict::Accepted => check_shaped(d, b, n, query, marks, codes, lowers, uppers),
         Verdict::Refused(cause) => Verdict::Refused(cause),
     }
 }
@@ -74,18 +80,22 @@ fn check_shaped(
     query: &[i32],
     marks: &[i32],
     codes: &[u8],
-    i: usize,
+    lowers: usize,
+    uppers: usize,
 ) -> Verdict
     requires { ⌜ first (shapeCauses d b) ≡ Accepted ⌝ }
-    ensures { λ r. ⌜ r ≡ first (shapedBoundsCauses d b n (now (query .entry)) (now (marks .entry)) (now (codes .entry)) i) ⌝ }
+    ensures { λ r. ⌜ r ≡ first (shapedBoundsCauses d b n (now (query .entry)) (now (marks .entry)) (now (codes .entry)) lowers uppers) ⌝ }
 {
     if !limits::is_vector_count(n) {
         return Verdict::Refused(Refusal::Count);
     }
-    if n <= i {
-        return Verdict::Refused(Refusal::Count);
-    }
     if !exact_lengths(d, b, n, query.len(), marks.len(), codes.len()) {
+        return Verdict::Refused(Refusal::Length);
+    }
+    if lowers != n {
+        return Verdict::Refused(Refusal::Length);
+    }
+    if uppers != n {
         return Verdict::Refused(Refusal::Length);
     }
     if !whole::components::are_components(query) {
@@ -109,25 +119,46 @@ pub(crate) fn exact_lengths(
     if query != d {
         return false;
     }
-    marks == layout::marks_length(d, b) && codes == (n * b + 7) / 8
+    marks == layout::marks_length(d, b) && codes == layout::codes_length(d, b, n)
 }
 
-// One of the bounds, where nothing refuses.
-fn bound_of(
+// One of the bounds of each code's cell, where nothing refuses.
+fn fill_bounds(
     bound: Bound,
     d: usize,
     b: usize,
-    n: usize,
     query: &[i32],
     marks: &[i32],
     codes: &[u8],
-    i: usize,
-) -> u64
-    requires { ⌜ first (boundsCauses d b n (now query) (now marks) (now codes) i) ≡ Accepted ⌝ }
-    ensures { λ r. ⌜ r ≡ firstBound (stepOf bound) d b (now (marks .entry)) (now (codes .entry)) (now (query .entry)) i d ⌝ }
+    bounds: &mut [u64],
+)
+    requires { ⌜ Bounding d b (length (now bounds)) (now query) (now marks) (now codes) ⌝ }
+    ensures { λ _. ⌜ now (bounds .exit)
+        ≡ valuesFrom (λ i. firstBound (stepOf bound) d b (now (marks .entry)) (now (codes .entry)) (now (query .entry)) i d)
+        0 (length (now (bounds .entry))) ⌝ }
 {
     let length = marks.len();
     let mut table = [0u64; MAX_TABLE];
     fill_table(bound, d, b, marks, query, &mut table[..length]);
-    code_bound(d, b, &table[..length], codes, i)
+    sum_all(d, b, &table[..length], codes, bounds);
+}
+
+// The query's table, each dimension's entries in their own stretch.
+fn fill_table(bound: Bound, d: usize, b: usize, marks: &[i32], query: &[i32], table: &mut [u64])
+    requires { ⌜ (first (shapeCauses d b) ≡ Accepted) × (length (now marks) ≡ firstMarks d b d) × (length (now table) ≡ firstMarks d b d) ⌝ }
+    ensures { λ _. ⌜ now (table .exit) ≡ tableOf (stepOf bound) d b (now (marks .entry)) (now (query .entry)) ⌝ }
+{
+    let mut t = 0;
+    while t < d {
+        let stretch = layout::stretch_of(d, b, t + 1);
+        let start = stretch.offset;
+        let end = start + (1usize << stretch.bits) + 1;
+        fill_steps(
+            bound,
+            whole::at(query, t),
+            &marks[start..end],
+            &mut table[start..end],
+        );
+        t += 1;
+    }
 }

@@ -1,6 +1,6 @@
 // Whether a vector lies in a code's cell.
-use crate::waiting::begin;
-use crate::waiting::take;
+use crate::bit_buffer::begin;
+use crate::bit_buffer::take;
 use limits::MAX_VECTORS;
 use refusal::Verdict;
 ghost use mathlib.Core.Path.{_≡_};
@@ -13,35 +13,34 @@ ghost use Rattle.layout.specs.Layout.{firstMarks};
 ghost use Rattle.layout.specs.Stretch.{shapeCauses};
 ghost use Rattle.cells.specs.Cells.{inFirst};
 ghost use Rattle.cells.specs.CellLaws.{between};
-ghost use Rattle.bounds.specs.Inside.{cellLengths, cellHolds, runInside};
+ghost use Rattle.bounds.specs.Inside.{namesCell, inCell, runInside};
 
-// Whether a vector lies in code i's cell.
+// Whether code i names a cell and a vector lies in it. Where no such code names a cell, no vector does.
 pub fn in_cell(d: usize, b: usize, marks: &[i32], codes: &[u8], i: usize, vector: &[i32]) -> bool
-    ensures { λ r. ⌜ r ≡ cellHolds d b (now (marks .entry)) (now (codes .entry)) i (now (vector .entry)) ⌝ }
+    ensures { λ r. ⌜ r ≡ inCell d b (now (marks .entry)) (now (codes .entry)) i (now (vector .entry)) ⌝ }
+{
+    if !names_cell(d, b, i, marks.len(), codes.len()) {
+        return false;
+    }
+    if vector.len() != d {
+        return false;
+    }
+    all_inside(d, b, marks, codes, i, vector)
+}
+
+// Whether code i names a cell, by the lengths of the marks and of the codes.
+fn names_cell(d: usize, b: usize, i: usize, marks: usize, codes: usize) -> bool
+    ensures { λ r. ⌜ r ≡ namesCell d b i marks codes ⌝ }
 {
     match layout::check_shape(d, b) {
         Verdict::Accepted => {
             if MAX_VECTORS <= i {
                 return false;
             }
-            if !lengths_fit(d, b, i, vector.len(), marks.len(), codes.len()) {
-                return false;
-            }
-            all_inside(d, b, marks, codes, i, vector)
+            marks == layout::marks_length(d, b) && layout::codes_length(d, b, i + 1) <= codes
         }
         Verdict::Refused(_) => false,
     }
-}
-
-// Whether the components and the marks are as many as they must be, and code i is there.
-fn lengths_fit(d: usize, b: usize, i: usize, components: usize, marks: usize, codes: usize) -> bool
-    requires { ⌜ (first (shapeCauses d b) ≡ Accepted) × (i < maxVectors) ⌝ }
-    ensures { λ r. ⌜ r ≡ cellLengths d b i components marks codes ⌝ }
-{
-    if components != d {
-        return false;
-    }
-    marks == layout::marks_length(d, b) && ((i + 1) * b + 7) / 8 <= codes
 }
 
 // Whether each of the d components lies in the region that the code names for its dimension: those of the dimensions with one bit
@@ -90,12 +89,12 @@ fn run_inside(
     }
     let regions = 1usize << w;
     let mask = regions - 1;
-    let mut waiting = begin(codes, first_bit);
+    let mut buffer = begin(codes, first_bit);
     let mut start = first_start;
     let mut t = 0;
     while t < count {
-        waiting = take(codes, waiting, w);
-        let region = (waiting.bits >> waiting.count) & mask;
+        buffer = take(codes, buffer, w);
+        let region = (buffer.bits >> buffer.count) & mask;
         if !is_between(marks, start + region, vector[t]) {
             return false;
         }

@@ -1,7 +1,8 @@
 // The bounds of codes, as sums of a table's entries.
+use crate::bit_buffer::begin;
+use crate::bit_buffer::take;
 use crate::cell::exact_lengths;
-use crate::waiting::begin;
-use crate::waiting::take;
+use codes::bits::bits_at;
 use refusal::Refusal;
 use refusal::Verdict;
 ghost use mathlib.Core.Path.{_≡_};
@@ -15,16 +16,17 @@ ghost use Rattle.layout.specs.Stretch.{shapeCauses};
 ghost use Rattle.table.specs.Table.{boundSum};
 ghost use Rattle.distance.specs.Values.{valuesFrom};
 ghost use Rattle.bounds.specs.Run.{runSum};
-ghost use Rattle.bounds.specs.Sums.{sumCauses};
+ghost use Rattle.bounds.specs.Sums.{countedCauses, sumCauses};
 
-// The bounds of n codes, by a query's table. Refused are numbers of dimensions, bits or codes out of their limits, and other lengths.
+// The bounds of n codes, by a query's table. Refused are numbers of dimensions, bits or codes out of their limits, other lengths, and a
+// spare bit that is set.
 pub fn sum_bounds(d: usize, b: usize, table: &[u64], codes: &[u8], bounds: &mut [u64]) -> Verdict
-    ensures { λ r. ⌜ r ≡ first (sumCauses d b (length (now (table .entry))) (length (now (codes .entry))) (length (now (bounds .entry)))) ⌝ }
+    ensures { λ r. ⌜ r ≡ first (sumCauses d b (length (now (table .entry))) (now (codes .entry)) (length (now (bounds .entry)))) ⌝ }
     ensures { λ _. ⌜ now (bounds .exit)
-        ≡ outcome (first (sumCauses d b (length (now (table .entry))) (length (now (codes .entry))) (length (now (bounds .entry)))))
+        ≡ outcome (first (sumCauses d b (length (now (table .entry))) (now (codes .entry)) (length (now (bounds .entry)))))
         (valuesFrom (boundSum d b (now (table .entry)) (now (codes .entry))) 0 (length (now (bounds .entry)))) (λ _. now (bounds .entry)) ⌝ }
 {
-    let verdict = check_sums(d, b, table.len(), codes.len(), bounds.len());
+    let verdict = check_sums(d, b, table.len(), codes, bounds.len());
     match verdict {
         Verdict::Accepted => {
             sum_all(d, b, table, codes, bounds);
@@ -34,26 +36,34 @@ pub fn sum_bounds(d: usize, b: usize, table: &[u64], codes: &[u8], bounds: &mut 
     }
 }
 
-// Whether there are such bounds, by the lengths of the table and of n codes.
-fn check_sums(d: usize, b: usize, table: usize, codes: usize, n: usize) -> Verdict
-    ensures { λ r. ⌜ r ≡ first (sumCauses d b table codes n) ⌝ }
+// Whether there are such bounds, by the table's length.
+fn check_sums(d: usize, b: usize, table: usize, codes: &[u8], n: usize) -> Verdict
+    ensures { λ r. ⌜ r ≡ first (sumCauses d b table (now (codes .entry)) n) ⌝ }
 {
     match layout::check_shape(d, b) {
-        Verdict::Accepted => {
-            if !limits::is_vector_count(n) {
-                return Verdict::Refused(Refusal::Count);
-            }
-            if !exact_lengths(d, b, n, d, table, codes) {
-                return Verdict::Refused(Refusal::Length);
-            }
-            Verdict::Accepted
-        }
+        Verdict::Accepted => check_counted(d, b, table, codes, n),
         Verdict::Refused(cause) => Verdict::Refused(cause),
     }
 }
 
-// The same where nothing refuses.
-fn sum_all(d: usize, b: usize, table: &[u64], codes: &[u8], bounds: &mut [u64])
+fn check_counted(d: usize, b: usize, table: usize, codes: &[u8], n: usize) -> Verdict
+    requires { ⌜ first (shapeCauses d b) ≡ Accepted ⌝ }
+    ensures { λ r. ⌜ r ≡ first (countedCauses d b table (now (codes .entry)) n) ⌝ }
+{
+    if !limits::is_vector_count(n) {
+        return Verdict::Refused(Refusal::Count);
+    }
+    if !exact_lengths(d, b, n, d, table, codes.len()) {
+        return Verdict::Refused(Refusal::Length);
+    }
+    if bits_at(codes, n * b, 8) != 0 {
+        return Verdict::Refused(Refusal::Code);
+    }
+    Verdict::Accepted
+}
+
+// The bounds of as many codes as there is room for, by a table of the right length.
+pub(crate) fn sum_all(d: usize, b: usize, table: &[u64], codes: &[u8], bounds: &mut [u64])
     requires { ⌜ (first (shapeCauses d b) ≡ Accepted) × (length (now table) ≡ firstMarks d b d) × (length (now bounds) ≤ maxVectors)
         × (length (now bounds) * b ≤ length (now codes) * 8) ⌝ }
     ensures { λ _. ⌜ now (bounds .exit) ≡ valuesFrom (boundSum d b (now (table .entry)) (now (codes .entry))) 0 (length (now (bounds .entry))) ⌝ }
@@ -67,7 +77,7 @@ fn sum_all(d: usize, b: usize, table: &[u64], codes: &[u8], bounds: &mut [u64])
 
 // The bound of code i: the sum of the entries of the regions that it names, those of the dimensions with one bit more, and those of the
 // others.
-pub(crate) fn code_bound(d: usize, b: usize, table: &[u64], codes: &[u8], i: usize) -> u64
+fn code_bound(d: usize, b: usize, table: &[u64], codes: &[u8], i: usize) -> u64
     requires { ⌜ (first (shapeCauses d b) ≡ Accepted) × (length (now table) ≡ firstMarks d b d) × (i < maxVectors)
         × (suc i * b ≤ length (now codes) * 8) ⌝ }
     ensures { λ r. ⌜ r ≡ boundSum d b (now (table .entry)) (now (codes .entry)) i ⌝ }
@@ -100,13 +110,13 @@ fn sum_run(
     }
     let regions = 1usize << w;
     let mask = regions - 1;
-    let mut waiting = begin(codes, first_bit);
+    let mut buffer = begin(codes, first_bit);
     let mut start = first_start;
     let mut sum = 0;
     let mut t = 0;
     while t < count {
-        waiting = take(codes, waiting, w);
-        let region = (waiting.bits >> waiting.count) & mask;
+        buffer = take(codes, buffer, w);
+        let region = (buffer.bits >> buffer.count) & mask;
         sum = std::num::wrapping_add_u64(sum, table[start + region]);
         start += regions + 1;
         t += 1;

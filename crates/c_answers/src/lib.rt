@@ -1,6 +1,5 @@
 // What a call from C gives of an answer: its values, each in its place, and 0 or the refusal's number. Where the answer is a refusal, a
 // count is 0, and every other place is as it was.
-use bounds::cell::Bounds;
 use distance::Distance;
 use loading::Loaded;
 use reading::Intake;
@@ -12,7 +11,6 @@ ghost use Rattle.refusal.specs.Refusal.{verdictNumber};
 ghost use Rattle.reading.specs.Intake.{intakeOf};
 ghost use Rattle.region.specs.Lookup.{lookupNumber};
 ghost use Rattle.distance.specs.Measured.{distanceNumber};
-ghost use Rattle.bounds.specs.Bounded.{boundsNumber, lowerOr, upperOr};
 ghost use Rattle.search.specs.Answer.{searchedNumber, searchedCount};
 ghost use Rattle.c_answers.specs.Answered.{Answered, regionOr, distanceOr};
 
@@ -52,21 +50,6 @@ pub fn put_distance(answer: Distance, place: &mut u64) -> u32
             0
         }
         Distance::Refused(cause) => cause.number(),
-    }
-}
-
-// Puts the least and the greatest distance of a cell into two places.
-pub fn put_bounds(answer: Bounds, lower: &mut u64, upper: &mut u64) -> u32
-    ensures { λ r. ⌜ (r ≡ boundsNumber answer) × (now (lower .exit) ≡ lowerOr (now (lower .entry)) answer)
-        × (now (upper .exit) ≡ upperOr (now (upper .entry)) answer) ⌝ }
-{
-    match answer {
-        Bounds::Between(least, greatest) => {
-            *lower = least;
-            *upper = greatest;
-            0
-        }
-        Bounds::Refused(cause) => cause.number(),
     }
 }
 

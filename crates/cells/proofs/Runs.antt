@@ -1,15 +1,14 @@
 -- A code's dimensions in two runs, those with one bit more and the others: what the numbers of a loop over them stay below. Assumes nothing.
-use mathlib.Core.Path.{_≡_, _∙_}
+use mathlib.Core.Path.{_≡_}
 use Prim.Native.Nat.{ℕ, _+_, _*_, _/_, _%_, _^_, _≤_, _<_}
-use native.Mathlib.Nat.{one-mul, mod-lt, mul-le-mul}
+use native.Mathlib.Nat.{mod-lt, mul-le-mul}
 use native.Mathlib.Omega.{arith}
-use lib.Pow.{pow-mono, shl-exact}
+use lib.Pow.{pow-mono}
 use Rattle.refusal.specs.declared.Verdict.the-variants.{Accepted}
 use Rattle.refusal.specs.First.{first}
 use Rattle.limits.specs.Limits.{maxDimensions, maxDimensionBits, maxVectors}
-use Rattle.layout.specs.Laws.{fewest-le}
-use Rattle.layout.specs.Stretch.{shapeCauses, shape}
-use Rattle.codes.specs.Pack.{bits-le}
+use Rattle.layout.specs.Laws.{shifted, fewest-le}
+use Rattle.layout.specs.Stretch.{shapeCauses, shape, codes-bits-le}
 
 -- a dimension's regions, as a shift gives their number, for one bit more than a dimension can have
 pub record Regions (w : ℕ) : Type 0 where
@@ -17,7 +16,7 @@ pub record Regions (w : ℕ) : Type 0 where
   pub most : 2 ^ w ≤ 128
 
 pub regions : (w : ℕ) → w ≤ 7 → Regions w
-regions w few = record { exact = shl-exact {a = 1} 1 w 64 (omega arith) (omega arith) ∙ one-mul (2 ^ w); most = pow-mono few }
+regions w few = record { exact = shifted w (omega arith); most = pow-mono few }
 
 -- for code i of a shape
 pub record Sized (d b i : ℕ) : Type 0 where
@@ -43,7 +42,7 @@ sized d b i accepted numbered =
       few = shaped .few;
       fewest = fewest;
       more = more;
-      bits = bits-le i shaped (omega arith);
+      bits = codes-bits-le i shaped (omega arith);
       shift = regions (b / d + 1) wide;
       wide-bits = mul-le-mul dimensions wide;
       wide-marks = mul-le-mul dimensions most;

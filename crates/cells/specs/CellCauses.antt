@@ -8,10 +8,9 @@ use lib.ListN.{length}
 use Rattle.refusal.specs.declared.Refusal.the-variants.{Count, Length, Mark, Code}
 use Rattle.refusal.specs.First.{Row, _⇒_}
 use Rattle.limits.specs.Limits.{isVectorCount}
-use Rattle.layout.specs.Layout.{firstMarks}
+use Rattle.layout.specs.Layout.{firstMarks, codeLength}
 use Rattle.layout.specs.Stretch.{shapeCauses}
 use Rattle.partition.specs.Marks.{goodMarks}
-use Rattle.codes.specs.Codes.{codeLength}
 use Rattle.cells.specs.Cells.{goodCodes}
 
 -- 9

@@ -11,12 +11,12 @@ use lib.ListN.{length, getD}
 use Rattle.refusal.specs.declared.Verdict.the-variants.{Accepted}
 use Rattle.refusal.specs.First.{first}
 use Rattle.limits.specs.Limits.{maxVectors}
-use Rattle.layout.specs.Layout.{firstMarks}
+use Rattle.layout.specs.Layout.{firstMarks, codeLength}
 use Rattle.layout.specs.Stretch.{shapeCauses}
 use Rattle.region.specs.Region.{inRegion}
 use Rattle.partition.specs.Marks.{dimensionMarks}
 use Rattle.partition.specs.Parts.{part-at}
-use Rattle.codes.specs.Codes.{codeLength, codeRegion}
+use Rattle.codes.specs.Codes.{codeRegion}
 use Rattle.codes.specs.PackLaws.{code-region-fits}
 use Rattle.cells.specs.Cells.{hasValue, noneEmpty}
 use Rattle.cells.specs.Places.{markPlace, markPlaces, place-at}

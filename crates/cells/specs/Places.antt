@@ -4,19 +4,18 @@ use mathlib.Core.Path.{_≡_, refl, sym, ap, _∙_}
 use mathlib.Core.Bool.{Bool, true, false}
 use mathlib.Core.List.{List, [], _∷_, _++_}
 use Prim.Native.Nat.{ℕ, zero, suc, _+_, _-_, _*_, _/_, _%_, _^_, _≤_, _<_}
-use native.Mathlib.Nat.{add-zero, zero-add, add-suc, suc-add, mul-add, mul-one, min-eq-left, le-refl, mul-le-mul-left}
+use native.Mathlib.Nat.{add-zero, zero-add, add-suc, suc-add, zero-mul, suc-mul, mul-le-mul-left}
 use native.Mathlib.Omega.{arith}
-use borrow.Author.Tests.{le-leb, lt-leb, ltb-true, ltb-false}
+use borrow.Author.Tests.{ltb-true, ltb-false}
 use lib.Dec.{ltb}
 use lib.ListN.{length, getD, List·getD-eq-default}
-use lib.Pow.{pow-add}
-use Rattle.layout.specs.Layout.{bitsOf, firstBits, firstMarks}
-use Rattle.layout.specs.Laws.{first-bits, first-marks, marks-le, marks-within, first-next-marks}
+use Rattle.layout.specs.Layout.{firstBits, firstMarks}
+use Rattle.layout.specs.Laws.{marks-le, marks-within, first-next-marks}
+use Rattle.layout.specs.Runs.{Run, run-marks, wide, narrow, wide-bits, wide-marks}
 use Rattle.layout.specs.Stretch.{Shape}
 use Rattle.codes.specs.Bits.{bitsAt}
-use Rattle.codes.specs.BitLaws.{bits-at}
 use Rattle.codes.specs.Codes.{codeRegion}
-use Rattle.codes.specs.PackLaws.{code-region-fits}
+use Rattle.codes.specs.PackLaws.{code-region-fits, run-region}
 
 -- the place of the lower mark of the region that code i names for dimension t + 1
 abbrev pub markPlace : ℕ → ℕ → List ℕ → ℕ → ℕ → ℕ
@@ -52,47 +51,40 @@ module _ (d b : ℕ) (codes : List ℕ) (i : ℕ) where
   places-split t zero n = rw (zero-add n, add-zero t)
   places-split t (suc m) n = rw (suc-add m n, add-suc t m, ← suc-add t m, places-split (suc t) m n)
 
-  -- n dimensions of w bits are a run
-  run-places : (w : ℕ) → w ≤ 8 → (t n bit start : ℕ) → ((k : ℕ) → k < n → bitsOf d b (suc (t + k)) ≡ w) → bit ≡ i * b + firstBits d b t → start ≡ firstMarks d b t
-      → runPlaces codes w bit start n ≡ placesFrom d b codes i t n
-  unfolding runPlaces placesFrom codeRegion firstBits firstMarks
-  run-places w few t zero bit start same bit-is start-is = refl
-  run-places w few t (suc n) bit start same bit-is start-is =
-      let here : bitsOf d b (suc t) ≡ w = rw (add-zero t) at (same 0 (omega arith)) in
-      let next : (k : ℕ) → k < n → bitsOf d b (suc (suc t + k)) ≡ w = λ k h. rw (suc-add t k, ← add-suc t k) (same (suc k) (omega arith)) in
-      rw (run-places w few (suc t) n (bit + w) (start + (2 ^ w + 1)) next (omega (arith, here)) (rw (here, start-is)), bits-at codes bit w few, bit-is, start-is, here)
+  -- of the dimensions of a run, from its dimension k + 1 on
+  run-places : {before n w : ℕ} → Run d b before n w → (k m : ℕ) → k + m ≤ n
+      → runPlaces codes w (i * b + firstBits d b before + k * w) (firstMarks d b before + k * (2 ^ w + 1)) m ≡ placesFrom d b codes i (before + k) m
+  unfolding runPlaces placesFrom
+  run-places run k zero within = refl
+  run-places {before} {n} {w} run k (suc m) within =
+      let bit = i * b + firstBits d b before in
+      let start = firstMarks d b before in
+      let next-bit : bit + k * w + w ≡ bit + suc k * w = rw (suc-mul k w) (omega arith) in
+      let next-start : start + k * (2 ^ w + 1) + (2 ^ w + 1) ≡ start + suc k * (2 ^ w + 1) = rw (suc-mul k (2 ^ w + 1)) (omega arith) in
+      rw (
+        next-bit,
+        next-start,
+        run-places run (suc k) m (omega arith),
+        run-region run codes i k (omega arith),
+        run-marks run k (omega arith),
+        add-suc before k,
+      )
+
+  whole-run : {before n w : ℕ} → Run d b before n w
+      → runPlaces codes w (i * b + firstBits d b before) (firstMarks d b before) n ≡ placesFrom d b codes i before n
+  whole-run {before} {n} {w} run = simp (zero-mul, add-zero) at (run-places run 0 n (omega arith))
 
 -- the dimensions with one bit more, and then the others
 module _ (d b : ℕ) where
-  wide-bits : firstBits d b (b % d) ≡ b % d * (b / d + 1)
-  wide-bits = first-bits d b (b % d) ∙ rw (min-eq-left (le-refl (b % d)), mul-add (b % d) (b / d) 1, mul-one (b % d))
-
-  wide-marks : firstMarks d b (b % d) ≡ b % d * (2 ^ (b / d + 1) + 1)
-  wide-marks =
-      let m = b % d in
-      let p = 2 ^ (b / d) in
-      let twice : 2 ^ (b / d + 1) ≡ p + p = rw (pow-add 2 (b / d) 1) (omega arith) in
-      first-marks d b m ∙ rw (min-eq-left (le-refl m), twice) (omega (arith, mul-add m p 1, mul-add m (p + p) 1, mul-add m p p))
-
-  wide-same : (k : ℕ) → k < b % d → bitsOf d b (suc (0 + k)) ≡ b / d + 1
-  unfolding bitsOf
-  wide-same k below = rw (zero-add k, le-leb (suc k) (b % d) below)
-
-  narrow-same : (k : ℕ) → bitsOf d b (suc (b % d + k)) ≡ b / d
-  unfolding bitsOf
-  narrow-same k = rw (lt-leb (suc (b % d + k)) (b % d) (omega arith)) (add-zero (b / d))
-
   pub two-runs : (codes : List ℕ) (i : ℕ) → b / d ≤ 6 → b % d ≤ d
       → runPlaces codes (b / d + 1) (i * b) 0 (b % d) ++ runPlaces codes (b / d) (i * b + b % d * (b / d + 1)) (b % d * (2 ^ (b / d + 1) + 1)) (d - b % d)
       ≡ markPlaces d b codes i
   unfolding firstBits firstMarks
   two-runs codes i small within =
       let all : b % d + (d - b % d) ≡ d = omega arith in
-      rw (
-        run-places d b codes i (b / d + 1) (omega arith) 0 (b % d) (i * b) 0 wide-same (omega arith) refl,
-        run-places d b codes i (b / d) (omega arith) (b % d) (d - b % d) _ _ (λ k h. narrow-same k) (ap (λ (n : ℕ). i * b + n) (sym wide-bits)) (sym wide-marks),
-      )
-      (sym (rw (all, zero-add (b % d)) at (places-split d b codes i 0 (b % d) (d - b % d))))
+      let wides = rw (add-zero (i * b)) at (whole-run d b codes i (wide d b small)) in
+      let others = rw (wide-bits d b small, wide-marks d b small) at (whole-run d b codes i (narrow d b small)) in
+      rw (wides, others) (sym (rw (all, zero-add (b % d)) at (places-split d b codes i 0 (b % d) (d - b % d))))
 
 -- places that are no further than the longest marks buffer
 pub record Small (places : List ℕ) : Type 0 where

@@ -17,9 +17,8 @@ ghost use lib.ListN.{length};
 ghost use Rattle.refusal.specs.declared.Verdict.the-variants.{Accepted};
 ghost use Rattle.refusal.specs.First.{first};
 ghost use Rattle.limits.specs.Limits.{maxVectors};
-ghost use Rattle.layout.specs.Layout.{firstMarks};
+ghost use Rattle.layout.specs.Layout.{firstMarks, codeLength};
 ghost use Rattle.layout.specs.Stretch.{shapeCauses};
-ghost use Rattle.codes.specs.Codes.{codeLength};
 ghost use Rattle.cells.specs.Cells.{noneEmpty, noEmptyCodes};
 ghost use Rattle.cells.specs.CellCauses.{namedCauses, shapedCodeCauses, codeCauses};
 ghost use Rattle.cells.specs.Places.{Small};
@@ -56,7 +55,7 @@ fn exact_lengths(d: usize, b: usize, n: usize, marks: usize, codes: usize) -> bo
     requires { ⌜ (first (shapeCauses d b) ≡ Accepted) × (n ≤ maxVectors) ⌝ }
     ensures { λ r. ⌜ r ≡ eqb marks (firstMarks d b d) && eqb codes (codeLength b n) ⌝ }
 {
-    marks == layout::marks_length(d, b) && codes == (n * b + 7) / 8
+    marks == layout::marks_length(d, b) && codes == layout::codes_length(d, b, n)
 }
 
 // The same where only 9 is left.

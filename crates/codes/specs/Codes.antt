@@ -2,10 +2,11 @@
 -- numbers for each vector, packed into bytes and unpacked again. b is the number of bits of a code. Assumes nothing.
 use mathlib.Core.Bool.{Bool, true, _&&_, cond}
 use mathlib.Core.List.{List, [], _∷_, _++_}
-use Prim.Native.Nat.{ℕ, zero, suc, _+_, _*_, _/_}
+use Prim.Native.Nat.{ℕ, zero, suc, _+_, _*_}
 use lib.Dec.{ltb, eqb}
 use lib.ListN.{drop}
 use Rattle.layout.specs.Layout.{bitsOf, regionCount, firstBits}
+pub use Rattle.layout.specs.Layout.{codeLength}
 use Rattle.codes.specs.Bits.{lowBits, fromBits, bytesOf, byteBits, allZero}
 
 -- the column behind column t, the first behind the last
@@ -22,10 +23,6 @@ joined d b t (r ∷ rs) = lowBits (bitsOf d b (suc t)) r ++ joined d b (nextColu
 unfoldable pub regionsFit : ℕ → ℕ → ℕ → List ℕ → Bool
 regionsFit d b t [] = true
 regionsFit d b t (r ∷ rs) = ltb r (regionCount d b (suc t)) && regionsFit d b (nextColumn d t) rs
-
--- the exact length of n codes
-abbrev pub codeLength : ℕ → ℕ → ℕ
-codeLength b n = (n * b + 7) / 8
 
 -- "filling bytes from the high bit; spare bits of the last byte are zero"
 unfoldable pub packed : ℕ → ℕ → ℕ → List ℕ → List ℕ

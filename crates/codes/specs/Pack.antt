@@ -1,20 +1,20 @@
--- The causes for which packing, unpacking and reading a code say no (document 01, "When a call says no"). Assumes nothing.
+-- The causes for which packing and unpacking say no (document 01, "When a call says no"). Assumes nothing.
 use mathlib.Core.Path.{_≡_}
-use mathlib.Core.Bool.{not, _&&_, cond, and-eq-true-iff}
+use mathlib.Core.Bool.{not, _&&_, and-eq-true-iff}
 use mathlib.Core.List.{List, [], _∷_, _++_}
-use Prim.Native.Nat.{ℕ, _-_, _*_, _≤_, _<_}
+use Prim.Native.Nat.{ℕ, _*_, _≤_}
 use native.Mathlib.Nat.{mul-le-mul}
-use native.Mathlib.Omega.{arith}
-use borrow.Author.Tests.{eqb-true, not-false, lt-ltb}
-use lib.Dec.{ltb, eqb}
+use borrow.Author.Tests.{eqb-true, not-false}
+use lib.Dec.{eqb}
 use lib.ListN.{length}
 use Rattle.refusal.specs.declared.Refusal.the-variants.{Count, Length, Code}
 use Rattle.refusal.specs.declared.Verdict.the-variants.{Accepted}
-use Rattle.refusal.specs.First.{Row, _⇒_, first, outcome, passed, accepted-front, accepted-behind}
-use Rattle.limits.specs.Limits.{maxDimensions, maxDimensionBits, maxVectors, isVectorCount}
+use Rattle.refusal.specs.First.{Row, _⇒_, first, passed, accepted-front, accepted-behind}
+use Rattle.limits.specs.Limits.{maxDimensions, maxVectors, isVectorCount}
 use Rattle.limits.specs.Tests.{between}
-use Rattle.layout.specs.Stretch.{shapeCauses, dimensionCauses, Shape, shape}
-use Rattle.codes.specs.Codes.{regionsFit, codeLength, codeRegion, spareZero}
+use Rattle.layout.specs.Layout.{codeLength}
+use Rattle.layout.specs.Stretch.{shapeCauses, Shape, shape}
+use Rattle.codes.specs.Codes.{regionsFit, spareZero}
 
 -- 3 for the number of vectors, 5 for the lengths of the two buffers
 abbrev pub lengthCauses : ℕ → ℕ → ℕ → ℕ → ℕ → List Row
@@ -32,14 +32,6 @@ packCauses d b n regions codes = sizeCauses d b n (length regions) codes ++ ((no
 -- 9 for "a spare bit set"
 abbrev pub unpackCauses : ℕ → ℕ → ℕ → List ℕ → ℕ → List Row
 unpackCauses d b n codes regions = sizeCauses d b n regions (length codes) ++ ((not (spareZero b n codes) ⇒ Code) ∷ [])
-
--- the region that code i names for dimension j, from 1; 0 where there is no such dimension, and for a number no code can have
-unfoldable pub regionNamed : ℕ → ℕ → List ℕ → ℕ → ℕ → ℕ
-regionNamed d b codes i j = cond (ltb i maxVectors) (outcome (first (dimensionCauses d b j)) (codeRegion d b codes i (j - 1)) (λ _. 0)) 0
-
-pub region-named : (d b : ℕ) (codes : List ℕ) (i j : ℕ) → i < maxVectors → first (dimensionCauses d b j) ≡ Accepted → regionNamed d b codes i j ≡ codeRegion d b codes i (j - 1)
-unfolding regionNamed
-region-named d b codes i j within accepted = rw (lt-ltb i maxVectors within, accepted)
 
 -- ---- what holds where the sizes are not refused
 
@@ -62,11 +54,6 @@ sizes d b n regions codes accepted =
       bytes = eqb-true codes (codeLength b n) (lengths .1);
     }
 
--- the products are small
+-- the numbers are few
 pub numbers-le : {d b : ℕ} (n : ℕ) → Shape d b → n ≤ maxVectors → n * d ≤ maxVectors * maxDimensions
 numbers-le n shaped few = mul-le-mul few (shaped .few)
-
-pub bits-le : {d b : ℕ} (n : ℕ) → Shape d b → n ≤ maxVectors → n * b ≤ maxVectors * (maxDimensionBits * maxDimensions)
-bits-le {d} {b} n shaped few =
-    let bits : b ≤ maxDimensionBits * maxDimensions = omega (arith, shaped .bits, shaped .few) in
-    mul-le-mul few bits

@@ -12,6 +12,7 @@ use lib.ListN.{length, getD, drop, replicate, length-append, length-drop}
 use lib.Seq.{drop-at, drop-drop}
 use Rattle.layout.specs.Layout.{bitsOf, regionCount, firstBits}
 use Rattle.layout.specs.Laws.{all-bits}
+use Rattle.layout.specs.Runs.{Run, run-bits}
 use Rattle.codes.specs.Bits.{lowBits, fromBits, byteBits, bitsAt}
 use Rattle.codes.specs.BitLaws.{Binary, none, binary-drop, binary-append, binary-low, binary-bytes, Bytes, padded, length-low, length-bytes, length-byte-bits, low-from, from-low, from-lt, from-zero, padded-add, padded-long, padded-same, zeros, bytes-same, bytes-of, bits-bytes, bytes-bits, bits-at}
 use Rattle.codes.specs.Codes.{nextColumn, joined, regionsFit, codeLength, packed, split, unpacked, codeRegion, spareZero}
@@ -132,6 +133,14 @@ unpacked-fit d b n codes = split-fit d b 0 (n * d) (binary-bytes codes)
 pub code-region-fits : (d b : ℕ) (codes : List ℕ) (i t : ℕ) → codeRegion d b codes i t < regionCount d b (suc t)
 unfolding codeRegion
 code-region-fits d b codes i t = from-lt (bitsOf d b (suc t)) (binary-drop (i * b + firstBits d b t) (binary-bytes codes))
+
+-- the region that a code names for a dimension of a run
+pub run-region : {d b before n w : ℕ} → Run d b before n w → (codes : List ℕ) (i t : ℕ) → t < n
+    → codeRegion d b codes i (before + t) ≡ bitsAt codes (i * b + firstBits d b before + t * w) w
+unfolding codeRegion
+run-region {d} {b} {before} {w = w} run codes i t below =
+    let place : i * b + firstBits d b (before + t) ≡ i * b + firstBits d b before + t * w = omega (arith, run-bits run t (omega arith)) in
+    rw (run .same t below, place) (sym (bits-at codes (i * b + firstBits d b before + t * w) w (run .few)))
 
 -- the spare bits, fewer than 8, are read as one number
 pub spare-read : (b n : ℕ) (codes : List ℕ) → length codes ≡ codeLength b n → eqb (bitsAt codes (n * b) 8) 0 ≡ spareZero b n codes

@@ -4,7 +4,6 @@ pub mod bits;
 use crate::bits::bits_at;
 use crate::bits::low;
 use limits::MAX_DIMENSION_BITS;
-use limits::MAX_VECTORS;
 use refusal::Refusal;
 use refusal::Verdict;
 ghost use mathlib.Core.Path.{_≡_};
@@ -12,12 +11,13 @@ ghost use mathlib.Core.Bool.{true, _&&_, cond};
 ghost use Prim.Native.Nat.{suc, _+_, _*_, _/_, _≤_};
 ghost use lib.Dec.{leb, ltb};
 ghost use lib.ListN.{length};
+ghost use Rattle.refusal.specs.declared.Verdict.the-variants.{Accepted};
 ghost use Rattle.refusal.specs.First.{first, outcome};
 ghost use Rattle.limits.specs.Limits.{maxDimensions, maxDimensionBits, maxVectors};
-ghost use Rattle.layout.specs.Stretch.{Shape};
+ghost use Rattle.layout.specs.Stretch.{shapeCauses, Shape};
 ghost use Rattle.codes.specs.Bits.{bytesOf, byteBits};
 ghost use Rattle.codes.specs.Codes.{nextColumn, joined, regionsFit, packed, split, unpacked};
-ghost use Rattle.codes.specs.Pack.{lengthCauses, sizeCauses, packCauses, unpackCauses, regionNamed};
+ghost use Rattle.codes.specs.Pack.{lengthCauses, sizeCauses, packCauses, unpackCauses};
 
 // n rows of region numbers packed into codes of b bits. Refused are numbers of dimensions, bits or vectors out of their limits, buffers
 // of other lengths, and a region number past the last of its dimension.
@@ -58,22 +58,6 @@ pub fn unpack(d: usize, b: usize, n: usize, codes: &[u8], regions: &mut [u8]) ->
     }
 }
 
-// The region that code i names for dimension j, from 1; 0 where there is no such dimension, and where i is not below MAX_VECTORS.
-pub fn code_region(d: usize, b: usize, codes: &[u8], i: usize, j: usize) -> usize
-    ensures { λ r. ⌜ r ≡ regionNamed d b (now (codes .entry)) i j ⌝ }
-{
-    if MAX_VECTORS <= i {
-        return 0;
-    }
-    match layout::check_dimension(d, b, j) {
-        Verdict::Accepted => {
-            let from = i * b + layout::bits_before(d, b, j);
-            bits_at(codes, from, column_bits(b / d, b % d, j - 1))
-        }
-        Verdict::Refused(_) => 0,
-    }
-}
-
 // Whether the numbers of dimensions, bits and vectors are within their limits, and the buffers' lengths the right ones.
 pub fn check_sizes(d: usize, b: usize, n: usize, regions: usize, codes: usize) -> Verdict
     ensures { λ r. ⌜ r ≡ first (sizeCauses d b n regions codes) ⌝ }
@@ -85,7 +69,7 @@ pub fn check_sizes(d: usize, b: usize, n: usize, regions: usize, codes: usize) -
 }
 
 fn check_lengths(d: usize, b: usize, n: usize, regions: usize, codes: usize) -> Verdict
-    requires { ⌜ Shape d b ⌝ }
+    requires { ⌜ first (shapeCauses d b) ≡ Accepted ⌝ }
     ensures { λ r. ⌜ r ≡ first (lengthCauses d b n regions codes) ⌝ }
 {
     if !limits::is_vector_count(n) {
@@ -94,7 +78,7 @@ fn check_lengths(d: usize, b: usize, n: usize, regions: usize, codes: usize) -> 
     if regions != n * d {
         return Verdict::Refused(Refusal::Length);
     }
-    if codes != (n * b + 7) / 8 {
+    if codes != layout::codes_length(d, b, n) {
         return Verdict::Refused(Refusal::Length);
     }
     Verdict::Accepted

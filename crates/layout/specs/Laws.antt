@@ -3,11 +3,11 @@ use mathlib.Core.Path.{_≡_, refl, ap, _∙_}
 use mathlib.Core.Logic.{inl, inr}
 use mathlib.Core.Bool.{Bool, true, false, cond}
 use Prim.Native.Nat.{ℕ, zero, suc, _+_, _*_, _/_, _%_, _^_, _≤_, _<_, zero-le, min}
-use native.Mathlib.Nat.{suc-mul, zero-mul, mul-one, add-zero, div-add-mod', div-le-of-le-mul, lt-of-mul-lt-mul-right, mul-comm, mul-suc, mod-lt, le-trans, le-of-eq, le-add-right, le-of-suc-le-suc, eq-or-lt-of-le}
+use native.Mathlib.Nat.{suc-mul, zero-mul, one-mul, mul-one, add-zero, div-add-mod', div-le-of-le-mul, lt-of-mul-lt-mul-right, mul-comm, mul-suc, mod-lt, le-trans, le-of-eq, le-add-right, le-of-suc-le-suc, eq-or-lt-of-le}
 use native.Mathlib.Omega.{arith}
 use borrow.Author.Tests.{leb-true, leb-false}
 use lib.Dec.{leb}
-use lib.Pow.{pow-mono, pow-add}
+use lib.Pow.{pow-mono, pow-add, shl-exact}
 use Rattle.layout.specs.Layout.{bitsOf, markCount, firstBits, firstMarks}
 
 -- a sum over the first j dimensions in which each has m, and those that have one bit more have h more
@@ -50,6 +50,10 @@ all-bits d b h =
     let rest : b % d < d = mod-lt b h in
     let least : min d (b % d) ≡ b % d = omega arith in
     first-bits d b d ∙ rw (least, mul-comm d (b / d)) (div-add-mod' b d)
+
+-- a number of regions, as a shift gives it: the shift loses nothing
+pub shifted : (w : ℕ) → w < 64 → 1 * 2 ^ w % 2 ^ 64 ≡ 2 ^ w
+shifted w few = shl-exact {a = 1} 1 w 64 (omega arith) (omega arith) ∙ one-mul (2 ^ w)
 
 -- ---- bounds
 

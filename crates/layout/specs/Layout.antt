@@ -1,7 +1,7 @@
 -- How the bits and the marks are shared out among the dimensions (document 01, "Marks, regions, codes"). d is the number of dimensions, b
 -- the number of bits in all; dimensions count from 1. Assumes nothing.
 use mathlib.Core.Bool.{cond}
-use Prim.Native.Nat.{ℕ, zero, suc, _+_, _/_, _%_, _^_}
+use Prim.Native.Nat.{ℕ, zero, suc, _+_, _*_, _/_, _%_, _^_}
 use lib.Dec.{leb}
 
 -- "Dimension j, from 1, has b div d bits, and one more if j ≤ b mod d."
@@ -25,3 +25,7 @@ firstBits d b (suc j) = firstBits d b j + bitsOf d b (suc j)
 unfoldable pub firstMarks : ℕ → ℕ → ℕ → ℕ
 firstMarks d b zero = 0
 firstMarks d b (suc j) = firstMarks d b j + markCount d b (suc j)
+
+-- the exact length of n codes of b bits, which follow each other with no gap
+abbrev pub codeLength : ℕ → ℕ → ℕ
+codeLength b n = (n * b + 7) / 8

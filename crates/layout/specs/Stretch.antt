@@ -1,19 +1,19 @@
 -- Where a dimension's marks stand in the marks buffer, and how many bits it has; 0 where the numbers are refused. Assumes nothing.
 use mathlib.Core.Path.{_≡_, ap, _∙_, subst⁻¹}
-use mathlib.Core.Bool.{false, not, _&&_}
+use mathlib.Core.Bool.{Bool, true, false, not, _&&_, cond}
 use mathlib.Core.List.{List, [], _∷_}
-use Prim.Native.Nat.{ℕ, suc, _+_, _-_, _*_, _^_, _≤_, _<_}
-use native.Mathlib.Nat.{le-trans, mul-le-mul-left}
+use Prim.Native.Nat.{ℕ, zero, suc, _+_, _-_, _*_, _^_, _≤_, _<_}
+use native.Mathlib.Nat.{le-trans, mul-le-mul, mul-le-mul-left, zero-mul}
 use native.Mathlib.Omega.{arith}
 use borrow.Author.Tests.{leb-true, le-leb, not-false}
 use lib.Dec.{leb}
 use Rattle.refusal.specs.declared.Refusal.the-variants.{Dimension, Bits}
 use Rattle.refusal.specs.declared.Verdict.the-variants.{Accepted}
 use Rattle.refusal.specs.First.{Row, _⇒_, first, outcome, outcome-accepted, first-next, passed}
-use Rattle.limits.specs.Limits.{maxDimensions, maxDimensionBits, isDimensionCount, isBits}
+use Rattle.limits.specs.Limits.{maxDimensions, maxDimensionBits, maxVectors, isDimensionCount, isBits, isVectorCount}
 use Rattle.limits.specs.Tests.{between}
 use Rattle.layout.specs.declared.Stretch.{Stretch}
-use Rattle.layout.specs.Layout.{bitsOf, firstBits, firstMarks}
+use Rattle.layout.specs.Layout.{bitsOf, firstMarks, codeLength}
 use Rattle.layout.specs.Laws.{bits-le, marks-le, marks-within, first-next-marks}
 
 -- 1 for the number of dimensions, 2 for the number of bits
@@ -30,13 +30,13 @@ stretchOf d b j =
     outcome (first (dimensionCauses d b j)) (record { offset = firstMarks d b (j - 1); bits = bitsOf d b j })
     (λ _. record { offset = 0; bits = 0 })
 
--- the bits of the dimensions before j
-unfoldable pub bitsBefore : ℕ → ℕ → ℕ → ℕ
-bitsBefore d b j = outcome (first (dimensionCauses d b j)) (firstBits d b (j - 1)) (λ _. 0)
-
 -- the length of the whole marks buffer
 unfoldable pub marksLength : ℕ → ℕ → ℕ
 marksLength d b = outcome (first (shapeCauses d b)) (firstMarks d b d) (λ _. 0)
+
+-- the length of n codes
+unfoldable pub codesLength : ℕ → ℕ → ℕ → ℕ
+codesLength d b n = outcome (first (shapeCauses d b)) (cond (isVectorCount n) (codeLength b n) 0) (λ _. 0)
 
 -- ---- what holds where nothing is refused
 
@@ -55,6 +55,12 @@ shape d b accepted =
       few = dimensions .below;
       bits = leb-true b (maxDimensionBits * d) (not-false (isBits d b) (within .fails));
     }
+
+-- so the bits of n codes are few
+pub codes-bits-le : {d b : ℕ} (n : ℕ) → Shape d b → n ≤ maxVectors → n * b ≤ maxVectors * (maxDimensionBits * maxDimensions)
+codes-bits-le {d} {b} n shaped few =
+    let bits : b ≤ maxDimensionBits * maxDimensions = omega (arith, shaped .bits, shaped .few) in
+    mul-le-mul few bits
 
 -- a dimension's number as one more than the number of those before it
 pub record Numbered (d b j : ℕ) : Type 0 where
@@ -105,6 +111,15 @@ stretches {d} {b} {j} {s} accepted is =
 pub marks-length-is : (d b : ℕ) → first (shapeCauses d b) ≡ Accepted → marksLength d b ≡ firstMarks d b d
 unfolding marksLength
 marks-length-is d b accepted = outcome-accepted _ _ accepted
+
+-- no codes have the length 0 too
+pub codes-length-is : (d b n : ℕ) → first (shapeCauses d b) ≡ Accepted → n ≤ maxVectors → codesLength d b n ≡ codeLength b n
+unfolding codesLength
+codes-length-is d b n accepted few = outcome-accepted _ _ accepted ∙ go n few
+  where
+    go : (n : ℕ) → n ≤ maxVectors → cond (isVectorCount n) (codeLength b n) 0 ≡ codeLength b n
+    go zero few = rw (zero-mul b)
+    go (suc n) few = rw (le-leb 1 (suc n) (omega arith), le-leb (suc n) maxVectors few)
 
 -- dimension t + 1 of those that are taken
 pub dimension-accepted : (d b t : ℕ) → first (shapeCauses d b) ≡ Accepted → t < d → first (dimensionCauses d b (t + 1)) ≡ Accepted

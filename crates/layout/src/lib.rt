@@ -4,7 +4,7 @@ use refusal::Verdict;
 ghost use mathlib.Core.Path.{_≡_};
 ghost use Prim.Native.Nat.{_+_, _*_, _^_, _≤_, min};
 ghost use Rattle.refusal.specs.First.{first};
-ghost use Rattle.layout.specs.Stretch.{shapeCauses, dimensionCauses, stretchOf, bitsBefore, marksLength};
+ghost use Rattle.layout.specs.Stretch.{shapeCauses, dimensionCauses, stretchOf, marksLength, codesLength};
 
 // Where a dimension's marks begin in the marks buffer, and how many bits it has.
 pub struct Stretch {
@@ -51,22 +51,27 @@ pub fn stretch_of(d: usize, b: usize, j: usize) -> Stretch
     }
 }
 
-// The bits of the dimensions before j, 0 where there is no such dimension.
-pub fn bits_before(d: usize, b: usize, j: usize) -> usize
-    ensures { λ r. ⌜ r ≡ bitsBefore d b j ⌝ }
-{
-    match check_dimension(d, b, j) {
-        Verdict::Accepted => (j - 1) * (b / d) + least(j - 1, b % d),
-        Verdict::Refused(_) => 0,
-    }
-}
-
 // The length of the whole marks buffer, 0 where there are no such numbers.
 pub fn marks_length(d: usize, b: usize) -> usize
     ensures { λ r. ⌜ r ≡ marksLength d b ⌝ }
 {
     match check_shape(d, b) {
         Verdict::Accepted => marks_before(b / d, b % d, d),
+        Verdict::Refused(_) => 0,
+    }
+}
+
+// The length of n codes, 0 where there are no such numbers.
+pub fn codes_length(d: usize, b: usize, n: usize) -> usize
+    ensures { λ r. ⌜ r ≡ codesLength d b n ⌝ }
+{
+    match check_shape(d, b) {
+        Verdict::Accepted => {
+            if !limits::is_vector_count(n) {
+                return 0;
+            }
+            (n * b + 7) / 8
+        }
         Verdict::Refused(_) => 0,
     }
 }

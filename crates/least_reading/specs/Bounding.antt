@@ -1,46 +1,17 @@
--- What the lower bounds of n codes take: their sums of a query's table are then the bounds. Assumes nothing.
-use mathlib.Core.Path.{_≡_, refl, _∙_}
-use mathlib.Core.Bool.{true}
+-- What the lower bounds of n codes take. Assumes nothing.
+use mathlib.Core.Path.{_≡_}
+use mathlib.Core.Bool.{and-eq-true-iff}
 use mathlib.Core.List.{List}
-use Prim.Native.Nat.{ℕ, zero, suc, _+_, _≤_, _<_}
+use Prim.Native.Nat.{ℕ}
 use native.Mathlib.Omega.{arith}
 use lib.IntN.{ℤ}
-use lib.ListN.{length}
-use borrow.Author.Tests.{eq-eqb, le-leb}
-use Rattle.refusal.specs.declared.Verdict.the-variants.{Accepted}
-use Rattle.refusal.specs.First.{first, outcome, first-append, outcome-accepted}
-use Rattle.limits.specs.Limits.{maxVectors, isVectorCount}
-use Rattle.whole.specs.Components.{areComponents}
-use Rattle.layout.specs.Layout.{firstMarks}
-use Rattle.layout.specs.Stretch.{shapeCauses}
-use Rattle.partition.specs.Marks.{goodMarks}
-use Rattle.codes.specs.Codes.{codeLength}
-use Rattle.step.specs.declared.Bound.the-variants.{Lower}
-use Rattle.step.specs.Step.{stepOf}
-use Rattle.distance.specs.Bounds.{lowerOf}
-use Rattle.table.specs.Table.{maxTable, tableOf, tableCauses, boundSum}
-use Rattle.table.specs.TableLaws.{bound-sum, table-le}
-use Rattle.distance.specs.Values.{valuesFrom}
-use Rattle.bounds.specs.Bounded.{table-accepted}
-use Rattle.bounds.specs.Sums.{countedCauses, sumCauses}
+use borrow.Author.Tests.{le-leb}
+use Rattle.limits.specs.Limits.{maxVectors}
+use Rattle.codes.specs.Codes.{spareZero}
+use Rattle.cells.specs.Cells.{noEmptyCodes}
+use Rattle.bounds.specs.Bounded.{Bounding}
 use Rattle.search.specs.Search.{Library, Room}
 use Rattle.search.specs.Ready.{Ready}
-
--- functions that agree have the same values
-values-agree : (f g : ℕ → ℕ) (i n : ℕ) → ((j : ℕ) → j < i + n → f j ≡ g j) → valuesFrom f i n ≡ valuesFrom g i n
-unfolding valuesFrom
-values-agree f g i zero agree = refl
-values-agree f g i (suc n) agree = rw (agree i (omega arith), values-agree f g (suc i) n (λ j h. agree j (omega arith)))
-
--- a query, marks that are good, and n codes, of the right lengths
-pub record Bounding (d b n : ℕ) (query marks : List ℤ) (codes : List ℕ) : Type 0 where
-  pub shaped : first (shapeCauses d b) ≡ Accepted
-  pub count : isVectorCount n ≡ true
-  pub of-query : length query ≡ d
-  pub of-marks : length marks ≡ firstMarks d b d
-  pub of-codes : length codes ≡ codeLength b n
-  pub components : areComponents query ≡ true
-  pub good : goodMarks d b marks ≡ true
 
 pub bounding : {l : Library} {query : List ℤ} {k : ℕ} {room : Room} → Ready l query k room → (n : ℕ) → n ≡ l .n
     → Bounding (l .d) (l .b) n query (l .marks) (l .codes)
@@ -52,24 +23,6 @@ bounding {l} is n same = record {
   of-codes = rw same (is .lengths .of-codes);
   components = is .components;
   good = is .marks;
+  spare = rw same
+      (and-eq-true-iff (noEmptyCodes (l .d) (l .b) (l .marks) (l .codes) (l .n)) (spareZero (l .b) (l .n) (l .codes)) .0 (is .codes) .1);
 }
-
-module _ {d b n : ℕ} {query marks : List ℤ} {codes : List ℕ} (is : Bounding d b n query marks codes) where
-  pub table-fits : length marks ≤ maxTable
-  table-fits = rw (is .of-marks) (table-le d b (is .shaped))
-
-  pub summed : (table : ℕ) → table ≡ length marks → first (sumCauses d b table (length codes) n) ≡ Accepted
-  unfolding first
-  summed table same =
-      first-append (shapeCauses d b) (countedCauses d b table (length codes) n)
-      ∙ outcome-accepted _ _ (is .shaped)
-      ∙ rw (is .count, eq-eqb _ _ (same ∙ is .of-marks), eq-eqb _ _ (is .of-codes))
-
-  pub bounds : (old back shared : List ℕ) (size : ℕ)
-      → back ≡ outcome (first (tableCauses d b (length marks) (length query) size)) (tableOf (stepOf Lower) d b marks query) (λ _. old)
-      → size ≡ length marks → shared ≡ back → valuesFrom (boundSum d b shared codes) 0 n ≡ valuesFrom (lowerOf d b marks codes query) 0 n
-  bounds old back shared size filled exact same =
-      let accepted = table-accepted d b (length query) (length marks) size (is .shaped) (is .of-query) (is .of-marks) (exact ∙ is .of-marks) in
-      rw (same ∙ filled ∙ outcome-accepted _ _ accepted)
-      (values-agree (boundSum d b (tableOf (stepOf Lower) d b marks query) codes) (lowerOf d b marks codes query) 0 n
-      (λ j below. bound-sum d b marks query codes j Lower (is .shaped) (is .components) (is .good)))

@@ -1,4 +1,4 @@
-// Distances, for C. Each gives 0, or the refusal's number; a refused call leaves the places for distances as they were.
+// Distances, for C. Each gives 0, or the refusal's number; a refused call leaves what it was to write as it was.
 ghost use mathlib.Core.Path.{_≡_};
 ghost use lib.ListN.{length};
 ghost use Rattle.refusal.specs.Refusal.{verdictNumber};
@@ -6,6 +6,7 @@ ghost use Rattle.refusal.specs.First.{first, outcome};
 ghost use Rattle.distance.specs.Distance.{distanceOf};
 ghost use Rattle.distance.specs.Bounds.{lowerOf, upperOf};
 ghost use Rattle.distance.specs.Measured.{distanceCauses};
+ghost use Rattle.distance.specs.Values.{valuesFrom};
 ghost use Rattle.bounds.specs.Bounded.{boundsCauses};
 
 // The distance of a vector from a query, of as many components as the query has.
@@ -18,7 +19,7 @@ pub extern "C" fn matcher_distance(query: &[i32], vector: &[i32], distance: &mut
     c_answers::put_distance(distance::measure(query, vector), distance)
 }
 
-// The least and the greatest distance of code i's cell from a query.
+// The least and the greatest distance of each of n codes' cells from a query, in a buffer each.
 #[no_mangle]
 pub extern "C" fn matcher_bounds(
     d: usize,
@@ -27,18 +28,16 @@ pub extern "C" fn matcher_bounds(
     query: &[i32],
     marks: &[i32],
     codes: &[u8],
-    i: usize,
-    lower: &mut u64,
-    upper: &mut u64,
+    lowers: &mut [u64],
+    uppers: &mut [u64],
 ) -> u32
-    ensures { λ r. ⌜ r ≡ verdictNumber (first (boundsCauses d b n (now (query .entry)) (now (marks .entry)) (now (codes .entry)) i)) ⌝ }
-    ensures { λ _. ⌜ now (lower .exit)
-        ≡ outcome (first (boundsCauses d b n (now (query .entry)) (now (marks .entry)) (now (codes .entry)) i))
-        (lowerOf d b (now (marks .entry)) (now (codes .entry)) (now (query .entry)) i) (λ _. now (lower .entry)) ⌝ }
-    ensures { λ _. ⌜ now (upper .exit)
-        ≡ outcome (first (boundsCauses d b n (now (query .entry)) (now (marks .entry)) (now (codes .entry)) i))
-        (upperOf d b (now (marks .entry)) (now (codes .entry)) (now (query .entry)) i) (λ _. now (upper .entry)) ⌝ }
+    ensures { λ r. let v = first (boundsCauses d b n (now (query .entry)) (now (marks .entry)) (now (codes .entry))
+        (length (now (lowers .entry))) (length (now (uppers .entry)))) in
+        let lower = lowerOf d b (now (marks .entry)) (now (codes .entry)) (now (query .entry)) in
+        let upper = upperOf d b (now (marks .entry)) (now (codes .entry)) (now (query .entry)) in
+        ⌜ (r ≡ verdictNumber v)
+        × (now (lowers .exit) ≡ outcome v (valuesFrom lower 0 n) (λ _. now (lowers .entry)))
+        × (now (uppers .exit) ≡ outcome v (valuesFrom upper 0 n) (λ _. now (uppers .entry))) ⌝ }
 {
-    let bounds = bounds::cell::cell_bounds(d, b, n, query, marks, codes, i);
-    c_answers::put_bounds(bounds, lower, upper)
+    bounds::cell::cell_bounds(d, b, n, query, marks, codes, lowers, uppers).number()
 }

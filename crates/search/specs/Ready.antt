@@ -17,7 +17,7 @@ use Rattle.limits.specs.Tests.{between}
 use Rattle.whole.specs.Components.{areComponents}
 use Rattle.layout.specs.Stretch.{shapeCauses, shape}
 use Rattle.partition.specs.Marks.{goodMarks}
-use Rattle.cells.specs.Cells.{vectorAt}
+use Rattle.cells.specs.Cells.{vectorAt, goodCodes}
 use Rattle.order.specs.Members.{member-getD}
 use Rattle.order.specs.Counted.{counted, counted-length}
 use Rattle.order.specs.Ranking.{ranked-count, ranked-among}
@@ -42,6 +42,7 @@ pub record Ready (l : Library) (query : List ℤ) (k : ℕ) (room : Room) : Type
   pub lengths : Lengths l query k room
   pub components : areComponents query ≡ true
   pub marks : goodMarks (l .d) (l .b) (l .marks) ≡ true
+  pub codes : goodCodes (l .d) (l .b) (l .n) (l .marks) (l .codes) ≡ true
 
 pub ready : (l : Library) (query : List ℤ) (k : ℕ) (room : Room) → first (entryCauses l query k room) ≡ Accepted → Ready l query k room
 ready l query k room accepts =
@@ -52,6 +53,7 @@ ready l query k room accepts =
     let lengths = passed _ _ _ (neighbours .rest) in
     let components = passed _ _ _ (lengths .rest) in
     let marks = passed _ _ _ (components .rest) in
+    let codes = passed _ _ _ (marks .rest) in
     let within = between 1 k (l .n) (not-false (leb 1 k && leb k (l .n)) (neighbours .fails)) in
     let shaped : first (shapeCauses (l .d) (l .b)) ≡ Accepted = unfold first in rw (dimensions .fails, bits .fails) refl in
     record {
@@ -63,6 +65,7 @@ ready l query k room accepts =
       lengths = lengths-told l query k room (not-false (exactLengths l query k room) (lengths .fails));
       components = not-false (areComponents query) (components .fails);
       marks = not-false (goodMarks (l .d) (l .b) (l .marks)) (marks .fails);
+      codes = not-false (goodCodes (l .d) (l .b) (l .n) (l .marks) (l .codes)) (codes .fails);
     }
 
 -- the same with other room for the answer
@@ -87,6 +90,7 @@ ready-room is numbers distances reads of-numbers of-distances of-reads =
       };
       components = is .components;
       marks = is .marks;
+      codes = is .codes;
     }
 
 -- ---- a vector's place among the vectors

@@ -116,7 +116,7 @@ fn exact_lengths(
     if marks.len() != layout::marks_length(d, b) {
         return false;
     }
-    if codes.len() != (n * b + 7) / 8 {
+    if codes.len() != layout::codes_length(d, b, n) {
         return false;
     }
     if vectors.len() != n * d {

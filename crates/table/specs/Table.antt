@@ -1,17 +1,12 @@
 -- A query's squared steps to every region, worked out once a query (source document 003, section 3.3), so that a code's bound is a sum
 -- of entries. The table has the layout of the marks buffer: a region's entry stands where its lower mark stands. The entry
 -- at a dimension's last mark, where no region begins, is read by no code. Entries are modulo 2^64. Assumes nothing.
-use mathlib.Core.Bool.{not, _&&_}
 use mathlib.Core.List.{List, [], _∷_, _++_}
 use Prim.Native.Nat.{ℕ, zero, suc, _+_, _*_, _%_, _^_}
-use lib.Dec.{eqb}
 use lib.IntN.{ℤ, pos}
 use lib.ListN.{getD}
-use Rattle.refusal.specs.declared.Refusal.the-variants.{Length}
-use Rattle.refusal.specs.First.{Row, _⇒_}
 use Rattle.limits.specs.Limits.{maxDimensions, maxDimensionBits}
 use Rattle.layout.specs.Layout.{markCount, firstMarks}
-use Rattle.layout.specs.Stretch.{shapeCauses}
 use Rattle.partition.specs.Marks.{dimensionMarks}
 use Rattle.codes.specs.Codes.{codeRegion}
 use Rattle.distance.specs.Bounds.{stepTo}
@@ -42,11 +37,3 @@ tableSum d b table codes i (suc t) = tableSum d b table codes i t + getD table (
 -- the same of all dimensions, modulo 2^64
 unfoldable pub boundSum : ℕ → ℕ → List ℕ → List ℕ → ℕ → ℕ
 boundSum d b table codes i = tableSum d b table codes i d % 2 ^ 64
-
--- the causes for which a table is not filled, by the lengths of marks, query and table: 5 behind 1 and 2
-abbrev pub lengthCauses : ℕ → ℕ → ℕ → ℕ → ℕ → List Row
-lengthCauses d b marks query room =
-    (not (eqb query d && (eqb marks (firstMarks d b d) && eqb room (firstMarks d b d))) ⇒ Length) ∷ []
-
-abbrev pub tableCauses : ℕ → ℕ → ℕ → ℕ → ℕ → List Row
-tableCauses d b marks query room = shapeCauses d b ++ lengthCauses d b marks query room

@@ -24,6 +24,7 @@ use Rattle.step.specs.declared.Bound.the-variants.{Lower, Upper}
 use Rattle.step.specs.Step.{stepOf}
 use Rattle.distance.specs.Bounds.{stepTo, firstBound}
 use Rattle.distance.specs.Small.{lower-small, upper-small}
+use Rattle.distance.specs.Values.{valuesFrom}
 use Rattle.table.specs.Table.{maxTable, stepsFrom, tableFirst, tableOf, tableSum, boundSum}
 
 pub length-steps : (step : ℤ → ℤ → ℤ → ℕ) (q : ℤ) (marks : List ℤ) (r n : ℕ) → length (stepsFrom step q marks r n) ≡ n
@@ -86,7 +87,7 @@ module _ (step : ℤ → ℤ → ℤ → ℕ) (d b : ℕ) (marks query : List �
 
 -- and exactly for components and marks in range
 module _ (d b : ℕ) (marks query : List ℤ) (codes : List ℕ) (i : ℕ) where
-  pub bound-sum : (bound : Bound) → first (shapeCauses d b) ≡ Accepted → areComponents query ≡ true → goodMarks d b marks ≡ true
+  bound-sum : (bound : Bound) → first (shapeCauses d b) ≡ Accepted → areComponents query ≡ true → goodMarks d b marks ≡ true
       → boundSum d b (tableOf (stepOf bound) d b marks query) codes i ≡ firstBound (stepOf bound) d b marks codes query i d
   unfolding boundSum
   bound-sum bound shaped components good =
@@ -95,6 +96,20 @@ module _ (d b : ℕ) (marks query : List ℤ) (codes : List ℕ) (i : ℕ) where
       small : (bound : Bound) → d ≤ maxDimensions → firstBound (stepOf bound) d b marks codes query i d < 2 ^ 64
       small Lower few = lower-small query components d b marks good few codes i
       small Upper few = upper-small query components d b marks good few codes i
+
+-- functions that agree have the same values
+values-agree : (f g : ℕ → ℕ) → ((j : ℕ) → f j ≡ g j) → (i n : ℕ) → valuesFrom f i n ≡ valuesFrom g i n
+unfolding valuesFrom
+values-agree f g agree i zero = refl
+values-agree f g agree i (suc n) = rw (agree i, values-agree f g agree (suc i) n)
+
+-- so the sums of n codes are their bounds
+pub bounds-sum : (bound : Bound) (d b : ℕ) (marks query : List ℤ) (codes : List ℕ) (n : ℕ)
+    → first (shapeCauses d b) ≡ Accepted → areComponents query ≡ true → goodMarks d b marks ≡ true
+    → valuesFrom (boundSum d b (tableOf (stepOf bound) d b marks query) codes) 0 n
+    ≡ valuesFrom (λ i. firstBound (stepOf bound) d b marks codes query i d) 0 n
+bounds-sum bound d b marks query codes n shaped components good =
+    values-agree _ _ (λ i. bound-sum d b marks query codes i bound shaped components good) 0 n
 
 -- a table is no longer than the longest
 pub table-le : (d b : ℕ) → first (shapeCauses d b) ≡ Accepted → firstMarks d b d ≤ maxTable

@@ -1,6 +1,7 @@
 -- `check_named` meets its contract: no empty region, then no spare bit. Assumes nothing.
 use mathlib.Core.Path.{_≡_, sym, ap, ap₂, _∙_}
 use mathlib.Core.Bool.{Bool, true, not, _&&_}
+use mathlib.Core.List.{[]}
 use Prim.Native.Nat.{ℕ}
 use native.Mathlib.Omega.{arith}
 use borrow.Author.Needs.{needs}
@@ -8,21 +9,20 @@ use borrow.Author.Tests.{eq-eqb, ne-eqb, not-true, not-false}
 use lib.Dec.{eqb}
 use Rattle.refusal.specs.declared.Refusal.the-variants.{Code}
 use Rattle.refusal.specs.First.{first-here, first-next, first-none}
-use Rattle.layout.specs.Stretch.{shape}
+use Rattle.layout.specs.Stretch.{shape, codes-bits-le}
 use Rattle.codes.specs.Codes.{spareZero}
 use Rattle.cells.specs.Cells.{noEmptyCodes}
-use Rattle.codes.specs.Pack.{bits-le}
 use Rattle.codes.specs.PackLaws.{spare-read}
-use mathlib.Core.List.{[]}
 use Rattle.cells.proofs.check_named.Statement.{statement}
 use Rattle.cells.proofs.check_named.Tie as tie
 
 -- the two tests
-named : (c : tie.Else1) → noEmptyCodes (c .before .before .before .args .d) (c .before .before .before .args .b) (c .before .before .before .args .marks .now) (c .before .before .before .args .codes .now) (c .before .before .before .args .n) ≡ true
+named : (c : tie.Else1) → let a = c .before .before .before .args in
+    noEmptyCodes (a .d) (a .b) (a .marks .now) (a .codes .now) (a .n) ≡ true
 named c = sym (c .before .no-empty-codes .ensures) ∙ not-false (c .before .no-empty-codes .result) (c .if1 .left)
 
-spare : (c : tie.After-bits-at)
-    → eqb (c .bits-at .result) 0 ≡ spareZero (c .before .before .before .before .args .b) (c .before .before .before .before .args .n) (c .before .before .before .before .args .codes .now)
+spare : (c : tie.After-bits-at) → let a = c .before .before .before .before .args in
+    eqb (c .bits-at .result) 0 ≡ spareZero (a .b) (a .n) (a .codes .now)
 spare c =
     let start = c .before .before .before .before in
     ap (λ (x : ℕ). eqb x 0) (c .bits-at .ensures) ∙ spare-read (start .args .b) (start .args .n) (start .args .codes .now) (start .pre .bytes)
@@ -38,15 +38,19 @@ returns c =
 mul-bits-at : tie.Need-mul-bits-at
 mul-bits-at c =
     let start = c .before .before .before in
-    omega (arith, bits-le {d = start .args .d} {b = start .args .b} (start .args .n) (shape _ _ (start .pre .shaped)) (start .pre .few))
+    omega (arith, codes-bits-le {d = start .args .d} {b = start .args .b} (start .args .n) (shape _ _ (start .pre .shaped)) (start .pre .few))
 
 returns-2 : tie.Need-returns-2
 returns-2 c =
-    sym (first-here Code [] (ap₂ (λ (e s : Bool). not (e && s)) (named (c .before .before)) (sym (spare (c .before)) ∙ ne-eqb (c .before .bits-at .result) 0 (c .if2 .taken))))
+    let read = c .before in
+    let set = sym (spare read) ∙ ne-eqb (read .bits-at .result) 0 (c .if2 .taken) in
+    sym (first-here Code [] (ap₂ (λ (e s : Bool). not (e && s)) (named (read .before)) set))
 
 returns-3 : tie.Need-returns-3
 returns-3 c =
-    sym (first-next Code [] (ap₂ (λ (e s : Bool). not (e && s)) (named (c .before .before)) (sym (spare (c .before)) ∙ eq-eqb (c .before .bits-at .result) 0 (c .if2 .left))) ∙ first-none)
+    let read = c .before in
+    let zero = sym (spare read) ∙ eq-eqb (read .bits-at .result) 0 (c .if2 .left) in
+    sym (first-next Code [] (ap₂ (λ (e s : Bool). not (e && s)) (named (read .before)) zero) ∙ first-none)
 
 pub check-named-spec : {M : Type 1} → statement M
 check-named-spec =

@@ -9,9 +9,8 @@ use lib.ListN.{length}
 use Rattle.refusal.specs.First.{first}
 use Rattle.limits.specs.Limits.{maxVectors, isVectorCount}
 use Rattle.limits.specs.Tests.{between}
-use Rattle.layout.specs.Layout.{firstMarks}
+use Rattle.layout.specs.Layout.{firstMarks, codeLength}
 use Rattle.partition.specs.MarksCauses.{marks-good, marks-bad}
-use Rattle.codes.specs.Codes.{codeLength}
 use Rattle.cells.specs.CellLaws.{Named}
 use Rattle.cells.proofs.check_shaped.Statement.{statement}
 use Rattle.cells.proofs.check_shaped.Tie as tie
@@ -22,19 +21,17 @@ counted c = sym (c .before .is-vector-count .ensures) ∙ not-false (c .before .
 few : (c : tie.Else1) → c .before .before .before .args .n ≤ maxVectors
 few c = between 1 (c .before .before .before .args .n) maxVectors (counted c) .below
 
-measured : (c : tie.Else2)
-    → eqb (length (c .before .before .before .before .before .args .marks .now)) (firstMarks (c .before .before .before .before .before .args .d) (c .before .before .before .before .before .args .b) (c .before .before .before .before .before .args .d))
-    && eqb (length (c .before .before .before .before .before .args .codes .now)) (codeLength (c .before .before .before .before .before .args .b) (c .before .before .before .before .before .args .n))
-    ≡ true
+measured : (c : tie.Else2) → let a = c .before .before .before .before .before .args in
+    eqb (length (a .marks .now)) (firstMarks (a .d) (a .b) (a .d)) && eqb (length (a .codes .now)) (codeLength (a .b) (a .n)) ≡ true
 measured c = sym (c .before .exact-lengths .ensures) ∙ not-false (c .before .exact-lengths .result) (c .if2 .left)
 
-marks-size : (c : tie.Else2) → length (c .before .before .before .before .before .args .marks .now) ≡ firstMarks (c .before .before .before .before .before .args .d) (c .before .before .before .before .before .args .b) (c .before .before .before .before .before .args .d)
+marks-size : (c : tie.Else2) → let a = c .before .before .before .before .before .args in length (a .marks .now) ≡ firstMarks (a .d) (a .b) (a .d)
 marks-size c = eqb-true _ _ (and-eq-true-iff _ _ .0 (measured c) .0)
 
-codes-size : (c : tie.Else2) → length (c .before .before .before .before .before .args .codes .now) ≡ codeLength (c .before .before .before .before .before .args .b) (c .before .before .before .before .before .args .n)
+codes-size : (c : tie.Else2) → let a = c .before .before .before .before .before .args in length (a .codes .now) ≡ codeLength (a .b) (a .n)
 codes-size c =
-    let args = c .before .before .before .before .before .args in
-    eqb-true _ _ (and-eq-true-iff (eqb (length (args .marks .now)) (firstMarks (args .d) (args .b) (args .d))) _ .0 (measured c) .1)
+    let a = c .before .before .before .before .before .args in
+    eqb-true _ _ (and-eq-true-iff (eqb (length (a .marks .now)) (firstMarks (a .d) (a .b) (a .d))) _ .0 (measured c) .1)
 
 returns : tie.Need-returns
 unfolding first
@@ -47,20 +44,27 @@ returns-2 c = rw (counted (c .before .before), ← c .before .exact-lengths .ens
 returns-3 : tie.Need-returns-3
 unfolding first
 returns-3 c =
-    let test = c .before .before .before .before in
+    let told = c .before in
+    let verdict = told .before .before in
+    let test = verdict .before in
     let start = test .before .before .before .before .before in
-    c .check-named .ensures
-    ∙ rw
-    (counted (test .before .before), measured test, marks-good (start .args .d) (start .args .b) (start .args .marks .now) (start .pre) (marks-size test) (sym (c .before .before .before .check-marks .ensures) ∙ c .before .enum-told .given .1))
+    let a = start .args in
+    let accepted = sym (verdict .check-marks .ensures) ∙ told .enum-told .given .1 in
+    let good = marks-good (a .d) (a .b) (a .marks .now) (start .pre) (marks-size test) accepted in
+    c .check-named .ensures ∙ rw (counted (test .before .before), measured test, good)
 
 returns-4 : tie.Need-returns-4
 unfolding first
 returns-4 c =
-    let test = c .before .before .before in
+    let verdict = c .before .before in
+    let test = verdict .before in
     let start = test .before .before .before .before .before in
-    rw (counted (test .before .before), measured test, marks-bad (start .args .d) (start .args .b) (start .args .marks .now) (start .pre) (marks-size test) (sym (c .before .before .check-marks .ensures) ∙ c .enum-told2 .given .1))
+    let a = start .args in
+    let refused = sym (verdict .check-marks .ensures) ∙ c .enum-told2 .given .1 in
+    rw (counted (test .before .before), measured test, marks-bad (a .d) (a .b) (a .marks .now) (start .pre) (marks-size test) refused)
 
-named : (c : tie.After-enum-told) → Named (c .before .before .before .before .before .before .before .before .args .d) (c .before .before .before .before .before .before .before .before .args .b) (c .before .before .before .before .before .before .before .before .args .n) (c .before .before .before .before .before .before .before .before .args .codes .now)
+named : (c : tie.After-enum-told) → let a = c .before .before .before .before .before .before .before .before .args in
+    Named (a .d) (a .b) (a .n) (a .codes .now)
 named c =
     let test = c .before .before .before in
     record {

@@ -3,15 +3,13 @@ use mathlib.Core.Path.{_≡_, sym, _∙_}
 use mathlib.Core.List.{_++_}
 use borrow.Author.Needs.{needs}
 use Rattle.refusal.specs.First.{first, outcome-accepted, outcome-refused, first-append}
-use Rattle.layout.specs.Stretch.{shapeCauses, shape}
+use Rattle.layout.specs.Stretch.{shapeCauses}
 use Rattle.codes.specs.Pack.{lengthCauses}
 use Rattle.codes.proofs.check_sizes.Statement.{statement}
 use Rattle.codes.proofs.check_sizes.Tie as tie
 
 check-lengths-requires : tie.Need-check-lengths-requires
-check-lengths-requires c κs =
-    let args = c .before .before .before .args in
-    shape (args .d) (args .b) (sym (c .before .before .check-shape .ensures) ∙ c .enum-told .given .1)
+check-lengths-requires c κs = sym (c .before .before .check-shape .ensures) ∙ c .enum-told .given .1
 
 returns : tie.Need-returns
 returns c =

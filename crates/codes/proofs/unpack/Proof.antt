@@ -11,9 +11,10 @@ use lib.ListN.{length}
 use Rattle.refusal.specs.declared.Refusal.the-variants.{Code}
 use Rattle.refusal.specs.declared.Verdict.the-variants.{Accepted, Refused}
 use Rattle.refusal.specs.First.{Row, _⇒_, first}
+use Rattle.layout.specs.Stretch.{codes-bits-le}
 use Rattle.codes.specs.Codes.{spareZero, unpacked}
 use Rattle.codes.specs.PackLaws.{spare-read}
-use Rattle.codes.specs.Pack.{sizeCauses, Sizes, sizes, numbers-le, bits-le}
+use Rattle.codes.specs.Pack.{sizeCauses, Sizes, sizes, numbers-le}
 use Rattle.codes.proofs.Answers.{refused-before, refused-last, accepted-all}
 use Rattle.codes.proofs.unpack.Statement.{statement}
 use Rattle.codes.proofs.unpack.Tie as tie
@@ -53,7 +54,7 @@ spare c =
 mul-bits-at : tie.Need-mul-bits-at
 mul-bits-at c =
     let size = sized c in
-    omega (arith, bits-le (c .before .before .before .before .before .args .n) (size .shaped) (size .few))
+    omega (arith, codes-bits-le (c .before .before .before .before .before .args .n) (size .shaped) (size .few))
 
 returns : tie.Need-returns
 returns c =

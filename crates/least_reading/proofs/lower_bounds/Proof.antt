@@ -1,30 +1,52 @@
 -- `lower_bounds` meets its contract: the table is accepted, and its sums are the cells' lower bounds. Assumes nothing.
-use mathlib.Core.Path.{sym, _∙_}
+use mathlib.Core.Path.{sym, ap, _∙_}
+use mathlib.Core.List.{List}
+use Prim.Native.Nat.{ℕ}
+use native.Mathlib.Omega.{arith}
+use lib.ListN.{length}
 use lib.Seq.{length-take-le}
 use borrow.Author.Needs.{needs}
 use Rattle.refusal.specs.First.{outcome-accepted}
-use Rattle.least_reading.specs.Bounding.{table-fits, summed, bounds}
+use Rattle.step.specs.declared.Bound.the-variants.{Lower}
+use Rattle.distance.specs.Values.{valuesFrom}
+use Rattle.table.specs.Table.{boundSum}
+use Rattle.table.specs.TableLaws.{bounds-sum, table-le}
+use Rattle.bounds.specs.Sums.{sums-accepted}
 use Rattle.least_reading.specs.Buffers.{back-within, shared-is}
 use Rattle.least_reading.proofs.lower_bounds.Statement.{statement}
 use Rattle.least_reading.proofs.lower_bounds.Tie as tie
 
 table-hold : tie.Need-array-borrow-prefix-table
 table-hold c =
-    let fits = table-fits (c .before .before .pre) in
-    search needs
+    let start = c .before .before in
+    omega (arith, start .pre .of-marks, table-le (start .args .d) (start .args .b) (start .pre .shaped))
+
+fill-table-requires : tie.Need-fill-table-requires
+fill-table-requires c κs =
+    let start = c .before .before .before in
+    (start .pre .shaped, start .pre .of-marks, length-take-le _ _ (table-hold (c .before)) ∙ start .pre .of-marks)
 
 table-within : tie.Need-array-share-prefix-table
-table-within c = back-within _ _ (c .before .fill-table .last .1 .1 .1 .1 .1 .0) (table-hold (c .before .before .before)) (c .before .fill-table .kept .1 .1 .1 .1 .1 .0)
+table-within c =
+    let filled = c .before in
+    let back = filled .fill-table .last .1 .1 .1 .1 .1 .0 in
+    back-within _ _ back (table-hold (filled .before .before)) (filled .fill-table .kept .1 .1 .1 .1 .1 .0)
 
 returns : tie.Need-returns
 returns c =
-    let start = c .before .before .before .before .before .before .before .before .before .before in
-    let filled = c .before .before .before .before .before .before in
-    let hold = table-hold (filled .before .before) in
-    c .before .before .sum-bounds .ensures .1
-    ∙ outcome-accepted _ _ (summed (start .pre) _ (length-take-le _ _ (table-within (c .before .before .before .before .before))))
-    ∙ bounds (start .pre) _ (filled .fill-table .last .1 .1 .1 .1 .1 .0) _ _ (filled .fill-table .ensures .1) (length-take-le _ _ hold)
-    (shared-is _ _ (filled .fill-table .last .1 .1 .1 .1 .1 .0) hold (filled .fill-table .kept .1 .1 .1 .1 .1 .0))
+    let summed = c .before .before in
+    let shared = summed .before .before .before in
+    let filled = shared .before in
+    let start = filled .before .before .before .before in
+    let a = start .args in
+    let is = start .pre in
+    let n = length (a .lows .now) in
+    let back = filled .fill-table .last .1 .1 .1 .1 .1 .0 in
+    let came-back = shared-is _ _ back (table-hold (filled .before .before)) (filled .fill-table .kept .1 .1 .1 .1 .1 .0) in
+    summed .sum-bounds .ensures .1
+    ∙ outcome-accepted _ _ (sums-accepted is _ (length-take-le _ _ (table-within shared)))
+    ∙ ap (λ (table : List ℕ). valuesFrom (boundSum (a .d) (a .b) table (a .codes .now)) 0 n) (came-back ∙ filled .fill-table .ensures)
+    ∙ bounds-sum Lower (a .d) (a .b) (a .marks .now) (a .query .now) (a .codes .now) n (is .shaped) (is .components) (is .good)
 
 pub lower-bounds-spec : {M : Type 1} → statement M
 lower-bounds-spec =
@@ -32,7 +54,7 @@ lower-bounds-spec =
     (tie.spec
     table-hold
     (λ c. sym (length-take-le _ _ (table-hold (c .before))))
-    (λ c κs. search needs)
+    fill-table-requires
     table-within
     (λ c. sym (length-take-le _ _ (table-within (c .before))))
     (λ c κs. search needs)

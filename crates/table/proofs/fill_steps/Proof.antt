@@ -20,13 +20,15 @@ use Rattle.table.proofs.fill_steps.Statement.{statement}
 use Rattle.table.proofs.fill_steps.Tie as tie
 
 abbrev Inv-loop : tie.InvT-loop
-Inv-loop bound q marks table₀ r₀ table r =
-    (r ≤ length table₀) × (length table ≡ length table₀) × (take r table ++ stepsFrom (stepOf bound) (toZ w32 q) marks r (length table₀ - r) ≡ stepsFrom (stepOf bound) (toZ w32 q) marks 0 (length table₀))
+Inv-loop bound q marks steps₀ r₀ steps r =
+    let from = stepsFrom (stepOf bound) (toZ w32 q) marks in
+    (r ≤ length steps₀) × (length steps ≡ length steps₀) × (take r steps ++ from r (length steps₀ - r) ≡ from 0 (length steps₀))
 
 abbrev μ-loop : tie.MeasureT-loop
-μ-loop bound q marks table₀ r₀ table r = length table₀ - r
+μ-loop bound q marks steps₀ r₀ steps r = length steps₀ - r
 
-steps-one : (step : ℤ → ℤ → ℤ → ℕ) (q : ℤ) (marks : List ℤ) (r n : ℕ) → r < n → stepsFrom step q marks r (n - r) ≡ stepTo step q marks r % 2 ^ 64 ∷ stepsFrom step q marks (r + 1) (n - (r + 1))
+steps-one : (step : ℤ → ℤ → ℤ → ℕ) (q : ℤ) (marks : List ℤ) (r n : ℕ) → r < n
+    → stepsFrom step q marks r (n - r) ≡ stepTo step q marks r % 2 ^ 64 ∷ stepsFrom step q marks (r + 1) (n - (r + 1))
 unfolding stepsFrom
 steps-one step q marks r n within =
     let left : n - r ≡ suc (n - (r + 1)) = omega arith in
@@ -56,18 +58,25 @@ loop-again : tie.Need-loop-again Inv-loop μ-loop
 loop-again c =
     let at = c .before .before .before .before in
     let args = at .before .before .args in
-    let room : at .loop .r < length (at .loop .table) = omega arith in
-    let rest = steps-one (stepOf (args .bound)) (component (args .q)) (args .marks .now) (at .loop .r) (length (args .table .now)) (omega arith) in
-    (omega arith, simp length-set (at .loop .inv .1), rw (here c) (written-one (at .loop .table) (at .loop .r) _ _ _ room (rw rest at (at .loop .inv .2))))
+    let loop = at .loop in
+    let room : loop .r < length (loop .steps) = omega arith in
+    let step = stepOf (args .bound) in
+    let rest = steps-one step (component (args .q)) (args .marks .now) (loop .r) (length (args .steps .now)) (omega arith) in (
+      omega arith,
+      simp length-set (loop .inv .1),
+      rw (here c) (written-one (loop .steps) (loop .r) _ _ _ room (rw rest at (loop .inv .2))),
+    )
 
 returns : tie.Need-returns Inv-loop μ-loop
 returns c =
     let at = c .before .loop in
     let start = c .before .before .before in
     let args = start .args in
-    let rest = steps-none (stepOf (args .bound)) (component (args .q)) (args .marks .now) (at .r) (length (args .table .now)) (omega arith) in
-    written-all (at .table) (at .r) _ (omega arith) (rw rest at (at .inv .2))
-    ∙ ap (λ (q : ℤ). stepsFrom (stepOf (args .bound)) q (args .marks .now) 0 (length (args .table .now))) (toZ-ofZ w32 (args .q) (start .fits .q))
+    let step = stepOf (args .bound) in
+    let n = length (args .steps .now) in
+    let rest = steps-none step (component (args .q)) (args .marks .now) (at .r) n (omega arith) in
+    written-all (at .steps) (at .r) _ (omega arith) (rw rest at (at .inv .2))
+    ∙ ap (λ (q : ℤ). stepsFrom step q (args .marks .now) 0 n) (toZ-ofZ w32 (args .q) (start .fits .q))
 
 pub fill-steps-spec : {M : Type 1} → statement M
 fill-steps-spec =

@@ -3,16 +3,15 @@ use mathlib.Core.Path.{_≡_, sym, _∙_}
 use mathlib.Core.Bool.{true, _&&_, and-eq-true-iff}
 use Prim.Native.Nat.{_≤_}
 use borrow.Author.Needs.{needs}
-use borrow.Author.Tests.{not-true, not-false, lt-ltb, le-ltb}
-use lib.Dec.{eqb, ltb}
+use borrow.Author.Tests.{not-true, not-false, eq-eqb, ne-eqb}
+use lib.Dec.{eqb}
 use lib.ListN.{length}
 use Rattle.refusal.specs.First.{first, first-append, outcome-accepted}
 use Rattle.limits.specs.Limits.{maxVectors, isVectorCount}
 use Rattle.limits.specs.Tests.{between}
 use Rattle.whole.specs.Components.{areComponents}
-use Rattle.layout.specs.Layout.{firstMarks}
+use Rattle.layout.specs.Layout.{firstMarks, codeLength}
 use Rattle.layout.specs.Stretch.{shapeCauses}
-use Rattle.codes.specs.Codes.{codeLength}
 use Rattle.cells.specs.CellCauses.{shapedCodeCauses}
 use Rattle.bounds.proofs.cell.check_shaped.Statement.{statement}
 use Rattle.bounds.proofs.cell.check_shaped.Tie as tie
@@ -23,15 +22,18 @@ counted c = sym (c .before .is-vector-count .ensures) ∙ not-false (c .before .
 few : (c : tie.Else1) → c .before .before .before .args .n ≤ maxVectors
 few c = between 1 (c .before .before .before .args .n) maxVectors (counted c) .below
 
-numbered : (c : tie.Else2) → let a = c .before .before .before .before .args in isVectorCount (a .n) && ltb (a .i) (a .n) ≡ true
-numbered c = rw (counted (c .before), lt-ltb _ _ (c .if2 .left))
+measured : (c : tie.Else2) → let a = c .before .before .before .before .before .args in
+    eqb (length (a .query .now)) (a .d) && (eqb (length (a .marks .now)) (firstMarks (a .d) (a .b) (a .d))
+    && eqb (length (a .codes .now)) (codeLength (a .b) (a .n))) ≡ true
+measured c = sym (c .before .exact-lengths .ensures) ∙ not-false (c .before .exact-lengths .result) (c .if2 .left)
 
-measured : (c : tie.Else3) → let a = c .before .before .before .before .before .before .args in
-    eqb (length (a .query .now)) (a .d) && (eqb (length (a .marks .now)) (firstMarks (a .d) (a .b) (a .d)) && eqb (length (a .codes .now)) (codeLength (a .b) (a .n))) ≡ true
-measured c = sym (c .before .exact-lengths .ensures) ∙ not-false (c .before .exact-lengths .result) (c .if3 .left)
+lent : (c : tie.Else4) → let a = c .before .before .before .before .before .before .before .args in
+    eqb (a .lowers) (a .n) && eqb (a .uppers) (a .n) ≡ true
+lent c = rw (eq-eqb _ _ (c .before .if3 .left), eq-eqb _ _ (c .if4 .left))
 
-queried : (c : tie.Else4) → areComponents (c .before .before .before .before .before .before .before .before .args .query .now) ≡ true
-queried c = sym (c .before .are-components .ensures) ∙ not-false (c .before .are-components .result) (c .if4 .left)
+queried : (c : tie.Else5) → let a = c .before .before .before .before .before .before .before .before .before .args in
+    areComponents (a .query .now) ≡ true
+queried c = sym (c .before .are-components .ensures) ∙ not-false (c .before .are-components .result) (c .if5 .left)
 
 returns : tie.Need-returns
 unfolding first
@@ -39,31 +41,44 @@ returns c = rw (← c .before .is-vector-count .ensures, not-true (c .before .is
 
 returns-2 : tie.Need-returns-2
 unfolding first
-returns-2 c = rw (counted (c .before), le-ltb _ _ (c .if2 .taken))
+returns-2 c =
+    let test = c .before in
+    rw (counted (test .before), ← test .exact-lengths .ensures, not-true (test .exact-lengths .result) (c .if2 .taken))
 
 returns-3 : tie.Need-returns-3
 unfolding first
-returns-3 c = rw (numbered (c .before .before), ← c .before .exact-lengths .ensures, c .if3 .taken)
+returns-3 c =
+    let two = c .before in
+    rw (counted (two .before .before), measured two, ne-eqb _ _ (c .if3 .taken))
 
 returns-4 : tie.Need-returns-4
 unfolding first
 returns-4 c =
-    let three = c .before .before in
-    rw (numbered (three .before .before), measured three, ← c .before .are-components .ensures, c .if4 .taken)
+    let three = c .before in
+    let two = three .before in
+    rw (counted (two .before .before), measured two, eq-eqb _ _ (three .if3 .left), ne-eqb _ _ (c .if4 .taken))
 
 returns-5 : tie.Need-returns-5
 unfolding first
 returns-5 c =
-    let four = c .before in
-    let three = four .before .before in
-    let two = three .before .before in
-    let start = two .before .before .before .before in
+    let four = c .before .before in
+    let two = four .before .before in
+    rw (counted (two .before .before), measured two, lent four, ← c .before .are-components .ensures, c .if5 .taken)
+
+returns-6 : tie.Need-returns-6
+unfolding first
+returns-6 c =
+    let five = c .before in
+    let four = five .before .before in
+    let two = four .before .before in
+    let one = two .before .before in
+    let start = one .before .before .before in
     let a = start .args in
-    let exact : eqb (length (a .marks .now)) (firstMarks (a .d) (a .b) (a .d)) && eqb (length (a .codes .now)) (codeLength (a .b) (a .n)) ≡ true = and-eq-true-iff (eqb (length (a .query .now)) (a .d)) _ .0 (measured three) .1 in
+    let exact = and-eq-true-iff (eqb (length (a .query .now)) (a .d)) _ .0 (measured two) .1 in
     c .check-codes .ensures
     ∙ first-append (shapeCauses (a .d) (a .b)) (shapedCodeCauses (a .d) (a .b) (a .n) (a .marks .now) (a .codes .now))
     ∙ outcome-accepted _ _ (start .pre)
-    ∙ rw (numbered two, measured three, queried four, counted (two .before), exact)
+    ∙ rw (counted one, measured two, lent four, queried five, exact)
 
 pub check-shaped-spec : {M : Type 1} → statement M
 check-shaped-spec =
@@ -71,10 +86,11 @@ check-shaped-spec =
     (tie.spec
     (λ c κs. search needs)
     returns
+    (λ c κs. (c .before .before .before .pre, few c))
     returns-2
-    (λ c κs. (c .before .before .before .before .pre, few (c .before)))
     returns-3
-    (λ c κs. search needs)
     returns-4
     (λ c κs. search needs)
-    returns-5)
+    returns-5
+    (λ c κs. search needs)
+    returns-6)

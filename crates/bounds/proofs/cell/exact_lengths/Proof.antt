@@ -1,12 +1,9 @@
 -- `exact_lengths` meets its contract: each length is tested where those before it are right. Assumes nothing.
 use mathlib.Core.Path.{_≡_, _∙_}
-use Prim.Native.Nat.{_+_, _*_, _^_, _<_}
-use native.Mathlib.Omega.{arith}
 use borrow.Author.Needs.{needs}
 use borrow.Author.Tests.{eq-eqb, ne-eqb}
 use Rattle.layout.specs.Layout.{firstMarks}
-use Rattle.layout.specs.Stretch.{shape, marks-length-is}
-use Rattle.codes.specs.Pack.{bits-le}
+use Rattle.layout.specs.Stretch.{marks-length-is, codes-length-is}
 use Rattle.bounds.proofs.cell.exact_lengths.Statement.{statement}
 use Rattle.bounds.proofs.cell.exact_lengths.Tie as tie
 
@@ -17,16 +14,14 @@ wanted : (c : tie.After-marks-length) → let a = c .before .before .args in c .
 wanted c = c .marks-length .ensures ∙ marks-length-is _ _ (c .before .before .pre .0)
 
 returns-2 : tie.Need-returns-2
-returns-2 c = rw (eq-eqb _ _ (c .before .before .if1 .left), eq-eqb _ _ (c .if2 .taken ∙ wanted (c .before)))
+returns-2 c =
+    let marked = c .before .before in
+    let start = marked .before .before in
+    let bytes = c .codes-length .ensures ∙ codes-length-is _ _ _ (start .pre .0) (start .pre .1) in
+    rw (eq-eqb _ _ (marked .before .if1 .left), eq-eqb _ _ (c .before .if2 .taken ∙ wanted marked), bytes)
 
 returns-3 : tie.Need-returns-3
 returns-3 c = rw (eq-eqb _ _ (c .before .before .if1 .left), ← wanted (c .before), ne-eqb _ _ (c .if2 .left))
 
-few-bits : (c : tie.Then2) → let a = c .before .before .before .args in a .n * a .b + 7 < 2 ^ 64
-few-bits c =
-    let start = c .before .before .before in
-    omega (arith, bits-le {d = start .args .d} {b = start .args .b} (start .args .n) (shape _ _ (start .pre .0)) (start .pre .1))
-
 pub exact-lengths-spec : {M : Type 1} → statement M
-exact-lengths-spec =
-    tie.close (tie.spec returns (λ c κs. search needs) (λ c. omega (arith, few-bits c)) (λ c. omega (arith, few-bits c)) returns-2 returns-3)
+exact-lengths-spec = tie.close (tie.spec returns (λ c κs. search needs) (λ c κs. search needs) returns-2 returns-3)

@@ -25,7 +25,7 @@ returns c =
     let args = start .args in
     let told = sizes start in
     sum-more-mod _ _ (c .wrapping-add-u64 .ensures) (c .before .before .sum-run .ensures) (rw (told .shift .exact) at (c .before .sum-run2 .ensures))
-    ∙ ap (λ (n : ℕ). n % 2 ^ 64) (sym (two-runs (args .d) (args .b) (told .fewest) (args .table .now) (args .codes .now) (args .i) (omega (arith, told .more))))
+    ∙ ap (λ (n : ℕ). n % 2 ^ 64) (sym (two-runs (args .d) (args .b) (told .fewest) (omega (arith, told .more)) (args .table .now) (args .codes .now) (args .i)))
 
 pub code-bound-spec : {M : Type 1} → statement M
 code-bound-spec =

@@ -11,7 +11,9 @@ use Rattle.bounds.proofs.sum.sum_bounds.Tie as tie
 
 -- the verdict, of these lengths
 abbrev verdict : (c : tie.After-check-sums) → Verdict
-verdict c = let a = c .before .before .before .before .args in first (sumCauses (a .d) (a .b) (length (a .table .now)) (length (a .codes .now)) (length (a .bounds .now)))
+verdict c =
+    let a = c .before .before .before .before .args in
+    first (sumCauses (a .d) (a .b) (length (a .table .now)) (a .codes .now) (length (a .bounds .now)))
 
 accepted : (c : tie.After-enum-told) → verdict (c .before .before) ≡ Accepted
 accepted c = sym (c .before .before .check-sums .ensures) ∙ c .enum-told .given .1
@@ -25,7 +27,8 @@ sum-bounds-spec =
     (tie.spec
     (λ c κs. search needs)
     (λ c. search needs)
-    (λ c κs. summable _ _ _ _ _ (accepted (c .before)))
+    (λ c κs. let a = c .before .before .before .before .before .before .before .args in
+    summable (a .d) (a .b) (length (a .table .now)) (a .codes .now) (length (a .bounds .now)) (accepted (c .before)))
     (λ c. search needs)
     (λ c. search needs)
     (λ c. let none = accepted (c .before .before .before .before) in (sym none, rw none (c .before .before .sum-all .ensures)))

@@ -11,7 +11,7 @@ use lib.Pow.{pow-pos}
 use Rattle.distance.proofs.Sum.{sum-more}
 use Rattle.cells.proofs.Runs.{regions}
 use Rattle.bounds.specs.Run.{runSum}
-use Rattle.bounds.specs.Waiting.{Taken}
+use Rattle.bounds.specs.BitBuffer.{Taken}
 use Rattle.bounds.proofs.Walk.{Walk, sets-out, place, there, index, stride, region, goes-on}
 use Rattle.bounds.proofs.sum.sum_run.Statement.{statement}
 use Rattle.bounds.proofs.sum.sum_run.Tie as tie

@@ -1,4 +1,4 @@
--- Bits of codes that were read and not yet taken. Assumes nothing.
+-- A bit buffer over codes: bits that were read and not yet taken. Assumes nothing.
 use mathlib.Core.Path.{_≡_, refl, sym, _∙_}
 use mathlib.Core.List.{List, [], _∷_, _++_}
 use Prim.Native.Nat.{ℕ, zero, suc, _+_, _-_, _*_, _/_, _%_, _^_, _≤_, _<_}

@@ -1,8 +1,8 @@
 -- `begin` meets its contract: the bits are read up to the end of a byte. Assumes nothing.
 use borrow.Author.Needs.{needs}
-use Rattle.bounds.specs.Waiting.{begins}
-use Rattle.bounds.proofs.waiting.begin.Statement.{statement}
-use Rattle.bounds.proofs.waiting.begin.Tie as tie
+use Rattle.bounds.specs.BitBuffer.{begins}
+use Rattle.bounds.proofs.bit_buffer.begin.Statement.{statement}
+use Rattle.bounds.proofs.bit_buffer.begin.Tie as tie
 
 returns : tie.Need-returns
 returns c =

@@ -4,8 +4,8 @@ use Prim.Native.Nat.{_+_, _*_, _<_}
 use native.Mathlib.Omega.{arith}
 use lib.ListN.{getD}
 use Rattle.codes.specs.BitLaws.{Bytes}
-use Rattle.bounds.proofs.waiting.four_bytes.Statement.{statement}
-use Rattle.bounds.proofs.waiting.four_bytes.Tie as tie
+use Rattle.bounds.proofs.bit_buffer.four_bytes.Statement.{statement}
+use Rattle.bounds.proofs.bit_buffer.four_bytes.Tie as tie
 
 bytes : (c : tie.After-shared-slice-known) → Bytes (c .before .args .codes .now)
 bytes c i = omega (arith, c .shared-slice-known .given i)

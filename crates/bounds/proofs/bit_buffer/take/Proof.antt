@@ -1,7 +1,7 @@
 -- `take` meets its contract: enough bits wait then. Assumes nothing.
-use Rattle.bounds.specs.Waiting.{takes}
-use Rattle.bounds.proofs.waiting.take.Statement.{statement}
-use Rattle.bounds.proofs.waiting.take.Tie as tie
+use Rattle.bounds.specs.BitBuffer.{takes}
+use Rattle.bounds.proofs.bit_buffer.take.Statement.{statement}
+use Rattle.bounds.proofs.bit_buffer.take.Tie as tie
 
 returns : tie.Need-returns
 returns c =

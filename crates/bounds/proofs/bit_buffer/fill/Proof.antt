@@ -4,9 +4,9 @@ use native.Mathlib.Omega.{arith}
 use borrow.Author.Needs.{needs}
 use lib.ListN.{length}
 use Rattle.codes.specs.BitLaws.{Bytes}
-use Rattle.bounds.specs.Waiting.{one-more, seven-more}
-use Rattle.bounds.proofs.waiting.fill.Statement.{statement}
-use Rattle.bounds.proofs.waiting.fill.Tie as tie
+use Rattle.bounds.specs.BitBuffer.{one-more, seven-more}
+use Rattle.bounds.proofs.bit_buffer.fill.Statement.{statement}
+use Rattle.bounds.proofs.bit_buffer.fill.Tie as tie
 
 bytes : (c : tie.After-shared-slice-known) → Bytes (c .before .args .codes .now)
 bytes c i = omega (arith, c .shared-slice-known .given i)
@@ -27,11 +27,11 @@ returns-3 c =
     (one-more (start .pre .0) (start .args .w) (start .pre .1) (bytes (short .before)) (short .if1 .left), omega (arith, start .pre .1))
 
 -- a byte is left
-left : (c : tie.Else1) → c .before .before .args .waiting .next < length (c .before .before .args .codes .now)
+left : (c : tie.Else1) → c .before .before .args .buffer .next < length (c .before .before .args .codes .now)
 left c = omega (arith, c .if1 .left, c .before .before .pre .2)
 
 -- seven are left
-seven : (c : tie.Then2) → c .before .before .before .args .waiting .next + 7 ≤ length (c .before .before .before .args .codes .now)
+seven : (c : tie.Then2) → c .before .before .before .args .buffer .next + 7 ≤ length (c .before .before .before .args .codes .now)
 seven c = omega (arith, left (c .before), c .if2 .taken)
 
 pub fill-spec : {M : Type 1} → statement M
@@ -51,8 +51,8 @@ fill-spec =
     returns-2
     (λ c. search needs)
     (λ c. omega (arith, left (c .before .before .before)))
-    (λ c. omega (arith, bytes (c .before .before .before .before) (c .before .before .before .before .before .args .waiting .next)))
-    (λ c. omega (arith, bytes (c .before .before .before .before) (c .before .before .before .before .before .args .waiting .next)))
+    (λ c. omega (arith, bytes (c .before .before .before .before) (c .before .before .before .before .before .args .buffer .next)))
+    (λ c. omega (arith, bytes (c .before .before .before .before) (c .before .before .before .before .before .args .buffer .next)))
     (λ c. search needs)
     (λ c. omega (arith, left (c .before .before .before), c .before .before .before .before .before .good))
     returns-3)

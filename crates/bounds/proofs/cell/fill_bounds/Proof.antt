@@ -1,0 +1,68 @@
+-- `fill_bounds` meets its contract: the sums are of the table that came back filled. Assumes nothing.
+use mathlib.Core.Path.{sym, ap, _∙_}
+use mathlib.Core.List.{List}
+use Prim.Native.Nat.{ℕ, _≤_}
+use native.Mathlib.Omega.{arith}
+use lib.ListN.{length}
+use lib.Seq.{length-take-le}
+use borrow.Author.Needs.{needs}
+use Rattle.limits.specs.Limits.{maxVectors}
+use Rattle.limits.specs.Tests.{between}
+use Rattle.order.proofs.Prefix.{back-within, shared-is}
+use Rattle.distance.specs.Values.{valuesFrom}
+use Rattle.table.specs.Table.{boundSum}
+use Rattle.table.specs.TableLaws.{bounds-sum, table-le}
+use Rattle.bounds.proofs.cell.fill_bounds.Statement.{statement}
+use Rattle.bounds.proofs.cell.fill_bounds.Tie as tie
+
+table-holds : tie.Need-array-borrow-prefix-table
+table-holds c =
+    let start = c .before .before in
+    omega (arith, start .pre .of-marks, table-le (start .args .d) (start .args .b) (start .pre .shaped))
+
+fill-table-requires : tie.Need-fill-table-requires
+fill-table-requires c κs =
+    let start = c .before .before .before in
+    (start .pre .shaped, start .pre .of-marks, length-take-le _ _ (table-holds (c .before)) ∙ start .pre .of-marks)
+
+table-within : tie.Need-array-share-prefix-table
+table-within c =
+    let filled = c .before in
+    let back = filled .fill-table .last .1 .1 .1 .1 .1 .0 in
+    back-within _ _ back (table-holds (filled .before .before)) (filled .fill-table .kept .1 .1 .1 .1 .1 .0)
+
+sum-all-requires : tie.Need-sum-all-requires
+sum-all-requires c κs =
+    let shared = c .before .before in
+    let start = shared .before .before .before .before .before in
+    let is = start .pre in
+    let n = length (start .args .bounds .now) in
+    let few : n ≤ maxVectors = between 1 n maxVectors (is .count) .below in
+    (is .shaped, length-take-le _ _ (table-within shared) ∙ is .of-marks, few, omega (arith, is .of-codes))
+
+returns : tie.Need-returns
+returns c =
+    let summed = c .before .before in
+    let filled = summed .before .before .before .before in
+    let start = filled .before .before .before .before in
+    let a = start .args in
+    let is = start .pre in
+    let n = length (a .bounds .now) in
+    let back = filled .fill-table .last .1 .1 .1 .1 .1 .0 in
+    let came-back = shared-is _ _ back (table-holds (filled .before .before)) (filled .fill-table .kept .1 .1 .1 .1 .1 .0) in
+    summed .sum-all .ensures
+    ∙ ap (λ (table : List ℕ). valuesFrom (boundSum (a .d) (a .b) table (a .codes .now)) 0 n) (came-back ∙ filled .fill-table .ensures)
+    ∙ bounds-sum (a .bound) (a .d) (a .b) (a .marks .now) (a .query .now) (a .codes .now) n (is .shaped) (is .components) (is .good)
+
+pub fill-bounds-spec : {M : Type 1} → statement M
+fill-bounds-spec =
+    tie.close
+    (tie.spec
+    table-holds
+    (λ c. sym (length-take-le _ _ (table-holds (c .before))))
+    fill-table-requires
+    table-within
+    (λ c. sym (length-take-le _ _ (table-within (c .before))))
+    sum-all-requires
+    (λ c. search needs)
+    returns)
