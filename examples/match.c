@@ -73,17 +73,19 @@ static uint32_t load(const char *name)
                                 MATCHER_CODES(library.b, library.n));
 }
 
-/* Takes in a query, and searches for its k nearest vectors; how many were read is put in its place. */
+/*
+ * Takes in a query, and searches for its k nearest vectors; how many were read is put in its place. As k stands before
+ * the query in a match, it is tested first, so that of two faults the kit program's is told.
+ */
 static uint32_t search(const char *name, size_t k, size_t *count)
 {
     int32_t query[MATCHER_MAX_DIMENSIONS];
     size_t length = read_file(name, MATCHER_MAX_QUERY);
+    if (k == 0 || k > library.n)
+        return MATCHER_NEIGHBOURS;
     uint32_t number = matcher_query(library.d, bytes, length, query, library.d);
     if (number != MATCHER_ACCEPTED)
         return number;
-    /* the lengths named below must not be above the buffers' */
-    if (k > MATCHER_MAX_VECTORS)
-        return MATCHER_NEIGHBOURS;
     return matcher_search(library.d, library.b, library.n, k, query, library.d, library.marks,
                           MATCHER_MARKS(library.d, library.b), library.codes, MATCHER_CODES(library.b, library.n),
                           library.vectors, library.n * library.d, entries, k, reads, library.n, count);

@@ -22,11 +22,11 @@
  * many elements, a pointer with no length to one; it is never NULL, even where the length is 0. What a call writes
  * must not overlap anything else that it is given.
  *
- * A call gives 0, or says no: it gives the number of a refusal. The numbers that a call can give stand with it under
- * "Refusals", in the order in which their causes are tested. It gives the first whose cause holds, and a number for
- * no other reason. A refused call leaves all that it was to write as it was, but for single places of type size_t,
- * which it sets to 0. A call that is not refused writes every element of a buffer that it is to fill, unless another
- * rule stands with it.
+ * A call gives 0, or it is refused and gives the number of a refusal. The numbers that a call can give stand with it
+ * under "Refusals", in the order in which their causes are tested. It gives the first whose cause holds, and a number
+ * for no other reason. A refused call sets its counts, which stand with it under "Counts", to 0, and leaves all else
+ * that it was to write as it was. A call that is not refused writes every element of a buffer that it is to fill,
+ * unless another rule stands with it.
  *
  * The calls use no heap, keep nothing from one call to the next, and do no input or output. So they can run at the
  * same time, each on what it is given. A call uses at most 48 KiB of stack, matcher_match at most 160 KiB.
@@ -47,7 +47,7 @@ enum matcher_refusal {
     MATCHER_ACCEPTED = 0,      /* not refused */
     MATCHER_DIMENSION = 1,     /* d not 1 to 32, or a dimension number not 1 to d */
     MATCHER_BITS = 2,          /* b above 6 d, or a number of regions other than 1, 2, 4, 8, 16, 32 or 64 */
-    MATCHER_COUNT = 3,         /* n not 1 to 512, or a vector's number not below n */
+    MATCHER_COUNT = 3,         /* n not 1 to 512 */
     MATCHER_NEIGHBOURS = 4,    /* k is 0 or above n */
     MATCHER_LENGTH = 5,        /* the length of a buffer is not the exact one */
     MATCHER_COMPONENT = 6,     /* a component out of range, or not zero beyond d */
@@ -89,7 +89,7 @@ enum matcher_refusal {
 #define MATCHER_MAX_LIBRARY 45734
 #define MATCHER_MAX_QUERY 192
 #define MATCHER_MAX_MATCH 45928
-#define MATCHER_MAX_TEXT 14344
+#define MATCHER_MAX_TEXT 14344 /* no text is longer */
 
 /* ---- readings */
 
@@ -113,8 +113,14 @@ uint32_t matcher_fresh_value(float value, int32_t *component);
 uint32_t matcher_held(uint32_t bits, uint8_t age, int32_t *component);
 
 /*
+ * The same for a held reading of a float.
+ * Refusals: 13, 14, 15.
+ */
+uint32_t matcher_held_value(float value, uint8_t age, int32_t *component);
+
+/*
  * The same for a lost reading, which has no component.
- * Refusals: 13, always.
+ * Refusals: 13. It is always refused.
  */
 uint32_t matcher_lost(int32_t *component);
 
@@ -227,13 +233,13 @@ uint32_t matcher_distance(const int32_t *query, size_t query_len, const int32_t 
                           uint64_t *distance);
 
 /*
- * The least and the greatest distance from a query that a vector in the cell of code i can have, i from 0.
- * Lengths: query d; marks MATCHER_MARKS(d, b); codes MATCHER_CODES(b, n).
- * Refusals: 1, 2, 3 (n or i), 5, 6 (query), 7, 9 (any code).
+ * For each of n codes, the least and the greatest distance from a query that a vector in its cell can have.
+ * Lengths: query d; marks MATCHER_MARKS(d, b); codes MATCHER_CODES(b, n); lowers n; uppers n.
+ * Refusals: 1, 2, 3, 5, 6 (query), 7, 9 (any code).
  */
 uint32_t matcher_bounds(size_t d, size_t b, size_t n, const int32_t *query, size_t query_len, const int32_t *marks,
-                        size_t marks_len, const uint8_t *codes, size_t codes_len, size_t i, uint64_t *lower,
-                        uint64_t *upper);
+                        size_t marks_len, const uint8_t *codes, size_t codes_len, uint64_t *lowers, size_t lowers_len,
+                        uint64_t *uppers, size_t uppers_len);
 
 /* ---- the nearest vectors */
 
@@ -253,8 +259,9 @@ uint32_t matcher_scan(size_t d, size_t n, size_t k, const int32_t *query, size_t
                       size_t vectors_len, struct matcher_entry *entries, size_t entries_len);
 
 /*
- * The same from the codes, reading as few vectors as can settle the answer. Where the codes are the vectors' own, as
- * matcher_pack_vectors makes them, the entries are the scan's.
+ * The same from the codes. Where the codes are the vectors' own, as matcher_pack_vectors makes them, the entries are
+ * the scan's, and no vector is read that could be left out, but for those whose cell has one distance: with some other
+ * vector of its cell in its place alone, a number or a distance of the answer would be another.
  *
  * The search reads vectors in order of the least distance of their cells, of equal ones the lower number first. It
  * reads the next while fewer than k have been read, or while the pair of that least distance and the number is below
@@ -263,6 +270,7 @@ uint32_t matcher_scan(size_t d, size_t n, size_t k, const int32_t *query, size_t
  * past the count of them.
  *
  * The components of a vector that is not read are not looked at.
+ * Counts: count, of the vectors read.
  * Lengths: query d; marks MATCHER_MARKS(d, b); codes MATCHER_CODES(b, n); vectors n d; entries k; reads n.
  * Refusals: 1, 2, 3, 4, 5, 6 (query), 7, 9 (any code), 10. A refusal with 10 leaves the buffers as they were, too.
  */
@@ -290,9 +298,11 @@ uint32_t matcher_search(size_t d, size_t b, size_t n, size_t k, const int32_t *q
  */
 
 /*
- * Gives how many bytes a library of these counts has, MATCHER_LIBRARY(d, b, n), or 0 where d, b or n is out of range.
+ * How many bytes a library of these counts has, MATCHER_LIBRARY(d, b, n).
+ * Counts: length.
+ * Refusals: 1, 2, 3.
  */
-size_t matcher_library_length(size_t d, size_t b, size_t n);
+uint32_t matcher_library_length(size_t d, size_t b, size_t n, size_t *length);
 
 /*
  * The bytes of a library.
@@ -307,6 +317,7 @@ uint32_t matcher_write(size_t d, size_t b, size_t n, const int32_t *marks, size_
  * The library that the bytes begin with: its d, b and n, and how many of the bytes it is; what follows is not looked
  * at. The fronts of the buffers are filled, with MATCHER_MARKS(d, b) marks, n settings and n d components; past them
  * they keep their content.
+ * Counts: d, b, n, used.
  * Lengths: bytes any; marks MATCHER_MAX_MARKS; settings MATCHER_MAX_VECTORS; components MATCHER_MAX_COMPONENTS.
  * Refusals: 5; then from the left 12, 11, 17, 12 for each record, with 1, 2, 3 at the head, 7 at each mark, 6 (not
  * zero beyond d), 8 at each vector.
@@ -330,6 +341,7 @@ uint32_t matcher_query(size_t d, const uint8_t *bytes, size_t bytes_len, int32_t
  * match's first fault from the left (4 behind k, 12 for an end inside it); or, on line one, k and how many vectors
  * were read, then a line for each of the k nearest: number, settings, distance. Numbers are decimal, with single
  * spaces between them, and each line ends with byte 10. No match longer than MATCHER_MAX_MATCH is answered.
+ * Counts: count.
  * Lengths: input any; output MATCHER_MAX_TEXT.
  * Refusals: 5. What is wrong with the match stands in the text.
  */

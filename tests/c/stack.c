@@ -22,7 +22,7 @@ static int32_t marks[MATCHER_MAX_MARKS], made[MATCHER_MAX_MARKS], vectors[MATCHE
 static int32_t query[MATCHER_MAX_DIMENSIONS], component;
 static uint32_t settings[MATCHER_MAX_VECTORS], reads[MATCHER_MAX_VECTORS];
 static struct matcher_entry entries[MATCHER_MAX_VECTORS];
-static uint64_t lower, upper;
+static uint64_t distance, lowers[MATCHER_MAX_VECTORS], uppers[MATCHER_MAX_VECTORS];
 static uint8_t codes[MATCHER_MAX_CODES], regions[MATCHER_MAX_COMPONENTS];
 
 #define MARKS marks, MATCHER_MARKS(d, b)
@@ -42,11 +42,12 @@ static size_t given;
 CALL(load, input, length, marks, MATCHER_MAX_MARKS, settings, MATCHER_MAX_VECTORS,
      vectors, MATCHER_MAX_COMPONENTS, &d, &b, &n, &used)
 CALL(query, d, input + used + 2, length - used - 2, query, d)
-CALL(library_length, d, b, n)
+CALL(library_length, d, b, n, &place)
 CALL(write, d, b, n, MARKS, settings, n, VECTORS, file, MATCHER_LIBRARY(d, b, n))
 CALL(fresh, 0x3F800000, &component)
 CALL(fresh_value, 1.0F, &component)
 CALL(held, 0x3F800000, 20, &component)
+CALL(held_value, 1.0F, 20, &component)
 CALL(lost, &component)
 CALL(stretch, d, b, d, &place, &bits)
 CALL(check_marks, d, b, MARKS)
@@ -61,8 +62,8 @@ CALL(pack_vectors, d, b, n, VECTORS, MARKS, CODES)
 CALL(pack, d, b, n, regions, n * d, CODES)
 CALL(unpack, d, b, n, CODES, regions, n * d)
 CALL(check_codes, d, b, n, MARKS, CODES)
-CALL(distance, query, d, vectors, d, &lower)
-CALL(bounds, d, b, n, query, d, MARKS, CODES, n - 1, &lower, &upper)
+CALL(distance, query, d, vectors, d, &distance)
+CALL(bounds, d, b, n, query, d, MARKS, CODES, lowers, n, uppers, n)
 CALL(scan, d, n, n, query, d, VECTORS, entries, n)
 CALL(search, d, b, n, n, query, d, MARKS, CODES, VECTORS, entries, n, reads, n, &place)
 CALL(match, input, length, output, MATCHER_MAX_TEXT, &place)
@@ -115,6 +116,7 @@ int main(void)
     MEASURE(fresh);
     MEASURE(fresh_value);
     MEASURE(held);
+    MEASURE(held_value);
     MEASURE(lost);
     MEASURE(stretch);
     MEASURE(check_marks);

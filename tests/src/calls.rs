@@ -12,8 +12,6 @@ pub enum Given {
     K,
     /// a dimension
     J,
-    /// the number of a vector
-    I,
     /// a query, of d components
     Query,
     /// a query whose length is d, and a vector
@@ -37,6 +35,8 @@ pub enum Given {
     RoomCodes,
     RoomEntries,
     RoomReads,
+    RoomLowers,
+    RoomUppers,
     RoomBytes,
 }
 
@@ -100,7 +100,7 @@ pub const PACK_VECTORS: Call =
 pub const UNPACK: Call = call!(unpack, [D, B, N, Codes, RoomRegions], [1, 2, 3, 5, 9]);
 pub const CHECK_CODES: Call = call!(check_codes, [D, B, N, Marks, Codes], [1, 2, 3, 5, 7, 9]);
 pub const DISTANCE: Call = call!(distance, [Pair], [1, 5, 6]);
-pub const BOUNDS: Call = call!(bounds, [D, B, N, I, Query, Marks, Codes], [1, 2, 3, 5, 6, 7, 9]);
+pub const BOUNDS: Call = call!(bounds, [D, B, N, Query, Marks, Codes, RoomLowers, RoomUppers], [1, 2, 3, 5, 6, 7, 9]);
 pub const SCAN: Call = call!(scan, [D, N, K, Query, Vectors, Components, RoomEntries], [1, 3, 4, 5, 6]);
 pub const SEARCH: Call = call!(
     search,
@@ -108,3 +108,25 @@ pub const SEARCH: Call = call!(
     [1, 2, 3, 4, 5, 6, 7, 9, 10]
 );
 pub const WRITE: Call = call!(write, [D, B, N, Marks, Settings, Vectors, Components, RoomBytes], [1, 2, 3, 5, 6, 7, 8]);
+pub const LIBRARY_LENGTH: Call = call!(library_length, [D, B, N], [1, 2, 3]);
+
+/// All of them.
+pub const ALL: [&Call; 17] = [
+    &STRETCH,
+    &CHECK_MARKS,
+    &PART,
+    &DIMENSION_REGION,
+    &REGION,
+    &MAKE_MARKS,
+    &REGIONS,
+    &PACK,
+    &PACK_VECTORS,
+    &UNPACK,
+    &CHECK_CODES,
+    &DISTANCE,
+    &BOUNDS,
+    &SCAN,
+    &SEARCH,
+    &WRITE,
+    &LIBRARY_LENGTH,
+];

@@ -1,10 +1,19 @@
 //! What a text cites: a backquoted `path/from/root.antt:name` (also .rt or .rs) is a name that the file declares, and a
-//! backquoted `path/from/root.edit` is a file.
+//! backquoted `path/from/root.edit` is a file. In a table whose columns are called so, a name stands in the column of its
+//! kind.
+
+/// What a name is: the columns of a table of promises, behind the promise.
+const COLUMNS: [&str; 4] = ["definition", "contract", "theorem", "test"];
 
 /// The number of citations in a text, and its faults. `read` gives a file's text by its path.
 pub fn check(text: &str, read: impl Fn(&str) -> Option<String>) -> (usize, Vec<String>) {
     let (mut citations, mut faults, mut fenced) = (0, vec![], false);
+    let mut in_columns = false;
     for line in text.lines() {
+        in_columns = line.starts_with('|') && (in_columns || cells(line).skip(1).eq(COLUMNS));
+        if in_columns {
+            faults.extend(misplaced(line, &read));
+        }
         let fence = line.trim_start().starts_with("```");
         fenced ^= fence;
         if fence || fenced {
@@ -13,7 +22,7 @@ pub fn check(text: &str, read: impl Fn(&str) -> Option<String>) -> (usize, Vec<S
         if line.matches('`').count() % 2 == 1 {
             faults.push(format!("{line}: a backquote is left open"));
         }
-        for citation in line.split('`').skip(1).step_by(2).filter(|text| is_meant(text)) {
+        for citation in quoted(line).filter(|text| is_meant(text)) {
             citations += 1;
             if let Some(fault) = fault(citation, &read) {
                 faults.push(format!("{citation}: {fault}"));
@@ -24,6 +33,52 @@ pub fn check(text: &str, read: impl Fn(&str) -> Option<String>) -> (usize, Vec<S
         faults.push("a fenced block is left open".to_string());
     }
     (citations, faults)
+}
+
+/// The cells of a table's row.
+fn cells(row: &str) -> impl Iterator<Item = &str> {
+    row.trim().trim_matches('|').split('|').map(str::trim)
+}
+
+fn quoted(text: &str) -> impl Iterator<Item = &str> {
+    text.split('`').skip(1).step_by(2)
+}
+
+/// The faults of a row in a table of promises: it has five cells, cites something, and each name is of its column's kind.
+fn misplaced(row: &str, read: impl Fn(&str) -> Option<String>) -> Vec<String> {
+    let cells: Vec<&str> = cells(row).collect();
+    let promise = cells[0];
+    if promise == "promise" || promise.starts_with("---") {
+        return vec![];
+    }
+    if cells.len() != 1 + COLUMNS.len() || cells[1..].iter().all(|cell| cell.is_empty()) {
+        return vec![format!("{promise}: not a promise and {COLUMNS:?}, one of them at least filled")];
+    }
+    let cited = cells[1..].iter().zip(COLUMNS).flat_map(|(cell, column)| quoted(cell).map(move |name| (name, column)));
+    let wrong = cited.filter(|(citation, column)| kind(citation, &read).is_some_and(|kind| kind != *column));
+    wrong.map(|(citation, column)| format!("{citation}: no {column}")).collect()
+}
+
+/// The column that a citation belongs in, where the name is found: a type, a constant, a record or a definition that
+/// unfolds says what is meant, a function has a contract, any other declaration of antt is a theorem.
+fn kind(citation: &str, read: impl Fn(&str) -> Option<String>) -> Option<&'static str> {
+    let (path, name) = citation.split_once(':')?;
+    let text = read(path)?;
+    let declares = |test: &dyn Fn(&str) -> bool| text.lines().any(test);
+    Some(match path.rsplit_once('.')?.1 {
+        "rs" => "test",
+        "rt" if declares(&|line| has_item(line, &["fn"], name)) => "contract",
+        "rt" => "definition",
+        "antt" if declares(&|line| antt_declares(line, name) && defines(line)) => "definition",
+        "antt" => "theorem",
+        _ => return None,
+    })
+}
+
+/// Whether a declaration of antt is that of a definition.
+fn defines(line: &str) -> bool {
+    let mut words = line.split_whitespace();
+    words.any(|word| ["unfoldable", "abbrev", "data", "record"].contains(&word))
 }
 
 /// Whether a quoted text is meant as a citation: it begins with a source file, or has the form of a path and a name.
@@ -138,6 +193,39 @@ struct Entry {
     fn assert_fault(citation: &str, fault: &str) {
         let told = check(&format!("see `{citation}`."), read);
         assert_eq!(told, (1, vec![format!("{citation}: {fault}")]));
+    }
+
+    const TABLE: &str = "\
+| promise | definition | contract | theorem | test |
+|---|---|---|---|---|
+| sizes | `a/Specs.antt:size`, `a/Specs.antt:Row`, `a/lib.rt:UNIT` | `a/lib.rt:a_call` | `a/Specs.antt:first-refuses` | |
+| cases | | | | `a/test.rs:every_case` |
+
+| wrong | edit |
+|---|---|
+| `a/test.rs:every_case` | `a/wrong.edit` |
+";
+
+    #[test]
+    fn each_name_in_its_column_is_no_fault() {
+        assert_eq!(check(TABLE, read), (8, vec![]));
+    }
+
+    #[test]
+    fn a_name_in_another_column_is_told() {
+        for (citation, other) in [
+            ("`a/Specs.antt:size`", "`a/Specs.antt:first-refuses`"),
+            ("`a/Specs.antt:Row`", "`a/lib.rt:a_call`"),
+            ("`a/lib.rt:a_call`", "`a/lib.rt:Reading`"),
+            ("`a/Specs.antt:first-refuses`", "`a/Specs.antt:IsFirst`"),
+            ("`a/test.rs:every_case` |\n\n", "`a/Specs.antt:size` |\n\n"),
+            ("| | | | `a/test.rs:every_case` |", "| | | | |"),
+            ("| | | | `a/test.rs:every_case` |", "| `a/test.rs:every_case` |"),
+        ] {
+            assert!(TABLE.contains(citation), "{citation}");
+            let (_, faults) = check(&TABLE.replacen(citation, other, 1), read);
+            assert_eq!(faults.len(), 1, "{citation} {other}: {faults:?}");
+        }
     }
 
     #[test]

@@ -54,6 +54,12 @@ pub fn declared(header: &str) -> Vec<String> {
     code.split(';').filter(|statement| statement.contains('(')).map(words).collect()
 }
 
+/// The name of a function that is declared on one line.
+pub fn name_of(declaration: &str) -> String {
+    let (before, _) = declaration.split_once('(').expect("it has parameters");
+    before.rsplit([' ', '*']).next().expect("it has a name").to_string()
+}
+
 pub fn without_comments(text: &str) -> String {
     let mut pieces = text.split("/*");
     let code = pieces.next().unwrap_or_default().to_string();

@@ -24,7 +24,7 @@ impl Fault {
 }
 
 /// Buffers whose length is fixed by the other numbers.
-const BUFFERS: [Given; 13] = [
+const BUFFERS: [Given; 15] = [
     Query,
     Marks,
     DimensionMarks,
@@ -37,6 +37,8 @@ const BUFFERS: [Given; 13] = [
     RoomCodes,
     RoomEntries,
     RoomReads,
+    RoomLowers,
+    RoomUppers,
     RoomBytes,
 ];
 
@@ -54,6 +56,8 @@ fn length(input: &Input, buffer: Given) -> usize {
         RoomCodes => input.room.codes,
         RoomEntries => input.room.entries,
         RoomReads => input.room.reads,
+        RoomLowers => input.room.lowers,
+        RoomUppers => input.room.uppers,
         RoomBytes => input.room.bytes,
         Pair => input.one.vector.len(),
         other => panic!("{other:?} is no buffer"),
@@ -76,6 +80,8 @@ fn resize(input: &mut Input, buffer: Given, length: usize) {
         RoomCodes => input.room.codes = length,
         RoomEntries => input.room.entries = length,
         RoomReads => input.room.reads = length,
+        RoomLowers => input.room.lowers = length,
+        RoomUppers => input.room.uppers = length,
         RoomBytes => input.room.bytes = length,
         Pair => input.one.vector.resize(length, 0),
         other => panic!("{other:?} is no buffer"),
@@ -141,7 +147,7 @@ fn faults(input: &Input) -> Vec<Fault> {
     // not seen in a count's low 32 bits
     const WIDE: usize = 1 << 32;
     let mut faults = Faults(vec![]);
-    let Input { d, b, n, k, j, i, .. } = *input;
+    let Input { d, b, n, k, j, .. } = *input;
 
     faults.counts(1, &[D], &[0, 33, 64, d + WIDE, 1 << 63, usize::MAX], |input| &mut input.d);
     faults.counts(1, &[J], &[0, d + 1, 33, j + WIDE, usize::MAX], |input| &mut input.j);
@@ -152,7 +158,6 @@ fn faults(input: &Input) -> Vec<Fault> {
     let none = [0, 3, 5, 6, 63, 65, 96, 128, WIDE, WIDE + input.one.regions, 1 << 63, usize::MAX];
     faults.counts(2, &[DimensionMarks], &none, |input| &mut input.one.regions);
     faults.counts(3, &[N], &[0, 513, 1024, n + WIDE, n + (1 << 61), usize::MAX], |input| &mut input.n);
-    faults.counts(3, &[I], &[n, n + 1, 512, i + WIDE, usize::MAX], |input| &mut input.i);
     faults.counts(4, &[K], &[0, n + 1, 513, k + WIDE, usize::MAX], |input| &mut input.k);
 
     for (at, buffer) in BUFFERS.into_iter().enumerate() {

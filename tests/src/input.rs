@@ -14,8 +14,6 @@ pub struct Input {
     pub k: usize,
     /// a dimension, from 1
     pub j: usize,
-    /// the number of a vector
-    pub i: usize,
     pub query: Vec<i32>,
     pub marks: Vec<i32>,
     pub vectors: Vec<i32>,
@@ -66,6 +64,8 @@ pub struct Room {
     pub codes: usize,
     pub entries: usize,
     pub reads: usize,
+    pub lowers: usize,
+    pub uppers: usize,
     pub bytes: usize,
 }
 

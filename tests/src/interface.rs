@@ -13,7 +13,7 @@ mod search;
 
 pub use approximation::{check_codes, pack, pack_vectors, unpack};
 pub use distance::{bounds, distance};
-pub use intake::{fresh, fresh_value, held, intake, lost};
+pub use intake::{fresh, fresh_value, held, held_value, intake, lost};
 pub use layout::{entry_layout, scan_from_c};
 pub use library::{library_length, load, query, write};
 pub use partition::{check_marks, dimension_region, make_marks, part, region, regions, stretch};

@@ -12,7 +12,7 @@ mod search;
 
 pub use approximation::{check_codes, codes_length, pack, pack_vectors, packed, regions_of, unpack};
 pub use distance::{bounds, cell_vectors, distance, distance_between};
-pub use library::{library_length, load, query, write};
+pub use library::{bytes_length, library_length, load, query, write};
 pub use partition::{
     bits_of, check_marks, dimension_region, made_marks, make_marks, marks_length, part, parts, region, region_of,
     regions, stretch,

@@ -37,7 +37,9 @@ pub fn input(d: usize, b: usize, marks: &[i32], vectors: &[i32], query: &[i32], 
         codes: codes.len(),
         entries: k,
         reads: n,
-        bytes: reference::library_length(d, b, n),
+        lowers: n,
+        uppers: n,
+        bytes: reference::bytes_length(d, b, n),
     };
     Input {
         origin: String::new(),
@@ -46,7 +48,6 @@ pub fn input(d: usize, b: usize, marks: &[i32], vectors: &[i32], query: &[i32], 
         n,
         k,
         j: 1,
-        i: 0,
         query: query.to_vec(),
         marks: marks.to_vec(),
         vectors: vectors.to_vec(),
@@ -80,7 +81,7 @@ impl Input {
             marks: self.marks[part].to_vec(),
             value: self.vectors[i * self.d + j - 1],
         };
-        (self.j, self.i) = (j, i);
+        self.j = j;
         self
     }
 

@@ -1,4 +1,4 @@
-//! The example in C, examples/match.c, compiled as a firmware writer would and run, against the reference.
+//! The example in C, examples/match.c, compiled as a firmware writer would and run, against the kit program.
 
 use std::{
     fs,
@@ -6,7 +6,7 @@ use std::{
     process::{Command, Output},
     sync::LazyLock,
 };
-use tests::{c, matches::Match, reference};
+use tests::{c, kit, matches::Match, reference};
 
 /// The example, compiled once.
 static EXAMPLE: LazyLock<PathBuf> =
@@ -31,13 +31,18 @@ fn run(test: &str, library: &[u8], k: &str, queries: &[&[u8]]) -> Output {
     command.output().expect("the example runs")
 }
 
-/// The example answers for each query what the program does for the whole, with this status.
+/// The example answers for each query what the kit program does for the whole, with this status; the reference agrees.
 fn assert_answers(test: &str, matches: &[Match], status: i32) {
     let Match { library, k, .. } = &matches[0];
     let queries: Vec<&[u8]> = matches.iter().map(|one| &one.query[..]).collect();
     let output = run(test, library, &k.to_string(), &queries);
-    let expected: String = matches.iter().map(|one| reference::program(&one.bytes())).collect();
-    assert_eq!(c::text(&output), expected, "{matches:?}: the reference is on the right");
+    let of_the_program = |one: &Match| {
+        let text = kit::run(&one.bytes());
+        assert_eq!(text, reference::program(&one.bytes()), "{one:?}: the kit program, and the reference");
+        text
+    };
+    let expected: String = matches.iter().map(of_the_program).collect();
+    assert_eq!(c::text(&output), expected, "{matches:?}: the kit program is on the right");
     assert_eq!(output.status.code(), Some(status), "{matches:?}");
 }
 
@@ -82,6 +87,15 @@ fn no_refused_input_is_answered() {
         [with_k(0), with_k(6), with_k(512), with_k(513), with_k(65535), with_query(&[]), with_query(&good.query[..9])];
     let others = [with_query(&longer), with_query(&longer[..11]), with_query(&[9]), with_query(&[3; 80])];
     cases.into_iter().chain(others).for_each(|wrong| assert_answers("refused", &[wrong], 1));
+
+    // both at once: the first fault from the left is that of k
+    for k in [0, 6, 65535] {
+        for query in [&[7, 7][..], &[], &[9], &good.query[..9], &longer[..11]] {
+            let both = Match { query: query.to_vec(), ..with_k(k) };
+            assert_eq!(reference::program(&both.bytes()), "refused 4\n");
+            assert_answers("refused", &[both], 1);
+        }
+    }
 
     for (place, byte) in [(1, 33), (2, 13), (4, 2), (9, 255), (54, 200), (390, 5), (0, 0)] {
         let mut library = good.library.clone();

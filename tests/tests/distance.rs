@@ -80,11 +80,7 @@ fn no_other_length_of_a_pair_is_taken() {
 #[test]
 fn no_random_bound_is_wrong() {
     for seed in 0..2000 {
-        let mut input = random_input(seed, if seed % 50 == 0 { 512 } else { 12 });
-        for i in (0..input.n).step_by(1 + input.n / 20) {
-            input.i = i;
-            BOUNDS.gives(0, &input);
-        }
+        BOUNDS.gives(0, &random_input(seed, if seed % 50 == 0 { 512 } else { 12 }));
     }
 }
 
@@ -100,14 +96,13 @@ fn no_bound_is_off_the_cell() {
         let near: Vec<i32> = (0..d).map(|_| (base + random.between(-3, 20)).clamp(LEAST, GREATEST)).collect();
         let far: Vec<i32> = (0..d).map(|_| random.one_of(&[LEAST, GREATEST])).collect();
         let query = if case % 4 == 0 { far } else { near };
-        let mut input = samples::input(d, b, &marks, &[first, second].concat(), &query, 1).from(format!("case {case}"));
-        for i in 0..2 {
-            input.i = i;
-            BOUNDS.gives(0, &input);
+        let input = samples::input(d, b, &marks, &[first, second].concat(), &query, 1).from(format!("case {case}"));
+        BOUNDS.gives(0, &input);
+        let bounds = interface::bounds(&input).expect("the library is right");
+        for (i, Bounds { lower, upper }) in bounds.into_iter().enumerate() {
             let cell = reference::cell_vectors(&input, i);
             let distances = cell.iter().map(|vector| reference::distance_between(&query, vector));
             let (least, greatest) = (distances.clone().min(), distances.max());
-            let Bounds { lower, upper } = interface::bounds(&input).expect("the library is right");
             assert_eq!((least, greatest), (Some(lower.into()), Some(upper.into())), "case {case}, vector {i}");
         }
     }
@@ -120,14 +115,13 @@ fn no_query_is_taken_into_a_region_beside_it() {
     let mut input = samples::input(1, 2, &marks, &vectors, &[0], 1);
     for query in LEAST..=GREATEST {
         input.query[0] = query;
-        for (i, (first, last)) in [(-700, -301), (-300, 4), (5, 5)].into_iter().enumerate() {
-            input.i = i;
+        let bounds = [(-700, -301), (-300, 4), (5, 5)].map(|(first, last)| {
             let steps = [i64::from(query - first), i64::from(query - last)].map(|step| step.unsigned_abs().pow(2));
             let inside = (first..=last).contains(&query);
             let lower = if inside { 0 } else { steps[0].min(steps[1]) };
-            let bounds = Bounds { lower, upper: steps[0].max(steps[1]) };
-            assert_eq!(interface::bounds(&input), Ok(bounds), "query {query}, vector {i}");
-        }
+            Bounds { lower, upper: steps[0].max(steps[1]) }
+        });
+        assert_eq!(interface::bounds(&input).as_deref(), Ok(&bounds[..]), "query {query}");
     }
 }
 
@@ -136,11 +130,10 @@ fn no_query_is_taken_into_a_region_beside_it() {
 fn no_distance_is_outside_the_bounds() {
     for seed in 0..1500 {
         let mut input = random_input(seed, 10);
-        for i in 0..input.n {
-            input.i = i;
+        let bounds = interface::bounds(&input).expect("the library is right");
+        for (i, Bounds { lower, upper }) in bounds.into_iter().enumerate() {
             input.one.vector = input.vectors[i * input.d..(i + 1) * input.d].to_vec();
             let distance = interface::distance(&input).expect("the vector is right");
-            let Bounds { lower, upper } = interface::bounds(&input).expect("the library is right");
             assert!(lower <= distance && distance <= upper, "seed {seed}, vector {i}: {lower} {distance} {upper}");
         }
     }
@@ -153,9 +146,9 @@ fn no_great_bound_is_cut_short() {
         let marks = [LEAST, GREATEST + 1].repeat(d);
         let mut input = samples::input(d, 0, &marks, &vec![0; d], &vec![LEAST; d], 1);
         let upper = d as u64 * 65535 * 65535;
-        assert_eq!(interface::bounds(&input), Ok(Bounds { lower: 0, upper }), "d {d}");
+        assert_eq!(interface::bounds(&input), Ok(vec![Bounds { lower: 0, upper }]), "d {d}");
         input.marks = [GREATEST, GREATEST + 1].repeat(d);
-        assert_eq!(interface::bounds(&input), Ok(Bounds { lower: upper, upper }), "d {d}");
+        assert_eq!(interface::bounds(&input), Ok(vec![Bounds { lower: upper, upper }]), "d {d}");
     }
 }
 

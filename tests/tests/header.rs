@@ -8,7 +8,7 @@ use std::{
 use tests::{
     c,
     calls::{self, Call},
-    declarations::{declared, exported, without_comments},
+    declarations::{declared, exported, name_of, without_comments},
     reference,
     samples::shapes,
 };
@@ -75,31 +75,43 @@ fn refusals(header: &str, function: &str) -> Vec<u32> {
     plain.split(',').map(|number| number.trim().parse().expect("a list of numbers")).collect()
 }
 
-/// The calls on numbers, whose causes are tried one by one and two by two elsewhere.
+/// What C calls a call on numbers.
+fn name_in_c(call: &Call) -> String {
+    let name = match call.name {
+        "part" => "check_part",
+        "dimension_region" => "region_of",
+        name => name,
+    };
+    format!("matcher_{name}")
+}
+
+/// The calls on readings, with their refusals.
+const READINGS: [(&str, &[u32]); 5] = [
+    ("matcher_fresh", &[14, 15]),
+    ("matcher_fresh_value", &[14, 15]),
+    ("matcher_held", &[13, 14, 15]),
+    ("matcher_held_value", &[13, 14, 15]),
+    ("matcher_lost", &[13]),
+];
+
+/// The calls on bytes, whose refusals are no plain list, and the two that hand back a part of the marks and give no number.
+const OTHERS: [&str; 5] = ["matcher_load", "matcher_query", "matcher_match", "matcher_part_length", "matcher_part_at"];
+
+/// The calls on numbers, whose causes are tried one by one and two by two elsewhere, and those on readings: each call that
+/// the header declares.
 #[test]
 fn no_call_lists_other_refusals() {
     let header = read("include/matcher.h");
-    let calls: [&Call; 15] = [
-        &calls::STRETCH,
-        &calls::CHECK_MARKS,
-        &calls::PART,
-        &calls::REGION,
-        &calls::MAKE_MARKS,
-        &calls::REGIONS,
-        &calls::PACK,
-        &calls::PACK_VECTORS,
-        &calls::UNPACK,
-        &calls::CHECK_CODES,
-        &calls::DISTANCE,
-        &calls::BOUNDS,
-        &calls::SCAN,
-        &calls::SEARCH,
-        &calls::WRITE,
-    ];
-    for call in calls {
-        let name = if call.name == "part" { "check_part" } else { call.name };
-        assert_eq!(refusals(&header, &format!("matcher_{name}")), call.causes, "matcher_{name}");
+    let mut listed: Vec<(String, &[u32])> = calls::ALL.iter().map(|call| (name_in_c(call), call.causes)).collect();
+    listed.extend(READINGS.map(|(name, causes)| (name.to_string(), causes)));
+    for (name, causes) in &listed {
+        assert_eq!(refusals(&header, name), *causes, "{name}");
     }
+    let mut names: Vec<String> = listed.into_iter().map(|(name, _)| name).chain(OTHERS.map(str::to_string)).collect();
+    let mut declared: Vec<String> = declared(&header).iter().map(|declaration| name_of(declaration)).collect();
+    names.sort();
+    declared.sort();
+    assert_eq!(names, declared, "the calls whose refusals are known, and the header's");
 }
 
 /// The constants of a crate: name and value.
@@ -174,7 +186,7 @@ fn no_length_is_another() {
         reference::marks_length(32, 192),
         512 * 32,
         reference::codes_length(512, 192),
-        reference::library_length(32, 192, 512),
+        reference::bytes_length(32, 192, 512),
         32 * (1 + 4 + 1),
         45_928,
         (4 + 4) + 512 * (4 + 11 + 13),
@@ -185,7 +197,7 @@ fn no_length_is_another() {
     let of_shape = |(d, b): (usize, usize)| {
         counts.map(|n| {
             let (marks, codes) = (reference::marks_length(d, b), reference::codes_length(n, b));
-            format!("{d} {b} {n}: {marks} {codes} {}", reference::library_length(d, b, n))
+            format!("{d} {b} {n}: {marks} {codes} {}", reference::bytes_length(d, b, n))
         })
     };
     let expected: Vec<String> = shapes().flat_map(of_shape).collect();

@@ -97,6 +97,7 @@ fn every_fresh_pattern() {
 fn no_nan_is_taken_for_a_number() {
     for bits in (0x7F80_0001..=0x7FFF_FFFF).chain(0xFF80_0001..=0xFFFF_FFFF) {
         assert_eq!(interface::fresh_value(f32::from_bits(bits)), Err(14), "{bits:08X}");
+        assert_eq!(interface::held_value(f32::from_bits(bits), 20), Err(14), "{bits:08X}, held");
     }
 }
 
@@ -118,6 +119,7 @@ fn no_held_reading_is_taken_past_the_age_limit() {
         for age in 0..=255 {
             let expected = reference::intake(Reading::Held(bits, age));
             assert_eq!(interface::held(bits, age), expected, "{bits:08X} at age {age}");
+            assert_eq!(interface::held_value(f32::from_bits(bits), age), expected, "the float {bits:08X} at age {age}");
         }
     });
 }

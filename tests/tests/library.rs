@@ -1,7 +1,7 @@
 //! The library file and a query (document 01, "Library file"): the C interface against the reference.
 
 use tests::{
-    calls::WRITE,
+    calls::{LIBRARY_LENGTH, WRITE},
     faults::{assert_each_refusal, assert_lengths, assert_refusals},
     input::{told, Input, LoadRoom, Loaded, Room},
     interface,
@@ -113,12 +113,12 @@ fn no_shape_is_left_out() {
 #[test]
 fn no_length_of_a_library_is_wrong() {
     let counts = [0, 1, 2, 3, 511, 512, 513, 1 << 32, usize::MAX];
+    let mut input = library_a([0, 0], 1);
     for d in (0..=34).chain([1 << 32, usize::MAX]) {
         for b in (0..=200).chain([1 << 32, usize::MAX]) {
             for n in counts {
-                let right = (1..=32).contains(&d) && b <= 6 * d && (1..=512).contains(&n);
-                let length = if right { reference::library_length(d, b, n) } else { 0 };
-                assert_eq!(interface::library_length(d, b, n), length, "d {d}, b {b}, n {n}");
+                (input.d, input.b, input.n) = (d, b, n);
+                LIBRARY_LENGTH.number(&input);
             }
         }
     }
@@ -189,6 +189,11 @@ fn no_mark_or_settings_number_changes_on_the_way() {
 #[test]
 fn no_refusal_of_write_is_missed_or_out_of_order() {
     assert_refusals(&WRITE, &small_inputs());
+}
+
+#[test]
+fn no_refusal_of_library_length_is_missed_or_out_of_order() {
+    assert_refusals(&LIBRARY_LENGTH, &small_inputs());
 }
 
 #[test]

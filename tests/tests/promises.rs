@@ -35,6 +35,7 @@ fn no_promise_cites_what_is_not_there() {
     let (citations, faults) = citations::check(&text, read);
     assert!(faults.is_empty(), "docs/PROMISES.md:\n{}", faults.join("\n"));
     assert!(citations >= 10, "docs/PROMISES.md has {citations} citations only");
+    assert!(text.contains("| promise | definition | contract | theorem | test |"), "docs/PROMISES.md has no columns");
 }
 
 /// Whether a source has a function that other crates can reach.

@@ -18,10 +18,9 @@ pub extern "C" fn matcher_pack(
     regions: &[u8],
     codes: &mut [u8],
 ) -> u32
-    ensures { λ r. ⌜ r ≡ verdictNumber (first (packCauses d b n (now (regions .entry)) (length (now (codes .entry))))) ⌝ }
-    ensures { λ _. ⌜ now (codes .exit)
-        ≡ outcome (first (packCauses d b n (now (regions .entry)) (length (now (codes .entry)))))
-        (packed d b n (now (regions .entry))) (λ _. now (codes .entry)) ⌝ }
+    ensures { λ r. let v = first (packCauses d b n (now (regions .entry)) (length (now (codes .entry)))) in
+        ⌜ (r ≡ verdictNumber v)
+        × (now (codes .exit) ≡ outcome v (packed d b n (now (regions .entry))) (λ _. now (codes .entry))) ⌝ }
 {
     codes::pack(d, b, n, regions, codes).number()
 }
@@ -35,10 +34,9 @@ pub extern "C" fn matcher_unpack(
     codes: &[u8],
     regions: &mut [u8],
 ) -> u32
-    ensures { λ r. ⌜ r ≡ verdictNumber (first (unpackCauses d b n (now (codes .entry)) (length (now (regions .entry))))) ⌝ }
-    ensures { λ _. ⌜ now (regions .exit)
-        ≡ outcome (first (unpackCauses d b n (now (codes .entry)) (length (now (regions .entry)))))
-        (unpacked d b n (now (codes .entry))) (λ _. now (regions .entry)) ⌝ }
+    ensures { λ r. let v = first (unpackCauses d b n (now (codes .entry)) (length (now (regions .entry)))) in
+        ⌜ (r ≡ verdictNumber v)
+        × (now (regions .exit) ≡ outcome v (unpacked d b n (now (codes .entry))) (λ _. now (regions .entry))) ⌝ }
 {
     codes::unpack(d, b, n, codes, regions).number()
 }
@@ -67,10 +65,9 @@ pub extern "C" fn matcher_regions(
     marks: &[i32],
     regions: &mut [u8],
 ) -> u32
-    ensures { λ r. ⌜ r ≡ verdictNumber (first (regionsCauses d b n (now (vectors .entry)) (now (marks .entry)) (length (now (regions .entry))))) ⌝ }
-    ensures { λ _. ⌜ now (regions .exit)
-        ≡ outcome (first (regionsCauses d b n (now (vectors .entry)) (now (marks .entry)) (length (now (regions .entry)))))
-        (vectorRegions d b (now (marks .entry)) (now (vectors .entry))) (λ _. now (regions .entry)) ⌝ }
+    ensures { λ r. let v = first (regionsCauses d b n (now (vectors .entry)) (now (marks .entry)) (length (now (regions .entry)))) in
+        ⌜ (r ≡ verdictNumber v)
+        × (now (regions .exit) ≡ outcome v (vectorRegions d b (now (marks .entry)) (now (vectors .entry))) (λ _. now (regions .entry))) ⌝ }
 {
     approximation::regions(d, b, n, vectors, marks, regions).number()
 }
@@ -85,10 +82,9 @@ pub extern "C" fn matcher_pack_vectors(
     marks: &[i32],
     codes: &mut [u8],
 ) -> u32
-    ensures { λ r. ⌜ r ≡ verdictNumber (first (packVectorsCauses d b n (now (vectors .entry)) (now (marks .entry)) (length (now (codes .entry))))) ⌝ }
-    ensures { λ _. ⌜ now (codes .exit)
-        ≡ outcome (first (packVectorsCauses d b n (now (vectors .entry)) (now (marks .entry)) (length (now (codes .entry)))))
-        (vectorCodes d b n (now (marks .entry)) (now (vectors .entry))) (λ _. now (codes .entry)) ⌝ }
+    ensures { λ r. let v = first (packVectorsCauses d b n (now (vectors .entry)) (now (marks .entry)) (length (now (codes .entry)))) in
+        ⌜ (r ≡ verdictNumber v)
+        × (now (codes .exit) ≡ outcome v (vectorCodes d b n (now (marks .entry)) (now (vectors .entry))) (λ _. now (codes .entry))) ⌝ }
 {
     approximation::pack_vectors(d, b, n, vectors, marks, codes).number()
 }

@@ -1,4 +1,4 @@
-// The nearest vectors, for C. Each gives 0, or the refusal's number; a refused call leaves the buffers as they were, and a count is 0.
+// The nearest vectors, for C. Each gives 0, or the refusal's number; a refused call leaves the buffers as they were, and its count is 0.
 use nearest::Entry;
 ghost use mathlib.Core.Path.{_≡_};
 ghost use mathlib.Core.List.{_++_};
@@ -20,13 +20,16 @@ pub extern "C" fn matcher_scan(
     vectors: &[i32],
     entries: &mut [Entry],
 ) -> u32
-    ensures { λ r. let v = first (scanCauses d n k (now (query .entry)) (now (vectors .entry)) (length (now (entries .entry))) (length (now (entries .entry)))) in
-        ⌜ (r ≡ verdictNumber v) × (now (entries .exit) ≡ outcome v (entriesOf (scanAnswer d n k (now (query .entry)) (now (vectors .entry)))) (λ _. now (entries .entry))) ⌝ }
+    ensures { λ r. let room = length (now (entries .entry)) in
+        let v = first (scanCauses d n k (now (query .entry)) (now (vectors .entry)) room room) in
+        ⌜ (r ≡ verdictNumber v)
+        × (now (entries .exit)
+        ≡ outcome v (entriesOf (scanAnswer d n k (now (query .entry)) (now (vectors .entry)))) (λ _. now (entries .entry))) ⌝ }
 {
     nearest::scan(d, n, k, query, vectors, entries).number()
 }
 
-// The same by the search, which reads no more vectors than it must: the numbers of the vectors read, in reading order, and their count.
+// The same by the search; also the numbers of the vectors that it reads, in reading order, and their count.
 #[no_mangle]
 pub extern "C" fn matcher_search(
     d: usize,
@@ -43,11 +46,12 @@ pub extern "C" fn matcher_search(
 ) -> u32
     ensures { λ r. let l = library d b n (now (marks .entry)) (now (codes .entry)) (now (vectors .entry)) in
         let v = first (searchCauses l (now (query .entry)) k (entryRoom (length (now (entries .entry))) (length (now (reads .entry))))) in
+        let found = searched l (now (query .entry)) k in
         ⌜ (r ≡ verdictNumber v)
-        × (now (count .exit) ≡ outcome v (length (searched l (now (query .entry)) k .reads)) (λ _. 0))
-        × (now (entries .exit) ≡ outcome v (entriesOf (searched l (now (query .entry)) k .best)) (λ _. now (entries .entry)))
-        × (now (reads .exit) ≡ outcome v (searched l (now (query .entry)) k .reads ++ drop (length (searched l (now (query .entry)) k .reads)) (now (reads .entry))) (λ _. now (reads .entry))) ⌝ }
+        × (now (count .exit) ≡ outcome v (length (found .reads)) (λ _. 0))
+        × (now (entries .exit) ≡ outcome v (entriesOf (found .best)) (λ _. now (entries .entry)))
+        × (now (reads .exit) ≡ outcome v (found .reads ++ drop (length (found .reads)) (now (reads .entry))) (λ _. now (reads .entry))) ⌝ }
 {
     let answer = nearest::search(d, b, n, k, query, marks, codes, vectors, entries, reads);
-    tell::searched(answer, count)
+    c_answers::put_read_count(answer, count)
 }

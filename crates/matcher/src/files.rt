@@ -1,4 +1,5 @@
-// The library file and a query from bytes, for C. Each gives 0, or the refusal's number; a refused call leaves the buffers as they were, and its counts are 0.
+// The library file and a query from bytes, for C. Each gives 0, or the refusal's number; a refused call leaves the buffers as they were,
+// and its counts are 0.
 ghost use mathlib.Core.Path.{_≡_};
 ghost use lib.ListN.{length};
 ghost use Rattle.refusal.specs.Refusal.{verdictNumber};
@@ -9,12 +10,14 @@ ghost use Rattle.writing.specs.Write.{writeCauses};
 ghost use Rattle.loading.specs.Load.{loadCauses, filled};
 ghost use Rattle.query.specs.Query.{queryCauses, componentsOf};
 
-// How many bytes a library of these counts has, 0 where they are out of range.
+// How many bytes a library of these counts has.
 #[no_mangle]
-pub extern "C" fn matcher_library_length(d: usize, b: usize, n: usize) -> usize
-    ensures { λ r. ⌜ r ≡ outcome (first (countsCauses d b n)) (libraryLength d b n) (λ _. 0) ⌝ }
+pub extern "C" fn matcher_library_length(d: usize, b: usize, n: usize, length: &mut usize) -> u32
+    ensures { λ r. ⌜ r ≡ verdictNumber (first (countsCauses d b n)) ⌝ }
+    ensures { λ _. ⌜ now (length .exit) ≡ outcome (first (countsCauses d b n)) (libraryLength d b n) (λ _. 0) ⌝ }
 {
-    library::library_length(d, b, n)
+    *length = library::library_length(d, b, n);
+    library::check_counts(d, b, n).number()
 }
 
 // The bytes of a library, into a buffer of as many.
@@ -29,9 +32,8 @@ pub extern "C" fn matcher_write(
     bytes: &mut [u8],
 ) -> u32
     ensures { λ r. let l = libraryWith d b n (now (marks .entry)) (now (settings .entry)) (now (components .entry)) in
-        ⌜ r ≡ verdictNumber (first (writeCauses l (length (now (bytes .entry))))) ⌝ }
-    ensures { λ _. let l = libraryWith d b n (now (marks .entry)) (now (settings .entry)) (now (components .entry)) in
-        ⌜ now (bytes .exit) ≡ outcome (first (writeCauses l (length (now (bytes .entry))))) (libraryBytes l) (λ _. now (bytes .entry)) ⌝ }
+        let v = first (writeCauses l (length (now (bytes .entry)))) in
+        ⌜ (r ≡ verdictNumber v) × (now (bytes .exit) ≡ outcome v (libraryBytes l) (λ _. now (bytes .entry))) ⌝ }
 {
     writing::write(d, b, n, marks, settings, components, bytes).number()
 }
@@ -48,38 +50,27 @@ pub extern "C" fn matcher_load(
     n: &mut usize,
     used: &mut usize,
 ) -> u32
-    ensures { λ r. let v = first (loadCauses (length (now (marks .entry))) (length (now (settings .entry))) (length (now (components .entry))) (now (bytes .entry))) in
-        ⌜ r ≡ verdictNumber v ⌝ }
-    ensures { λ _. let v = first (loadCauses (length (now (marks .entry))) (length (now (settings .entry))) (length (now (components .entry))) (now (bytes .entry))) in
+    ensures { λ r. let v = first (loadCauses (length (now (marks .entry))) (length (now (settings .entry)))
+        (length (now (components .entry))) (now (bytes .entry))) in
         let l = readLibrary (now (bytes .entry)) in
-        ⌜ now (marks .exit) ≡ filled v (l .marks) (now (marks .entry)) ⌝ }
-    ensures { λ _. let v = first (loadCauses (length (now (marks .entry))) (length (now (settings .entry))) (length (now (components .entry))) (now (bytes .entry))) in
-        let l = readLibrary (now (bytes .entry)) in
-        ⌜ now (settings .exit) ≡ filled v (l .settings) (now (settings .entry)) ⌝ }
-    ensures { λ _. let v = first (loadCauses (length (now (marks .entry))) (length (now (settings .entry))) (length (now (components .entry))) (now (bytes .entry))) in
-        let l = readLibrary (now (bytes .entry)) in
-        ⌜ now (components .exit) ≡ filled v (l .components) (now (components .entry)) ⌝ }
-    ensures { λ _. let v = first (loadCauses (length (now (marks .entry))) (length (now (settings .entry))) (length (now (components .entry))) (now (bytes .entry))) in
-        ⌜ now (d .exit) ≡ outcome v (readLibrary (now (bytes .entry)) .d) (λ _. 0) ⌝ }
-    ensures { λ _. let v = first (loadCauses (length (now (marks .entry))) (length (now (settings .entry))) (length (now (components .entry))) (now (bytes .entry))) in
-        ⌜ now (b .exit) ≡ outcome v (readLibrary (now (bytes .entry)) .b) (λ _. 0) ⌝ }
-    ensures { λ _. let v = first (loadCauses (length (now (marks .entry))) (length (now (settings .entry))) (length (now (components .entry))) (now (bytes .entry))) in
-        ⌜ now (n .exit) ≡ outcome v (readLibrary (now (bytes .entry)) .n) (λ _. 0) ⌝ }
-    ensures { λ _. let v = first (loadCauses (length (now (marks .entry))) (length (now (settings .entry))) (length (now (components .entry))) (now (bytes .entry))) in
-        let l = readLibrary (now (bytes .entry)) in
-        ⌜ now (used .exit) ≡ outcome v (libraryLength (l .d) (l .b) (l .n)) (λ _. 0) ⌝ }
+        ⌜ (r ≡ verdictNumber v)
+        × (now (marks .exit) ≡ filled v (l .marks) (now (marks .entry)))
+        × (now (settings .exit) ≡ filled v (l .settings) (now (settings .entry)))
+        × (now (components .exit) ≡ filled v (l .components) (now (components .entry)))
+        × (now (d .exit) ≡ outcome v (l .d) (λ _. 0)) × (now (b .exit) ≡ outcome v (l .b) (λ _. 0))
+        × (now (n .exit) ≡ outcome v (l .n) (λ _. 0))
+        × (now (used .exit) ≡ outcome v (libraryLength (l .d) (l .b) (l .n)) (λ _. 0)) ⌝ }
 {
     let loaded = loading::load(bytes, marks, settings, components);
-    tell::loaded(loaded, d, b, n, used)
+    c_answers::put_counts(loaded, d, b, n, used)
 }
 
 // The components of the d readings that the bytes hold, into a buffer of as many.
 #[no_mangle]
 pub extern "C" fn matcher_query(d: usize, bytes: &[u8], components: &mut [i32]) -> u32
-    ensures { λ r. ⌜ r ≡ verdictNumber (first (queryCauses d (length (now (components .entry))) (now (bytes .entry)))) ⌝ }
-    ensures { λ _. ⌜ now (components .exit)
-        ≡ outcome (first (queryCauses d (length (now (components .entry))) (now (bytes .entry))))
-        (componentsOf d (now (bytes .entry))) (λ _. now (components .entry)) ⌝ }
+    ensures { λ r. let v = first (queryCauses d (length (now (components .entry))) (now (bytes .entry))) in
+        ⌜ (r ≡ verdictNumber v)
+        × (now (components .exit) ≡ outcome v (componentsOf d (now (bytes .entry))) (λ _. now (components .entry))) ⌝ }
 {
     query::query(d, bytes, components).number()
 }

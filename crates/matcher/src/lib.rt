@@ -10,14 +10,14 @@ use reading::Reading;
 ghost use lib.Ieee.{binary32, ofBits};
 ghost use Rattle.reading.specs.declared.Reading.the-variants.{Fresh, Held, Lost};
 ghost use Rattle.reading.specs.Intake.{intakeOf};
-ghost use Rattle.tell.specs.Answered.{Answered};
+ghost use Rattle.c_answers.specs.Answered.{Answered};
 
 // A fresh reading of the value with these 32 bits.
 #[no_mangle]
 pub extern "C" fn matcher_fresh(bits: u32, component: &mut i32) -> u32
     ensures { λ r. ⌜ Answered (intakeOf (Fresh (ofBits binary32 bits))) r (now (component .entry)) (now (component .exit)) ⌝ }
 {
-    tell::component(Reading::fresh_bits(bits), component)
+    c_answers::put_component(Reading::fresh_bits(bits), component)
 }
 
 // A held reading of the value with these 32 bits, of an age in tenths of a second.
@@ -25,7 +25,7 @@ pub extern "C" fn matcher_fresh(bits: u32, component: &mut i32) -> u32
 pub extern "C" fn matcher_held(bits: u32, age: u8, component: &mut i32) -> u32
     ensures { λ r. ⌜ Answered (intakeOf (Held (ofBits binary32 bits) age)) r (now (component .entry)) (now (component .exit)) ⌝ }
 {
-    tell::component(Reading::held_bits(bits, age), component)
+    c_answers::put_component(Reading::held_bits(bits, age), component)
 }
 
 // A lost reading.
@@ -33,7 +33,7 @@ pub extern "C" fn matcher_held(bits: u32, age: u8, component: &mut i32) -> u32
 pub extern "C" fn matcher_lost(component: &mut i32) -> u32
     ensures { λ r. ⌜ Answered (intakeOf Lost) r (now (component .entry)) (now (component .exit)) ⌝ }
 {
-    tell::component(Reading::Lost, component)
+    c_answers::put_component(Reading::Lost, component)
 }
 
 // A fresh reading of a float.
@@ -41,5 +41,13 @@ pub extern "C" fn matcher_lost(component: &mut i32) -> u32
 pub extern "C" fn matcher_fresh_value(value: f32, component: &mut i32) -> u32
     ensures { λ r. ⌜ Answered (intakeOf (Fresh value)) r (now (component .entry)) (now (component .exit)) ⌝ }
 {
-    tell::component(Reading::Fresh(value), component)
+    c_answers::put_component(Reading::Fresh(value), component)
+}
+
+// A held reading of a float, of an age in tenths of a second.
+#[no_mangle]
+pub extern "C" fn matcher_held_value(value: f32, age: u8, component: &mut i32) -> u32
+    ensures { λ r. ⌜ Answered (intakeOf (Held value age)) r (now (component .entry)) (now (component .exit)) ⌝ }
+{
+    c_answers::put_component(Reading::Held(value, age), component)
 }

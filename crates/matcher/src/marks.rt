@@ -1,4 +1,5 @@
-// Marks and regions, for C. Each gives 0, or the refusal's number; a refused call leaves a buffer as it was, and 0 in a place for a count.
+// Marks and regions, for C. Each gives 0, or the refusal's number; a refused call leaves what it was to write as it was.
+use refusal::Verdict;
 ghost use mathlib.Core.Path.{_≡_};
 ghost use lib.IntN.{pos};
 ghost use lib.ListN.{length, getD};
@@ -23,14 +24,20 @@ pub extern "C" fn matcher_stretch(
     offset: &mut usize,
     bits: &mut usize,
 ) -> u32
-    ensures { λ r. ⌜ r ≡ verdictNumber (first (dimensionCauses d b j)) ⌝ }
-    ensures { λ _. ⌜ now (offset .exit) ≡ stretchOf d b j .offset ⌝ }
-    ensures { λ _. ⌜ now (bits .exit) ≡ stretchOf d b j .bits ⌝ }
+    ensures { λ r. let v = first (dimensionCauses d b j) in
+        ⌜ (r ≡ verdictNumber v)
+        × (now (offset .exit) ≡ outcome v (stretchOf d b j .offset) (λ _. now (offset .entry)))
+        × (now (bits .exit) ≡ outcome v (stretchOf d b j .bits) (λ _. now (bits .entry))) ⌝ }
 {
-    let stretch = layout::stretch_of(d, b, j);
-    *offset = stretch.offset;
-    *bits = stretch.bits;
-    layout::check_dimension(d, b, j).number()
+    match layout::check_dimension(d, b, j) {
+        Verdict::Accepted => {
+            let stretch = layout::stretch_of(d, b, j);
+            *offset = stretch.offset;
+            *bits = stretch.bits;
+            0
+        }
+        Verdict::Refused(cause) => cause.number(),
+    }
 }
 
 // Whether the marks are as many as d dimensions with b bits have, in range, and never fall.
@@ -75,20 +82,21 @@ pub extern "C" fn matcher_region_of(
     v: i32,
     region: &mut usize,
 ) -> u32
-    ensures { λ r. ⌜ r ≡ verdictNumber (first (valueCauses d b (now (marks .entry)) j v)) ⌝ }
-    ensures { λ _. ⌜ now (region .exit)
-        ≡ outcome (first (valueCauses d b (now (marks .entry)) j v)) (regionOf (dimensionMarks d b (now (marks .entry)) j) v) (λ _. 0) ⌝ }
+    ensures { λ r. let verdict = first (valueCauses d b (now (marks .entry)) j v) in
+        let part = dimensionMarks d b (now (marks .entry)) j in
+        ⌜ (r ≡ verdictNumber verdict) × (now (region .exit) ≡ outcome verdict (regionOf part v) (λ _. now (region .entry))) ⌝ }
 {
-    tell::region(view::region_of(d, b, marks, j, v), region)
+    c_answers::put_region(view::region_of(d, b, marks, j, v), region)
 }
 
 // The region of a value in one dimension's marks, of which there is one more than regions.
 #[no_mangle]
 pub extern "C" fn matcher_region(marks: &[i32], regions: usize, v: i32, region: &mut usize) -> u32
-    ensures { λ r. ⌜ r ≡ verdictNumber (first (regionCauses (now (marks .entry)) regions v)) ⌝ }
-    ensures { λ _. ⌜ now (region .exit) ≡ outcome (first (regionCauses (now (marks .entry)) regions v)) (regionOf (now (marks .entry)) v) (λ _. 0) ⌝ }
+    ensures { λ r. let verdict = first (regionCauses (now (marks .entry)) regions v) in
+        ⌜ (r ≡ verdictNumber verdict)
+        × (now (region .exit) ≡ outcome verdict (regionOf (now (marks .entry)) v) (λ _. now (region .entry))) ⌝ }
 {
-    tell::region(region::region(marks, regions, v), region)
+    c_answers::put_region(region::region(marks, regions, v), region)
 }
 
 // The marks of d dimensions, with b bits in all, made from n vectors.
@@ -100,10 +108,9 @@ pub extern "C" fn matcher_make_marks(
     vectors: &[i32],
     marks: &mut [i32],
 ) -> u32
-    ensures { λ r. ⌜ r ≡ verdictNumber (first (makeCauses d b n (now (vectors .entry)) (length (now (marks .entry))))) ⌝ }
-    ensures { λ _. ⌜ now (marks .exit)
-        ≡ outcome (first (makeCauses d b n (now (vectors .entry)) (length (now (marks .entry)))))
-        (madeMarks d b n (now (vectors .entry))) (λ _. now (marks .entry)) ⌝ }
+    ensures { λ r. let v = first (makeCauses d b n (now (vectors .entry)) (length (now (marks .entry)))) in
+        ⌜ (r ≡ verdictNumber v)
+        × (now (marks .exit) ≡ outcome v (madeMarks d b n (now (vectors .entry))) (λ _. now (marks .entry))) ⌝ }
 {
     marking::make_marks(d, b, n, vectors, marks).number()
 }

@@ -21,9 +21,10 @@ extern "C" {
         marks_len: usize,
         codes: *const u8,
         codes_len: usize,
-        i: usize,
-        lower: *mut u64,
-        upper: *mut u64,
+        lowers: *mut u64,
+        lowers_len: usize,
+        uppers: *mut u64,
+        uppers_len: usize,
     ) -> u32;
 }
 
@@ -37,10 +38,11 @@ pub fn distance(input: &Input) -> Result<u64, u32> {
     Ok(distance.filled(number)?[0])
 }
 
-pub fn bounds(input: &Input) -> Result<Bounds, u32> {
+/// Of each code's cell.
+pub fn bounds(input: &Input) -> Result<Vec<Bounds>, u32> {
     let (mut query, mut marks) = (Lent::given(&input.query), Lent::given(&input.marks));
     let mut codes = Lent::given(&input.codes);
-    let (mut lower, mut upper) = (Lent::room(1), Lent::room(1));
+    let (mut lowers, mut uppers) = (Lent::room(input.room.lowers), Lent::room(input.room.uppers));
     let number = unsafe {
         matcher_bounds(
             input.d,
@@ -52,14 +54,15 @@ pub fn bounds(input: &Input) -> Result<Bounds, u32> {
             marks.len(),
             codes.pointer(),
             codes.len(),
-            input.i,
-            lower.pointer(),
-            upper.pointer(),
+            lowers.pointer(),
+            lowers.len(),
+            uppers.pointer(),
+            uppers.len(),
         )
     };
     query.kept();
     marks.kept();
     codes.kept();
-    let (lower, upper) = (lower.filled(number), upper.filled(number));
-    Ok(Bounds { lower: lower?[0], upper: upper?[0] })
+    let (lowers, uppers) = (lowers.filled(number), uppers.filled(number));
+    Ok(lowers?.into_iter().zip(uppers?).map(|(lower, upper)| Bounds { lower, upper }).collect())
 }

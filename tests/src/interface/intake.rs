@@ -7,6 +7,7 @@ extern "C" {
     fn matcher_held(bits: u32, age: u8, component: *mut i32) -> u32;
     fn matcher_lost(component: *mut i32) -> u32;
     fn matcher_fresh_value(value: f32, component: *mut i32) -> u32;
+    fn matcher_held_value(value: f32, age: u8, component: *mut i32) -> u32;
 }
 
 /// What the component's place holds before a call: no component.
@@ -47,6 +48,12 @@ pub fn lost() -> Result<i32, u32> {
 #[inline]
 pub fn fresh_value(value: f32) -> Result<i32, u32> {
     outcome(|component| unsafe { matcher_fresh_value(value, component) })
+}
+
+/// A held reading of a float itself.
+#[inline]
+pub fn held_value(value: f32, age: u8) -> Result<i32, u32> {
+    outcome(|component| unsafe { matcher_held_value(value, age, component) })
 }
 
 /// The call for a reading.

@@ -88,7 +88,7 @@ impl<T: Number> Lent<T> {
     }
 }
 
-/// A count or another number that a call gives: 0 where it is refused.
+/// A count that a call gives: 0 where it is refused.
 #[track_caller]
 pub fn counted(place: &Lent<usize>, number: u32) -> usize {
     place.kept_past(1);

@@ -1,13 +1,13 @@
 //! The library file and a query. Safe for each call: a pointer leads to as many elements as are named with it, or to one.
 
-use super::lent::{counted, Lent};
+use super::lent::{counted, outcome, Lent};
 use crate::{
     input::{Input, LoadRoom, Loaded},
     reference,
 };
 
 extern "C" {
-    fn matcher_library_length(d: usize, b: usize, n: usize) -> usize;
+    fn matcher_library_length(d: usize, b: usize, n: usize, length: *mut usize) -> u32;
     fn matcher_write(
         d: usize,
         b: usize,
@@ -38,9 +38,10 @@ extern "C" {
     fn matcher_query(d: usize, bytes: *const u8, bytes_len: usize, components: *mut i32, components_len: usize) -> u32;
 }
 
-/// 0 where the counts are out of range.
-pub fn library_length(d: usize, b: usize, n: usize) -> usize {
-    unsafe { matcher_library_length(d, b, n) }
+pub fn library_length(input: &Input) -> Result<usize, u32> {
+    let mut length = Lent::room(1);
+    let number = unsafe { matcher_library_length(input.d, input.b, input.n, length.pointer()) };
+    outcome(number, counted(&length, number))
 }
 
 pub fn write(input: &Input) -> Result<Vec<u8>, u32> {

@@ -1,6 +1,6 @@
 //! Marks and regions. Safe for each call: a pointer leads to as many elements as are named with it, or to one.
 
-use super::lent::{counted, outcome, Lent};
+use super::lent::{outcome, Lent};
 use crate::input::{Input, Stretch};
 
 extern "C" {
@@ -44,7 +44,8 @@ extern "C" {
 pub fn stretch(input: &Input) -> Result<Stretch, u32> {
     let (mut offset, mut bits) = (Lent::room(1), Lent::room(1));
     let number = unsafe { matcher_stretch(input.d, input.b, input.j, offset.pointer(), bits.pointer()) };
-    outcome(number, Stretch { offset: counted(&offset, number), bits: counted(&bits, number) })
+    let (offset, bits) = (offset.filled(number), bits.filled(number));
+    Ok(Stretch { offset: offset?[0], bits: bits?[0] })
 }
 
 pub fn check_marks(input: &Input) -> Result<(), u32> {
@@ -77,7 +78,7 @@ pub fn dimension_region(input: &Input) -> Result<usize, u32> {
     let value = input.one.value;
     let number = unsafe { matcher_region_of(d, b, marks.pointer(), marks.len(), j, value, region.pointer()) };
     marks.kept();
-    outcome(number, counted(&region, number))
+    Ok(region.filled(number)?[0])
 }
 
 pub fn region(input: &Input) -> Result<usize, u32> {
@@ -85,7 +86,7 @@ pub fn region(input: &Input) -> Result<usize, u32> {
     let (regions, value) = (input.one.regions, input.one.value);
     let number = unsafe { matcher_region(marks.pointer(), marks.len(), regions, value, region.pointer()) };
     marks.kept();
-    outcome(number, counted(&region, number))
+    Ok(region.filled(number)?[0])
 }
 
 pub fn make_marks(input: &Input) -> Result<Vec<i32>, u32> {

@@ -40,11 +40,6 @@ pub fn count(n: usize) -> Checked {
     refused_unless((1..=512).contains(&n), 3)
 }
 
-/// 3, for the number of a vector: there are more vectors than that.
-pub fn number(n: usize, i: usize) -> Checked {
-    refused_unless(i < n, 3)
-}
-
 /// 4: "k is 0 or above n".
 pub fn neighbours(n: usize, k: usize) -> Checked {
     refused_unless((1..=n).contains(&k), 4)

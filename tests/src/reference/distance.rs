@@ -64,16 +64,20 @@ pub fn distance(input: &Input) -> Result<u64, u32> {
     Ok(lent(distance_between(query, vector)))
 }
 
-pub fn bounds(input: &Input) -> Result<Bounds, u32> {
-    let Input { d, b, n, i, query, marks, codes, .. } = input;
+/// Of each code's cell.
+pub fn bounds(input: &Input) -> Result<Vec<Bounds>, u32> {
+    let Input { d, b, n, query, marks, codes, room, .. } = input;
     causes::shape(*d, *b)?;
     causes::count(*n)?;
-    causes::number(*n, *i)?;
     let codes = (codes.len(), codes_length(*n, *b));
     causes::lengths(&[(query.len(), *d), (marks.len(), marks_length(*d, *b)), codes])?;
+    causes::lengths(&[(room.lowers, *n), (room.uppers, *n)])?;
     causes::components(query)?;
     causes::marks(*d, *b, marks)?;
     good_codes(input)?;
-    let (lower, upper) = cell_bounds(query, &cells(input)[*i]);
-    Ok(Bounds { lower: lent(lower), upper: lent(upper) })
+    let of_cell = |cell: &Cell| {
+        let (lower, upper) = cell_bounds(query, cell);
+        Bounds { lower: lent(lower), upper: lent(upper) }
+    };
+    Ok(cells(input).iter().map(of_cell).collect())
 }

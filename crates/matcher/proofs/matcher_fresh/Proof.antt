@@ -5,4 +5,4 @@ use Rattle.matcher.proofs.matcher_fresh.Tie as tie
 
 pub matcher-fresh-spec : {M : Type 1} → statement M
 matcher-fresh-spec =
-    tie.close (tie.spec (λ c κs. search needs) (λ c κs. search needs) (λ c. rw (← c .before .before .fresh-bits .ensures) (c .component .ensures)))
+    tie.close (tie.spec (λ c κs. search needs) (λ c κs. search needs) (λ c. rw (← c .before .before .fresh-bits .ensures) (c .put-component .ensures)))

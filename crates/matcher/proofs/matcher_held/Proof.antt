@@ -5,4 +5,4 @@ use Rattle.matcher.proofs.matcher_held.Tie as tie
 
 pub matcher-held-spec : {M : Type 1} → statement M
 matcher-held-spec =
-    tie.close (tie.spec (λ c κs. search needs) (λ c κs. search needs) (λ c. rw (← c .before .before .held-bits .ensures) (c .component .ensures)))
+    tie.close (tie.spec (λ c κs. search needs) (λ c κs. search needs) (λ c. rw (← c .before .before .held-bits .ensures) (c .put-component .ensures)))

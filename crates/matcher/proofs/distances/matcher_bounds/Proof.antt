@@ -6,7 +6,8 @@ use Rattle.matcher.proofs.distances.matcher_bounds.Tie as tie
 returns : tie.Need-returns
 returns c =
     let left = c .before .before .before .before .before in
-    (rw (← left .cell-bounds .ensures .0) (c .number .ensures), left .cell-bounds .ensures .1)
+    let of = left .cell-bounds .ensures in
+    (rw (← of .0) (c .number .ensures), of .1 .0, of .1 .1)
 
 pub matcher-bounds-spec : {M : Type 1} → statement M
 matcher-bounds-spec =

@@ -1,10 +1,10 @@
--- `matcher_distance` meets its contract: what is told is read off the answer. Assumes nothing.
+-- `matcher_distance` meets its contract: number and distance are read off the answer. Assumes nothing.
 use mathlib.Core.Path.{refl, _∙_}
 use borrow.Author.Needs.{needs}
 use Rattle.refusal.specs.First.{first}
 use Rattle.distance.specs.Measured.{distanceCauses, distanceNumber}
-use Rattle.tell.specs.Answered.{distanceOr}
-use Rattle.matcher.proofs.Told.{told-number, told-value}
+use Rattle.c_answers.specs.Answered.{distanceOr}
+use Rattle.matcher.proofs.Outcome.{outcome-number, outcome-value}
 use Rattle.matcher.proofs.distances.matcher_distance.Statement.{statement}
 use Rattle.matcher.proofs.distances.matcher_distance.Tie as tie
 
@@ -14,8 +14,8 @@ returns c =
     let a = asked .before .args in
     let v = first (distanceCauses (a .query .now) (a .vector .now)) in
     let is = asked .measure .ensures in (
-      c .distance .ensures .0 ∙ told-number distanceNumber _ _ refl (λ cause. refl) v is,
-      c .distance .ensures .1 ∙ told-value (distanceOr (a .distance .now)) _ _ v is,
+      c .put-distance .ensures .0 ∙ outcome-number distanceNumber _ _ refl (λ cause. refl) v is,
+      c .put-distance .ensures .1 ∙ outcome-value (distanceOr (a .distance .now)) _ _ v is,
     )
 
 pub matcher-distance-spec : {M : Type 1} → statement M

@@ -1,4 +1,4 @@
--- `matcher_search` meets its contract: a walk of its MIR, by hand. The buffers go on to `nearest::search`, and `tell::searched` puts the count in its place.
+-- `matcher_search` meets its contract: a walk of its MIR, by hand. The buffers go on to `nearest::search`, and `c_answers::put_read_count` puts the count in its place.
 -- Of each callee the proof knows the contract alone. In the notes on the context, [x] is the token of x's lifetime. Assumes nothing.
 use mathlib.Core.Path.{_≡_, refl, _∙_}
 use Prim.Native.Nat.{ℕ, _<_, _^_}
@@ -55,11 +55,11 @@ use Rattle.nearest.proofs.search as core
 use Rattle.nearest.proofs.search.Symbol as core-def
 use Rattle.nearest.proofs.search.Symbol.{name as #core}
 use Rattle.nearest.proofs.search.Met as core-thm
-use Rattle.tell.proofs.searched as number
-use Rattle.tell.proofs.searched.Symbol as number-def
-use Rattle.tell.proofs.searched.Symbol.{name as #number}
-use Rattle.tell.proofs.searched.Met as number-thm
-use Rattle.matcher.proofs.Told.{told-number, told-value}
+use Rattle.c_answers.proofs.put_read_count as number
+use Rattle.c_answers.proofs.put_read_count.Symbol as number-def
+use Rattle.c_answers.proofs.put_read_count.Symbol.{name as #number}
+use Rattle.c_answers.proofs.put_read_count.Met as number-thm
+use Rattle.matcher.proofs.Outcome.{outcome-number, outcome-value}
 use Rattle.matcher.proofs.entries.matcher_search.Key.{name as #matcher-search}
 use Rattle.matcher.proofs.entries.matcher_search as face
 use Rattle.matcher.proofs.entries.matcher_search.Statement as stated
@@ -109,16 +109,17 @@ module _ {M : Type 1} (𝓤 : URA M) (H : Heap 𝓤) (A : Atoms 𝓤) (W : Given
 
   abbrev Claim : ℕ → List Entry → List ℕ → ℕ → Type 0
   Claim m zs rs w =
-      (m ≡ verdictNumber verdict) × (w ≡ outcome verdict (length (searched l (now query) k .reads)) (λ _. 0))
-      × (zs ≡ outcome verdict (entriesOf (searched l (now query) k .best)) (λ _. now entries))
-      × (rs ≡ outcome verdict (searched l (now query) k .reads ++ rest (length (searched l (now query) k .reads)) (now reads)) (λ _. now reads))
+      let found = searched l (now query) k in
+      (m ≡ verdictNumber verdict) × (w ≡ outcome verdict (length (found .reads)) (λ _. 0))
+      × (zs ≡ outcome verdict (entriesOf (found .best)) (λ _. now entries))
+      × (rs ≡ outcome verdict (found .reads ++ rest (length (found .reads)) (now reads)) (λ _. now reads))
 
   -- the tokens that the core hands back
   abbrev Tokens : Item 𝓤
   Tokens = ‵ (flft κ-query q-query) ⊛ (‵ (flft κ-marks q-marks) ⊛ (‵ (flft κ-codes q-codes) ⊛ (‵ (flft κ-vectors q-vectors) ⊛ (‵ (flft κ-entries q-entries) ⊛ (‵ (flft κ-reads q-reads) ⊛ ‵ ftrue)))))
 
   told : (r : Searched) (m : ℕ) (zs : List Entry) (rs : List ℕ) (w : ℕ) → Told r zs rs → Numbered r m w → Claim m zs rs w
-  told r m zs rs w e e₂ = (e₂ .0 ∙ told-number searchedNumber _ _ refl (λ cause. refl) verdict (e .answer), e₂ .1 ∙ told-value searchedCount _ _ verdict (e .answer), e .entries-are, e .reads-are)
+  told r m zs rs w e e₂ = (e₂ .0 ∙ outcome-number searchedNumber _ _ refl (λ cause. refl) verdict (e .answer), e₂ .1 ∙ outcome-value searchedCount _ _ verdict (e .answer), e .entries-are, e .reads-are)
 
   exits : (m : ℕ) (u : Val) (zs : List Entry) (rs : List ℕ) (w : ℕ) (size-reads : length rs ≡ length (now reads)) → length zs ≡ length (now entries) → Claim m zs rs w → ent 𝓤 (⋆ 𝓤 H A (‵ (finally R (name entries) zs) ∷ ‵ (finally u32 (name reads) rs) ∷ ‵ (fres (name count) (usize .coded .code w)) ∷ ‵ (u32 .own m (u ∷ [])) ∷ ‵ (flft κ-query q-query) ∷ ‵ (flft κ-marks q-marks) ∷ ‵ (flft κ-codes q-codes) ∷ ‵ (flft κ-vectors q-vectors) ∷ ‵ (flft κ-entries q-entries) ∷ ‵ (flft κ-reads q-reads) ∷ ‵ (flft κ-count q-count) ∷ [])) (Post u)
   exits m u zs rs w size-reads size claim =
@@ -225,4 +226,4 @@ matcher-search-spec 𝓤 H 𝓜 𝓖 𝓡 =
     (tables 𝓤 H 𝓜 𝓡 code.env .C) (tables 𝓤 H 𝓜 𝓡 code.env .Λ) #matcher-search code.function (code.unfolded 𝓤 H 𝓜 𝓡)
     (meets 𝓤 H (𝓖 .A) (givenOf 𝓤 H 𝓜 𝓖) (𝓜 .mem) (𝓡 .run) (tablesOf 𝓤 H 𝓜 (tables 𝓤 H 𝓜 𝓡 code.env))
     (cited 𝓤 H (Core 𝓤 H (𝓖 .A) (𝓜 .mem) (𝓡 .run)) 𝓜 𝓡 code.env #core core-def.routine code.calls-nearest·search (core-thm.met 𝓤 H 𝓜 𝓖 𝓡))
-    (cited 𝓤 H (Number 𝓤 H (𝓖 .A) (𝓜 .mem) (𝓡 .run)) 𝓜 𝓡 code.env #number number-def.routine code.calls-tell·searched (number-thm.met 𝓤 H 𝓜 𝓖 𝓡)))
+    (cited 𝓤 H (Number 𝓤 H (𝓖 .A) (𝓜 .mem) (𝓡 .run)) 𝓜 𝓡 code.env #number number-def.routine code.calls-c-answers·put-read-count (number-thm.met 𝓤 H 𝓜 𝓖 𝓡)))

@@ -1,12 +1,13 @@
--- `matcher_region` meets its contract: what is told is read off the answer. Assumes nothing.
+-- `matcher_region` meets its contract: number and region are read off the answer. Assumes nothing.
 use mathlib.Core.Path.{_≡_, ap, refl, _∙_}
 use borrow.Author.Needs.{needs}
 use mir.Syntax.{w32}
 use mir.ValLaws.{toZ-ofZ}
 use Rattle.refusal.specs.declared.Verdict.{Verdict}
 use Rattle.refusal.specs.First.{first}
-use Rattle.region.specs.Lookup.{regionCauses, lookedUp, lookupNumber, lookupRegion}
-use Rattle.matcher.proofs.Told.{told-number, told-value}
+use Rattle.region.specs.Lookup.{regionCauses, lookedUp, lookupNumber}
+use Rattle.c_answers.specs.Answered.{regionOr}
+use Rattle.matcher.proofs.Outcome.{outcome-number, outcome-value}
 use Rattle.matcher.proofs.marks.matcher_region.Statement.{statement}
 use Rattle.matcher.proofs.marks.matcher_region.Tie as tie
 
@@ -20,9 +21,10 @@ looked-up c =
 
 returns : tie.Need-returns
 returns c =
-    let asked = c .before .before in (
-      c .region2 .ensures .0 ∙ told-number lookupNumber _ _ refl (λ cause. refl) (verdict asked) (looked-up asked),
-      c .region2 .ensures .1 ∙ told-value lookupRegion _ _ (verdict asked) (looked-up asked),
+    let asked = c .before .before in
+    let a = asked .before .args in (
+      c .put-region .ensures .0 ∙ outcome-number lookupNumber _ _ refl (λ cause. refl) (verdict asked) (looked-up asked),
+      c .put-region .ensures .1 ∙ outcome-value (regionOr (a .region .now)) _ _ (verdict asked) (looked-up asked),
     )
 
 pub matcher-region-spec : {M : Type 1} → statement M

@@ -1,4 +1,4 @@
--- `matcher_region_of` meets its contract: what is told is read off the answer. Assumes nothing.
+-- `matcher_region_of` meets its contract: number and region are read off the answer. Assumes nothing.
 use mathlib.Core.Path.{_≡_, ap, refl, _∙_}
 use mathlib.Core.List.{List}
 use Prim.Native.Nat.{ℕ}
@@ -11,10 +11,11 @@ use Rattle.refusal.specs.First.{first, outcome}
 use Rattle.region.specs.declared.Lookup.{Lookup}
 use Rattle.region.specs.declared.Lookup.the-variants.{Region, Refused}
 use Rattle.region.specs.Region.{regionOf}
-use Rattle.region.specs.Lookup.{lookupNumber, lookupRegion}
+use Rattle.region.specs.Lookup.{lookupNumber}
 use Rattle.partition.specs.Marks.{dimensionMarks}
 use Rattle.view.specs.View.{valueCauses}
-use Rattle.matcher.proofs.Told.{told-number, told-value}
+use Rattle.c_answers.specs.Answered.{regionOr}
+use Rattle.matcher.proofs.Outcome.{outcome-number, outcome-value}
 use Rattle.matcher.proofs.marks.matcher_region_of.Statement.{statement}
 use Rattle.matcher.proofs.marks.matcher_region_of.Tie as tie
 
@@ -33,8 +34,8 @@ returns : tie.Need-returns
 returns c =
     let asked = c .before .before in
     let a = asked .before .args in (
-      c .region .ensures .0 ∙ told-number lookupNumber _ _ refl (λ cause. refl) (verdict (a .d) (a .b) (a .marks .now) (a .j) (a .v)) (looked-up asked),
-      c .region .ensures .1 ∙ told-value lookupRegion _ _ (verdict (a .d) (a .b) (a .marks .now) (a .j) (a .v)) (looked-up asked),
+      c .put-region .ensures .0 ∙ outcome-number lookupNumber _ _ refl (λ cause. refl) (verdict (a .d) (a .b) (a .marks .now) (a .j) (a .v)) (looked-up asked),
+      c .put-region .ensures .1 ∙ outcome-value (regionOr (a .region .now)) _ _ (verdict (a .d) (a .b) (a .marks .now) (a .j) (a .v)) (looked-up asked),
     )
 
 pub matcher-region-of-spec : {M : Type 1} → statement M

@@ -7,7 +7,7 @@ use Rattle.refusal.specs.Refusal.{verdictNumber}
 use Rattle.refusal.specs.First.{first}
 use Rattle.matching.specs.declared.Printed.{Printed}
 use Rattle.matching.specs.Match.{roomCauses}
-use Rattle.matcher.proofs.Told.{told-number, told-value}
+use Rattle.matcher.proofs.Outcome.{outcome-number, outcome-value}
 use Rattle.matcher.proofs.program.matcher_match.Statement.{statement}
 use Rattle.matcher.proofs.program.matcher_match.Tie as tie
 
@@ -16,8 +16,9 @@ returns c =
     let asked = c .before .before .before in
     let v = first (roomCauses (length (asked .before .before .before .before .args .output .now))) in
     let is = asked .run .ensures .0 in (
-      c .number .ensures ∙ told-number (λ (p : Printed). verdictNumber (p .verdict)) _ _ refl (λ cause. refl) v is,
-      (asked .run .ensures .1, told-value (λ (p : Printed). p .length) _ _ v is),
+      c .number .ensures ∙ outcome-number (λ (p : Printed). verdictNumber (p .verdict)) _ _ refl (λ cause. refl) v is,
+      asked .run .ensures .1,
+      outcome-value (λ (p : Printed). p .length) _ _ v is,
     )
 
 pub matcher-match-spec : {M : Type 1} → statement M

@@ -1,11 +1,11 @@
--- `component` meets its contract, by the variant of the answer. Assumes nothing.
+-- `put_component` meets its contract, by the variant of the answer. Assumes nothing.
 use mathlib.Core.Path.{sym, ap, _∙_}
 use borrow.Author.Needs.{needs}
 use mir.Syntax.{w32}
 use mir.ValLaws.{toZ-ofZ}
 use Rattle.reading.specs.Intake.{intakeNumber, componentOr}
-use Rattle.tell.proofs.component.Statement.{statement}
-use Rattle.tell.proofs.component.Tie as tie
+use Rattle.c_answers.proofs.put_component.Statement.{statement}
+use Rattle.c_answers.proofs.put_component.Tie as tie
 
 returns : tie.Need-returns
 returns c =
@@ -20,6 +20,5 @@ returns-2 c =
     let is = sym (c .before .before .before .before .intake .ensures) ∙ c .before .before .cause .given .1 in
     record { status = c .number .ensures ∙ sym (ap intakeNumber is); component = sym (ap (componentOr _) is) }
 
-pub component-spec : {M : Type 1} → statement M
-component-spec =
-    tie.close (tie.spec (λ c κs. search needs) (λ c. search needs) (λ c. search needs) (λ c κs. search needs) returns returns-2)
+pub put-component-spec : {M : Type 1} → statement M
+put-component-spec = tie.close (tie.spec (λ c κs. search needs) (λ c. search needs) (λ c. search needs) (λ c κs. search needs) returns returns-2)

@@ -1,4 +1,4 @@
--- What is told of an answer that is a verdict's outcome: its number is the verdict's, and a value is read off it. Assumes nothing.
+-- What holds of an answer that is a verdict's outcome: its number is the verdict's, and a value of it is the outcome's. Assumes nothing.
 use mathlib.Core.Path.{_≡_, ap, _∙_}
 use Prim.Native.Nat.{ℕ}
 use Rattle.refusal.specs.declared.Refusal.{Refusal}
@@ -7,13 +7,13 @@ use Rattle.refusal.specs.declared.Verdict.the-variants.{Accepted, Refused}
 use Rattle.refusal.specs.Refusal.{numberOf, verdictNumber}
 use Rattle.refusal.specs.First.{outcome}
 
-pub told-value : {A : Type 0} (value : A → ℕ) (result : A) (refused : Refusal → A) (v : Verdict) {answer : A}
+pub outcome-value : {A : Type 0} (value : A → ℕ) (result : A) (refused : Refusal → A) (v : Verdict) {answer : A}
     → answer ≡ outcome v result refused → value answer ≡ outcome v (value result) (λ cause. value (refused cause))
-told-value value result refused Accepted is = ap value is
-told-value value result refused (Refused cause) is = ap value is
+outcome-value value result refused Accepted is = ap value is
+outcome-value value result refused (Refused cause) is = ap value is
 
-pub told-number : {A : Type 0} (number : A → ℕ) (result : A) (refused : Refusal → A)
+pub outcome-number : {A : Type 0} (number : A → ℕ) (result : A) (refused : Refusal → A)
     → number result ≡ 0 → ((cause : Refusal) → number (refused cause) ≡ numberOf cause)
     → (v : Verdict) {answer : A} → answer ≡ outcome v result refused → number answer ≡ verdictNumber v
-told-number number result refused none some Accepted is = ap number is ∙ none
-told-number number result refused none some (Refused cause) is = ap number is ∙ some cause
+outcome-number number result refused none some Accepted is = ap number is ∙ none
+outcome-number number result refused none some (Refused cause) is = ap number is ∙ some cause

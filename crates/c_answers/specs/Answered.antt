@@ -1,9 +1,11 @@
--- What a call from C that takes a reading in, or measures a distance, gives and leaves. Assumes nothing.
+-- What a call from C that takes a reading in, looks a region up or measures a distance gives and leaves. Assumes nothing.
 use mathlib.Core.Path.{_≡_}
 use Prim.Native.Nat.{ℕ}
 use lib.IntN.{ℤ}
 use Rattle.reading.specs.declared.Intake.{Intake}
 use Rattle.reading.specs.Intake.{intakeNumber, componentOr}
+use Rattle.region.specs.declared.Lookup.{Lookup}
+use Rattle.region.specs.declared.Lookup.the-variants.{Region, Refused as NoRegion}
 use Rattle.distance.specs.declared.Distance.{Distance}
 use Rattle.distance.specs.declared.Distance.the-variants.{Squared, Refused}
 
@@ -11,6 +13,11 @@ use Rattle.distance.specs.declared.Distance.the-variants.{Squared, Refused}
 pub record Answered (answer : Intake) (number : ℕ) (old new : ℤ) : Type 0 where
   pub status : number ≡ intakeNumber answer
   pub component : new ≡ componentOr old answer
+
+-- what an answer leaves where a region is wanted and old stood
+abbrev pub regionOr : ℕ → Lookup → ℕ
+regionOr old (Region r) = r
+regionOr old (NoRegion cause) = old
 
 -- what an answer leaves where a distance is wanted and old stood
 abbrev pub distanceOr : ℕ → Distance → ℕ

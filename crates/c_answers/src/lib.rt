@@ -1,5 +1,5 @@
-// What a call from C tells of an answer: its values, each in its place, and 0 or the refusal's number. A refusal leaves the place of a
-// component or a distance as it was, and 0 in that of a count.
+// What a call from C gives of an answer: its values, each in its place, and 0 or the refusal's number. Where the answer is a refusal, a
+// count is 0, and every other place is as it was.
 use distance::Distance;
 use loading::Loaded;
 use reading::Intake;
@@ -9,13 +9,13 @@ use search::search::Searched;
 ghost use mathlib.Core.Path.{_≡_};
 ghost use Rattle.refusal.specs.Refusal.{verdictNumber};
 ghost use Rattle.reading.specs.Intake.{intakeOf};
-ghost use Rattle.region.specs.Lookup.{lookupNumber, lookupRegion};
+ghost use Rattle.region.specs.Lookup.{lookupNumber};
 ghost use Rattle.distance.specs.Measured.{distanceNumber};
 ghost use Rattle.search.specs.Answer.{searchedNumber, searchedCount};
-ghost use Rattle.tell.specs.Answered.{Answered, distanceOr};
+ghost use Rattle.c_answers.specs.Answered.{Answered, regionOr, distanceOr};
 
-// A reading's component.
-pub fn component(reading: Reading, place: &mut i32) -> u32
+// Takes a reading in, and puts its component into a place.
+pub fn put_component(reading: Reading, place: &mut i32) -> u32
     ensures { λ r. ⌜ Answered (intakeOf reading) r (now (place .entry)) (now (place .exit)) ⌝ }
 {
     match reading.intake() {
@@ -27,24 +27,21 @@ pub fn component(reading: Reading, place: &mut i32) -> u32
     }
 }
 
-// The region that was found.
-pub fn region(lookup: Lookup, place: &mut usize) -> u32
-    ensures { λ r. ⌜ (r ≡ lookupNumber lookup) × (now (place .exit) ≡ lookupRegion lookup) ⌝ }
+// Puts the region that was found into a place.
+pub fn put_region(lookup: Lookup, place: &mut usize) -> u32
+    ensures { λ r. ⌜ (r ≡ lookupNumber lookup) × (now (place .exit) ≡ regionOr (now (place .entry)) lookup) ⌝ }
 {
     match lookup {
         Lookup::Region(number) => {
             *place = number;
             0
         }
-        Lookup::Refused(cause) => {
-            *place = 0;
-            cause.number()
-        }
+        Lookup::Refused(cause) => cause.number(),
     }
 }
 
-// A distance.
-pub fn distance(answer: Distance, place: &mut u64) -> u32
+// Puts a distance into a place.
+pub fn put_distance(answer: Distance, place: &mut u64) -> u32
     ensures { λ r. ⌜ (r ≡ distanceNumber answer) × (now (place .exit) ≡ distanceOr (now (place .entry)) answer) ⌝ }
 {
     match answer {
@@ -56,8 +53,8 @@ pub fn distance(answer: Distance, place: &mut u64) -> u32
     }
 }
 
-// How many vectors a search read.
-pub fn searched(answer: Searched, place: &mut usize) -> u32
+// Puts the number of vectors that a search read into a place, 0 where it is refused.
+pub fn put_read_count(answer: Searched, place: &mut usize) -> u32
     ensures { λ r. ⌜ (r ≡ searchedNumber answer) × (now (place .exit) ≡ searchedCount answer) ⌝ }
 {
     match answer {
@@ -72,8 +69,14 @@ pub fn searched(answer: Searched, place: &mut usize) -> u32
     }
 }
 
-// The counts of a loaded library, and how many bytes it is.
-pub fn loaded(answer: Loaded, d: &mut usize, b: &mut usize, n: &mut usize, used: &mut usize) -> u32
+// Puts the counts of a loaded library and its number of bytes into four places; all are 0 where it is refused.
+pub fn put_counts(
+    answer: Loaded,
+    d: &mut usize,
+    b: &mut usize,
+    n: &mut usize,
+    used: &mut usize,
+) -> u32
     ensures { λ r. ⌜ (r ≡ verdictNumber (answer .verdict)) × (now (d .exit) ≡ answer .d) × (now (b .exit) ≡ answer .b)
         × (now (n .exit) ≡ answer .n) × (now (used .exit) ≡ answer .used) ⌝ }
 {
