@@ -35,48 +35,60 @@ holds-fit d b marks t r z holds =
     omega arith
 
 -- Each region number from column t on is below the number of regions of its dimension.
-inside-fit : (d b : ℕ) (marks : List ℤ) (t : ℕ) (vectors : List ℤ) → insideFrom d b marks t vectors ≡ true → regionsFit d b t (regionsFrom d b marks t vectors) ≡ true
+inside-fit : (d b : ℕ) (marks : List ℤ) (t : ℕ) (vectors : List ℤ) → insideFrom d b marks t vectors ≡ true
+    → regionsFit d b t (regionsFrom d b marks t vectors) ≡ true
 unfolding regionsFrom insideFrom regionsFit
 inside-fit d b marks t [] inside = refl
 inside-fit d b marks t (z ∷ zs) inside =
     let both = and-eq-true-iff (inMarks (dimensionMarks d b marks (suc t)) z) (insideFrom d b marks (nextColumn d t) zs) .0 inside in
     let r = regionOf (dimensionMarks d b marks (suc t)) z in
-    and-eq-true-iff _ _ .1
-    (lt-ltb r (regionCount d b (suc t)) (holds-fit d b marks t r z (region-of-holds (dimensionMarks d b marks (suc t)) z (both .0))), inside-fit d b marks (nextColumn d t) zs (both .1))
+    and-eq-true-iff _ _ .1 (
+      lt-ltb r (regionCount d b (suc t)) (holds-fit d b marks t r z (region-of-holds (dimensionMarks d b marks (suc t)) z (both .0))),
+      inside-fit d b marks (nextColumn d t) zs (both .1),
+    )
 
 -- Each region number is below the number of regions of its dimension.
-pub regions-fit : (d b : ℕ) (marks vectors : List ℤ) → vectorsInside d b marks vectors ≡ true → regionsFit d b 0 (vectorRegions d b marks vectors) ≡ true
+pub regions-fit : (d b : ℕ) (marks vectors : List ℤ) → vectorsInside d b marks vectors ≡ true
+    → regionsFit d b 0 (vectorRegions d b marks vectors) ≡ true
 regions-fit d b marks vectors inside = inside-fit d b marks 0 vectors inside
 
 -- Component q, the first of them in column p % d, lies in its region.
-from-holds : (d b : ℕ) → 0 < d → (marks : List ℤ) (p q : ℕ) (vectors : List ℤ) → q < length vectors → insideFrom d b marks (p % d) vectors ≡ true
+from-holds : (d b : ℕ) → 0 < d → (marks : List ℤ) (p q : ℕ) (vectors : List ℤ) → q < length vectors
+    → insideFrom d b marks (p % d) vectors ≡ true
     → Holds (dimensionMarks d b marks (suc ((p + q) % d))) (getD (regionsFrom d b marks (p % d) vectors) q 0) (getD vectors q (pos 0))
 unfolding regionsFrom insideFrom
 from-holds d b some marks p q [] more inside = absurd (omega arith)
 from-holds d b some marks p zero (z ∷ zs) more inside =
     rw add-zero (region-of-holds (dimensionMarks d b marks (suc (p % d))) z (and-eq-true-iff _ _ .0 inside .0))
 from-holds d b some marks p (suc q) (z ∷ zs) more inside =
-    let rest = and-eq-true-iff (inMarks (dimensionMarks d b marks (suc (p % d))) z) (insideFrom d b marks (nextColumn d (p % d)) zs) .0 inside .1 in
-    rw (add-suc p q, ← suc-add p q, next-column d b some p) (from-holds d b some marks (suc p) q zs (le-of-suc-le-suc more) (rw (next-column d b some p) at rest))
+    let rest = and-eq-true-iff (inMarks (dimensionMarks d b marks (suc (p % d))) z)
+    (insideFrom d b marks (nextColumn d (p % d)) zs) .0 inside .1 in
+    rw (add-suc p q, ← suc-add p q, next-column d b some p)
+    (from-holds d b some marks (suc p) q zs (le-of-suc-le-suc more) (rw (next-column d b some p) at rest))
 
 -- ---- Own codes
 
-module _ (d b n : ℕ) (some : 0 < d) (marks vectors : List ℤ) (rows : length vectors ≡ n * d) (inside : vectorsInside d b marks vectors ≡ true) where
+module _ (d b n : ℕ) (some : 0 < d) (marks vectors : List ℤ) (rows : length vectors ≡ n * d)
+    (inside : vectorsInside d b marks vectors ≡ true) where
   rows-located : length (vectorRegions d b marks vectors) ≡ n * d
   rows-located = length-regions d b marks 0 vectors ∙ rows
 
   -- Component t of vector i lies in the region that code i names for dimension t + 1.
   code-holds : (i t : ℕ) → i < n → t < d
-      → Holds (dimensionMarks d b marks (suc t)) (codeRegion d b (vectorCodes d b n marks vectors) i t) (getD (vectorAt d vectors i) t (pos 0))
+      → Holds (dimensionMarks d b marks (suc t)) (codeRegion d b (vectorCodes d b n marks vectors) i t)
+      (getD (vectorAt d vectors i) t (pos 0))
   code-holds i t row column =
       let regions = vectorRegions d b marks vectors in
       let here : i * d + t < length vectors = rw rows (digits-lt row column) in
       let is : codeRegion d b (packed d b n regions) i t ≡ getD regions (i * d + t) 0 =
       code-region d b n some (packed d b n regions) i t row column
-      ∙ ap (λ (l : List ℕ). getD l (i * d + t) 0) (unpacked-packed d b n some regions rows-located (regions-fit d b marks vectors inside)) in
-      let component : getD (vectorAt d vectors i) t (pos 0) ≡ getD vectors (i * d + t) (pos 0) = getD-take d (drop (i * d) vectors) t (pos 0) column ∙ getD-drop (i * d) vectors t (pos 0) in
+      ∙ ap (λ (l : List ℕ). getD l (i * d + t) 0)
+      (unpacked-packed d b n some regions rows-located (regions-fit d b marks vectors inside)) in
+      let component : getD (vectorAt d vectors i) t (pos 0) ≡ getD vectors (i * d + t) (pos 0) = getD-take d (drop (i * d) vectors) t
+      (pos 0) column ∙ getD-drop (i * d) vectors t (pos 0) in
       rw (is, component)
-      (rw (zero-mod d, zero-add (i * d + t), digits-mod i column) at (from-holds d b some marks 0 (i * d + t) vectors here (rw zero-mod inside)))
+      (rw (zero-mod d, zero-add (i * d + t), digits-mod i column) at
+      (from-holds d b some marks 0 (i * d + t) vectors here (rw zero-mod inside)))
 
   first-inside : (i : ℕ) → i < n → (t : ℕ) → t ≤ d → inFirst d b marks (vectorCodes d b n marks vectors) i (vectorAt d vectors i) t ≡ true
   unfolding inFirst
@@ -100,19 +112,26 @@ has-value : (marks : List ℤ) (r : ℕ) (z : ℤ) → inRegion marks r z ≡ tr
 unfolding inRegion hasValue
 has-value marks r z inside = within-apart (within (getD marks r (pos 0)) z (getD marks (suc r) (pos 0)) inside)
 
-cell-not-empty : (d b : ℕ) (marks : List ℤ) (codes : List ℕ) (i : ℕ) (vector : List ℤ) (t : ℕ) → inFirst d b marks codes i vector t ≡ true → noneEmpty d b marks codes i t ≡ true
+cell-not-empty : (d b : ℕ) (marks : List ℤ) (codes : List ℕ) (i : ℕ) (vector : List ℤ) (t : ℕ) → inFirst d b marks codes i vector t ≡ true
+    → noneEmpty d b marks codes i t ≡ true
 unfolding inFirst noneEmpty
 cell-not-empty d b marks codes i vector zero inside = refl
 cell-not-empty d b marks codes i vector (suc t) inside =
     let both = and-eq-true-iff _ _ .0 inside in
-    and-eq-true-iff _ _ .1 (cell-not-empty d b marks codes i vector t (both .0), has-value (dimensionMarks d b marks (suc t)) (codeRegion d b codes i t) (getD vector t (pos 0)) (both .1))
+    and-eq-true-iff _ _ .1 (
+      cell-not-empty d b marks codes i vector t (both .0),
+      has-value (dimensionMarks d b marks (suc t)) (codeRegion d b codes i t) (getD vector t (pos 0)) (both .1),
+    )
 
-pub own-not-empty : {d b n : ℕ} {marks : List ℤ} {codes : List ℕ} {vectors : List ℤ} → Own d b n marks codes vectors → (i : ℕ) → i ≤ n → noEmptyCodes d b marks codes i ≡ true
+pub own-not-empty : {d b n : ℕ} {marks : List ℤ} {codes : List ℕ} {vectors : List ℤ} → Own d b n marks codes vectors → (i : ℕ) → i ≤ n
+    → noEmptyCodes d b marks codes i ≡ true
 unfolding noEmptyCodes
 own-not-empty own zero among = refl
 own-not-empty {d} {b} {marks = marks} {codes = codes} {vectors = vectors} own (suc i) among =
-    and-eq-true-iff _ _ .1 (own-not-empty own i (omega arith), cell-not-empty d b marks codes i (vectorAt d vectors i) d (own .cells i among .inside))
+    and-eq-true-iff _ _ .1
+    (own-not-empty own i (omega arith), cell-not-empty d b marks codes i (vectorAt d vectors i) d (own .cells i among .inside))
 
 -- Own codes are good.
-pub own-good : {d b n : ℕ} {marks : List ℤ} {codes : List ℕ} {vectors : List ℤ} → Own d b n marks codes vectors → goodCodes d b n marks codes ≡ true
+pub own-good : {d b n : ℕ} {marks : List ℤ} {codes : List ℕ} {vectors : List ℤ} → Own d b n marks codes vectors
+    → goodCodes d b n marks codes ≡ true
 own-good {n = n} own = and-eq-true-iff _ _ .1 (own-not-empty own n (omega arith), own .spare)

@@ -63,7 +63,8 @@ pub record Inside (d b : ℕ) (marks vectors : List ℤ) : Type 0 where
   pub good : goodMarks d b marks ≡ true
   pub inside : vectorsInside d b marks vectors ≡ true
 
-pub inside-marks : (d b : ℕ) (vectors marks : List ℤ) → first (shapeCauses d b) ≡ Accepted → first (locateCauses d b vectors marks) ≡ Accepted → Inside d b marks vectors
+pub inside-marks : (d b : ℕ) (vectors marks : List ℤ) → first (shapeCauses d b) ≡ Accepted
+    → first (locateCauses d b vectors marks) ≡ Accepted → Inside d b marks vectors
 inside-marks d b vectors marks shaped accepted =
     let count = eqb (length marks) (firstMarks d b d) in
     let exact = passed (not count) Length _ accepted in

@@ -191,7 +191,8 @@ fn next_offset(column: usize, end: usize) -> usize
 
 // The codes, where nothing refuses: the region numbers are packed.
 fn put_vectors(d: usize, b: usize, n: usize, vectors: &[i32], marks: &[i32], codes: &mut [u8])
-    requires { ⌜ (first (sizeCauses d b n (length (now vectors)) (length (now codes))) ≡ Accepted) × (Inside d b (now marks) (now vectors)) ⌝ }
+    requires { ⌜ (first (sizeCauses d b n (length (now vectors)) (length (now codes))) ≡ Accepted)
+        × (Inside d b (now marks) (now vectors)) ⌝ }
     ensures { λ _. ⌜ now (codes .exit) ≡ vectorCodes d b n (now (marks .entry)) (now (vectors .entry)) ⌝ }
 {
     let mut regions = [0u8; MAX_VECTORS * MAX_DIMENSIONS];

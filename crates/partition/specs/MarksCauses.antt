@@ -48,6 +48,7 @@ marks-bad d b marks shaped size refused = go (goodMarks d b marks) refl
   where
     go : (good : Bool) → goodMarks d b marks ≡ good → good ≡ false
     go true e =
-        let accepted : first (marksCauses d b marks) ≡ Accepted = marks-row d b marks shaped size ∙ first-next Mark [] (ap not e) ∙ first-none in
+        let accepted : first (marksCauses d b marks) ≡ Accepted = marks-row d b marks shaped size ∙ first-next Mark [] (ap not e)
+        ∙ first-none in
         absurd (apart (sym accepted ∙ refused))
     go false e = refl

@@ -36,7 +36,8 @@ abbrev pub seenMarks : ℕ → ℕ → List ℤ → ℕ → List ℤ
 seenMarks d b marks j = outcome (first (partCauses d b marks j)) (dimensionMarks d b marks j) (λ _. [])
 
 -- Where a part is handed back, there is such a dimension, and the buffer has its length.
-pub part-accepted : (d b j : ℕ) (marks : List ℤ) → first (partCauses d b marks j) ≡ Accepted → (first (dimensionCauses d b j) ≡ Accepted) × (length marks ≡ firstMarks d b d)
+pub part-accepted : (d b j : ℕ) (marks : List ℤ) → first (partCauses d b marks j) ≡ Accepted
+    → (first (dimensionCauses d b j) ≡ Accepted) × (length marks ≡ firstMarks d b d)
 part-accepted d b j marks accepted =
     let size = passed _ _ _ (accepted-behind (dimensionCauses d b j) (shapedCauses d b marks) accepted) in (
       accepted-front (dimensionCauses d b j) (shapedCauses d b marks) accepted,
@@ -53,13 +54,16 @@ fitsAt size offset w = leb w maxDimensionBits && leb (offset + (2 ^ w + 1)) size
 abbrev pub marksAt : List ℤ → ℕ → ℕ → List ℤ
 marksAt marks offset w = cond (fitsAt (length marks) offset w) (take (2 ^ w + 1) (drop offset marks)) []
 
-pub marks-at : (marks : List ℤ) (offset w : ℕ) → w ≤ maxDimensionBits → offset + (2 ^ w + 1) ≤ length marks → marksAt marks offset w ≡ take (2 ^ w + 1) (drop offset marks)
+pub marks-at : (marks : List ℤ) (offset w : ℕ) → w ≤ maxDimensionBits → offset + (2 ^ w + 1) ≤ length marks
+    → marksAt marks offset w ≡ take (2 ^ w + 1) (drop offset marks)
 marks-at marks offset w few fits = rw (le-leb w maxDimensionBits few, le-leb (offset + (2 ^ w + 1)) (length marks) fits)
 
 -- The part at a dimension's stretch is the dimension's marks.
-pub stretch-marks : (d b j : ℕ) (marks : List ℤ) {s : Stretch} → first (dimensionCauses d b j) ≡ Accepted → length marks ≡ firstMarks d b d → s ≡ stretchOf d b j
+pub stretch-marks : (d b j : ℕ) (marks : List ℤ) {s : Stretch} → first (dimensionCauses d b j) ≡ Accepted → length marks ≡ firstMarks d b d
+    → s ≡ stretchOf d b j
     → marksAt marks (s .offset) (s .bits) ≡ dimensionMarks d b marks j
 unfolding dimensionMarks
 stretch-marks d b j marks {s} accepted size is =
     let told = stretches accepted is in
-    marks-at marks (s .offset) (s .bits) (told .few-bits) (omega (arith, told .end, told .within, size)) ∙ rw (told .bits-are, told .offset-is)
+    marks-at marks (s .offset) (s .bits) (told .few-bits) (omega (arith, told .end, told .within, size))
+    ∙ rw (told .bits-are, told .offset-is)

@@ -43,5 +43,6 @@ is-power zero w le =
 is-power (suc bits) w le =
     elim (eq-or-lt-of-le le) [
       | inl e ↦ rw (eq-eqb (2 ^ w) (2 ^ suc bits) (ap (λ (k : ℕ). 2 ^ k) e))
-      | inr l ↦ ap (λ (t : Bool). eqb (2 ^ w) (2 ^ suc bits) || t) (is-power bits w (le-of-suc-le-suc l)) ∙ or-true (eqb (2 ^ w) (2 ^ suc bits))
+      | inr l ↦ ap (λ (t : Bool). eqb (2 ^ w) (2 ^ suc bits) || t) (is-power bits w (le-of-suc-le-suc l))
+          ∙ or-true (eqb (2 ^ w) (2 ^ suc bits))
     ]

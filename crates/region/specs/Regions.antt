@@ -93,7 +93,8 @@ marks-rise (m ∷ ms) good zero zero le lt = leZ-refl m
 marks-rise (m ∷ []) good zero (suc j) le lt = absurd (omega arith)
 marks-rise (m ∷ next ∷ ms) good zero (suc j) le lt =
     let first = good-first m (next ∷ ms) good in
-    leZ-trans m next (getD (next ∷ ms) j (pos 0)) (first .not-above) (marks-rise (next ∷ ms) (first .rest) zero j (omega arith) (omega arith))
+    leZ-trans m next (getD (next ∷ ms) j (pos 0)) (first .not-above)
+    (marks-rise (next ∷ ms) (first .rest) zero j (omega arith) (omega arith))
 marks-rise (m ∷ ms) good (suc i) zero le lt = absurd (omega arith)
 marks-rise (m ∷ ms) good (suc i) (suc j) le lt = marks-rise ms (good-first m ms good .rest) i j (omega arith) (omega arith)
 

@@ -39,7 +39,8 @@ pub record Part (d b : ℕ) (marks : List ℤ) (j : ℕ) : Type 0 where
   pub exact : length (dimensionMarks d b marks j) ≡ regionCount d b j + 1
   pub good : goodDimension (dimensionMarks d b marks j) ≡ true
 
-good-part : (d b : ℕ) (marks : List ℤ) (j : ℕ) → first (partCauses d b marks j) ≡ Accepted → goodDimension (dimensionMarks d b marks j) ≡ true
+good-part : (d b : ℕ) (marks : List ℤ) (j : ℕ) → first (partCauses d b marks j) ≡ Accepted
+    → goodDimension (dimensionMarks d b marks j) ≡ true
 good-part d b marks j accepted =
     let number = numbered d b j (part-accepted d b j marks accepted .0) in
     let size = passed _ _ _ (accepted-behind (dimensionCauses d b j) (shapedCauses d b marks) accepted) in

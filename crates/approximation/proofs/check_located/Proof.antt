@@ -52,7 +52,8 @@ mark-row c = (not (goodMarks (c .args .d) (c .args .b) (c .args .marks .now)) �
 checked : (c : tie.After-check-marks) → c .check-marks .result ≡ first (mark-row (c .before .before .before .before .before))
 checked c =
     let start = c .before .before .before .before .before in
-    c .check-marks .ensures ∙ marks-row (start .args .d) (start .args .b) (start .args .marks .now) (start .pre) (exact (c .before .before .before))
+    c .check-marks .ensures
+    ∙ marks-row (start .args .d) (start .args .b) (start .args .marks .now) (start .pre) (exact (c .before .before .before))
 
 vectors-inside-requires : tie.Need-vectors-inside-requires
 vectors-inside-requires c κs =
@@ -60,11 +61,13 @@ vectors-inside-requires c κs =
     let start = else1 .before .before in
     (shape (start .args .d) (start .args .b) (start .pre), exact else1)
 
-passed-3 : (c : tie.After-enum-told) → let start = c .before .before .before .before .before .before .before in first (rows 0 start) ≡ first (rows 3 start)
+passed-3 : (c : tie.After-enum-told)
+    → let start = c .before .before .before .before .before .before .before in first (rows 0 start) ≡ first (rows 3 start)
 passed-3 c =
     let test = c .before .before in
     let start = test .before .before .before .before .before in
-    passed-2 (test .before) ∙ first-append (mark-row start) (rows 3 start) ∙ outcome-accepted _ _ (sym (checked test) ∙ c .enum-told .given .1)
+    passed-2 (test .before) ∙ first-append (mark-row start) (rows 3 start)
+    ∙ outcome-accepted _ _ (sym (checked test) ∙ c .enum-told .given .1)
 
 returns-3 : tie.Need-returns-3
 returns-3 c = sym (passed-3 (c .before .before) ∙ first-here Outside [] (told (c .before .vectors-inside .ensures) (c .if3 .taken)))
@@ -77,7 +80,8 @@ returns-5 : tie.Need-returns-5
 returns-5 c =
     let test = c .before .before .before in
     let start = test .before .before .before .before .before in
-    sym (passed-2 (test .before) ∙ first-append (mark-row start) (rows 3 start) ∙ outcome-refused _ _ (sym (checked test) ∙ c .before .cause .given .1))
+    sym (passed-2 (test .before) ∙ first-append (mark-row start) (rows 3 start)
+    ∙ outcome-refused _ _ (sym (checked test) ∙ c .before .cause .given .1))
 
 pub check-located-spec : {M : Type 1} → statement M
 check-located-spec =

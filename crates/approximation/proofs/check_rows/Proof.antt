@@ -62,19 +62,27 @@ returns-2 c =
 returns-3 : tie.Need-returns-3
 returns-3 c =
     let args = c .before .before .before .before .before .before .before .args in
-    sym (counted (c .before .before) ∙ first-here Length [] (rw (eq-eqb (args .vectors) (args .n * args .d) (c .before .if2 .left), ne-eqb (args .regions) (args .n * args .d) (c .if3 .taken))))
+    sym (counted (c .before .before)
+    ∙ first-here Length []
+    (rw (
+      eq-eqb (args .vectors) (args .n * args .d) (c .before .if2 .left),
+      ne-eqb (args .regions) (args .n * args .d) (c .if3 .taken),
+    )))
 
 returns-4 : tie.Need-returns-4
 unfolding first
 returns-4 c =
     let start = c .before .before .before .before .before .before .before in
     let args = start .args in
-    sym (counted (c .before .before) ∙ first-next {test = other start} Length [] (rw (eq-eqb (args .vectors) (args .n * args .d) (c .before .if2 .left), eq-eqb (args .regions) (args .n * args .d) (c .if3 .left))))
+    sym (counted (c .before .before)
+    ∙ first-next {test = other start} Length []
+    (rw (eq-eqb (args .vectors) (args .n * args .d) (c .before .if2 .left), eq-eqb (args .regions) (args .n * args .d) (c .if3 .left))))
 
 returns-5 : tie.Need-returns-5
 returns-5 c =
     let start = c .before .before .before .before in
-    sym (first-append (shapeCauses (start .args .d) (start .args .b)) (behind start) ∙ outcome-refused _ _ (sym (c .before .before .before .check-shape .ensures) ∙ c .before .cause .given .1))
+    sym (first-append (shapeCauses (start .args .d) (start .args .b)) (behind start)
+    ∙ outcome-refused _ _ (sym (c .before .before .before .check-shape .ensures) ∙ c .before .cause .given .1))
 
 pub check-rows-spec : {M : Type 1} → statement M
 check-rows-spec =

@@ -43,7 +43,8 @@ module _ {d b : ℕ} {vectors marks : List ℤ} {room : ℕ} {regions : List ℕ
   -- The region that is located in the column's marks is written.
   turn : {count r : ℕ} → Counted d b column count → i < length vectors
       → r ≡ halved (take (offset + count + 1 - offset) (drop offset marks)) (getD vectors i (pos 0))
-      → let next = nextColumn d column in Locating d b vectors marks room (set regions i r) next (cond (eqb next 0) 0 (offset + count + 1)) (i + 1)
+      → let next = nextColumn d column in
+      Locating d b vectors marks room (set regions i r) next (cond (eqb next 0) 0 (offset + count + 1)) (i + 1)
   turn {count} {r} counts more located =
       let exact = given .exact in
       let own = dimensionMarks d b marks (suc column) in

@@ -28,7 +28,8 @@ bytes c = vectorCodes (c .args .d) (c .args .b) (c .args .n) (c .args .marks .no
 right : (c : tie.After-enum-told) → first (front (c .before .before .before .before)) ≡ Accepted
 right c = sym (c .before .before .check-sizes .ensures) ∙ c .enum-told .given .1
 
-shaped : (c : tie.After-enum-told) → let args = c .before .before .before .before .args in first (shapeCauses (args .d) (args .b)) ≡ Accepted
+shaped : (c : tie.After-enum-told)
+    → let args = c .before .before .before .before .args in first (shapeCauses (args .d) (args .b)) ≡ Accepted
 shaped c =
     let args = c .before .before .before .before .args in
     accepted-front (shapeCauses (args .d) (args .b)) _ (right c)
@@ -49,19 +50,22 @@ returns c =
     let put = c .before .before in
     let told = put .before .before .before .before .before in
     let start = told .before .before .before .before in
-    accepted-both (front start) (behind start) (start .args .codes .now) (bytes start) (right told) (located (put .before .before)) (put .put-vectors .ensures)
+    accepted-both (front start) (behind start) (start .args .codes .now) (bytes start) (right told) (located (put .before .before))
+    (put .put-vectors .ensures)
 
 returns-2 : tie.Need-returns-2
 returns-2 c =
     let test = c .before .before .before in
     let start = test .before .before .before .before .before in
-    refused-behind (front start) (behind start) (start .args .codes .now) (bytes start) (right (test .before)) (sym (test .check-located .ensures) ∙ c .before .cause .given .1)
+    refused-behind (front start) (behind start) (start .args .codes .now) (bytes start) (right (test .before))
+    (sym (test .check-located .ensures) ∙ c .before .cause .given .1)
 
 returns-3 : tie.Need-returns-3
 returns-3 c =
     let test = c .before .before .before in
     let start = test .before .before in
-    refused-before (front start) (behind start) (start .args .codes .now) (bytes start) (sym (test .check-sizes .ensures) ∙ c .before .cause2 .given .1)
+    refused-before (front start) (behind start) (start .args .codes .now) (bytes start)
+    (sym (test .check-sizes .ensures) ∙ c .before .cause2 .given .1)
 
 pub pack-vectors-spec : {M : Type 1} → statement M
 pack-vectors-spec =

@@ -20,7 +20,8 @@ use Rattle.approximation.specs.VectorCauses.{Inside}
 use Rattle.approximation.proofs.put_vectors.Statement.{statement}
 use Rattle.approximation.proofs.put_vectors.Tie as tie
 
-module _ (d b n : ℕ) (vectors marks : List ℤ) (room : ℕ) (sized : first (sizeCauses d b n (length vectors) room) ≡ Accepted) (given : Inside d b marks vectors) {regions : List ℕ} (are : regions ≡ vectorRegions d b marks vectors) where
+module _ (d b n : ℕ) (vectors marks : List ℤ) (room : ℕ) (sized : first (sizeCauses d b n (length vectors) room) ≡ Accepted)
+    (given : Inside d b marks vectors) {regions : List ℕ} (are : regions ≡ vectorRegions d b marks vectors) where
   all-fit : first ((not (regionsFit d b 0 regions) ⇒ Code) ∷ []) ≡ Accepted
   unfolding first
   all-fit =
@@ -36,7 +37,8 @@ module _ (d b n : ℕ) (vectors marks : List ℤ) (room : ℕ) (sized : first (s
       ∙ outcome-accepted _ _ sizes-pass
       ∙ all-fit
 
-  codes-are : (codes before : List ℕ) → codes ≡ outcome (first (packCauses d b n regions room)) (packed d b n regions) (λ _. before) → codes ≡ vectorCodes d b n marks vectors
+  codes-are : (codes before : List ℕ) → codes ≡ outcome (first (packCauses d b n regions room)) (packed d b n regions) (λ _. before)
+      → codes ≡ vectorCodes d b n marks vectors
   codes-are codes before is = is ∙ outcome-accepted _ _ packs ∙ ap (packed d b n) are
 
 -- There is room for all region numbers.
@@ -55,7 +57,8 @@ returns c =
     let located = put .before .before .before .before in
     let pre = located .before .before .before .pre in
     let args = located .before .before .before .args in
-    codes-are (args .d) (args .b) (args .n) (args .vectors .now) (args .marks .now) (length (args .codes .now)) (pre .0) (pre .1) (located .locate-all .ensures) _ _ (put .pack .ensures .1)
+    codes-are (args .d) (args .b) (args .n) (args .vectors .now) (args .marks .now) (length (args .codes .now)) (pre .0) (pre .1)
+    (located .locate-all .ensures) _ _ (put .pack .ensures .1)
 
 pub put-vectors-spec : {M : Type 1} → statement M
 put-vectors-spec =

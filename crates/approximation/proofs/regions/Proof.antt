@@ -29,7 +29,8 @@ numbers c = vectorRegions (c .args .d) (c .args .b) (c .args .marks .now) (c .ar
 right : (c : tie.After-enum-told) → first (front (c .before .before .before .before)) ≡ Accepted
 right c = sym (c .before .before .check-rows .ensures) ∙ c .enum-told .given .1
 
-shaped : (c : tie.After-enum-told) → let args = c .before .before .before .before .args in first (shapeCauses (args .d) (args .b)) ≡ Accepted
+shaped : (c : tie.After-enum-told)
+    → let args = c .before .before .before .before .args in first (shapeCauses (args .d) (args .b)) ≡ Accepted
 shaped c =
     let args = c .before .before .before .before .args in
     accepted-front (shapeCauses (args .d) (args .b)) _ (right c)
@@ -46,8 +47,10 @@ located c = sym (c .before .before .check-located .ensures) ∙ c .enum-told2 .g
 locate-all-requires : tie.Need-locate-all-requires
 locate-all-requires c κs =
     let told = c .before .before .before .before in
-    let args = told .before .before .before .before .args in
-    (inside-marks (args .d) (args .b) (args .vectors .now) (args .marks .now) (shaped told) (located (c .before)), omega (arith, lengths told))
+    let args = told .before .before .before .before .args in (
+      inside-marks (args .d) (args .b) (args .vectors .now) (args .marks .now) (shaped told) (located (c .before)),
+      omega (arith, lengths told),
+    )
 
 returns : tie.Need-returns
 returns c =
@@ -56,19 +59,22 @@ returns c =
     let start = told .before .before .before .before in
     let last = filled .locate-all .last .1 .1 .1 .1 .0 in
     let all = take-all (length (start .args .vectors .now)) last (omega (arith, filled .locate-all .kept .1 .1 .1 .1 .0, lengths told)) in
-    accepted-both (front start) (behind start) (start .args .regions .now) (numbers start) (right told) (located (filled .before .before)) (sym all ∙ filled .locate-all .ensures)
+    accepted-both (front start) (behind start) (start .args .regions .now) (numbers start) (right told) (located (filled .before .before))
+    (sym all ∙ filled .locate-all .ensures)
 
 returns-2 : tie.Need-returns-2
 returns-2 c =
     let test = c .before .before .before in
     let start = test .before .before .before .before .before in
-    refused-behind (front start) (behind start) (start .args .regions .now) (numbers start) (right (test .before)) (sym (test .check-located .ensures) ∙ c .before .cause .given .1)
+    refused-behind (front start) (behind start) (start .args .regions .now) (numbers start) (right (test .before))
+    (sym (test .check-located .ensures) ∙ c .before .cause .given .1)
 
 returns-3 : tie.Need-returns-3
 returns-3 c =
     let test = c .before .before .before in
     let start = test .before .before in
-    refused-before (front start) (behind start) (start .args .regions .now) (numbers start) (sym (test .check-rows .ensures) ∙ c .before .cause2 .given .1)
+    refused-before (front start) (behind start) (start .args .regions .now) (numbers start)
+    (sym (test .check-rows .ensures) ∙ c .before .cause2 .given .1)
 
 pub regions-spec : {M : Type 1} → statement M
 regions-spec =

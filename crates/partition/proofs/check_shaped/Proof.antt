@@ -13,7 +13,7 @@ use Rattle.partition.proofs.check_shaped.Tie as tie
 wanted : (c : tie.After-marks-length) → c .marks-length .result ≡ firstMarks (c .before .args .d) (c .before .args .b) (c .before .args .d)
 wanted c = c .marks-length .ensures ∙ marks-length-is _ _ (c .before .pre)
 
-right : (c : tie.Else1) → length (c .before .before .args .marks .now) ≡ firstMarks (c .before .before .args .d) (c .before .before .args .b) (c .before .before .args .d)
+right : (c : tie.Else1) → let args = c .before .before .args in length (args .marks .now) ≡ firstMarks (args .d) (args .b) (args .d)
 right c = c .if1 .left ∙ wanted (c .before)
 
 returns : tie.Need-returns

@@ -22,5 +22,6 @@ checked-part-spec =
     (λ c. search needs)
     (λ c. search needs)
     (λ c. search needs)
-    (λ c. c .part .ensures ∙ sym (outcome-accepted _ _ (sym (c .before .before .before .check-part .ensures) ∙ c .before .enum-told .given .1)))
+    (λ c. c .part .ensures
+    ∙ sym (outcome-accepted _ _ (sym (c .before .before .before .check-part .ensures) ∙ c .before .enum-told .given .1)))
     (λ c. sym (outcome-refused _ _ (sym (c .before .before .before .check-part .ensures) ∙ c .before .enum-told2 .given .1))))

@@ -33,12 +33,16 @@ fits size offset w few room = rw (le-leb w maxDimensionBits few) (go (leb offset
 returns-2 : tie.Need-returns-2
 returns-2 c =
     let args = c .before .before .args in
-    rw (le-leb (args .bits) maxDimensionBits (c .before .if1 .left), lt-leb (args .offset + (2 ^ args .bits + 1)) (args .length) (omega (arith, power (c .before), c .if2 .taken)))
+    rw (
+      le-leb (args .bits) maxDimensionBits (c .before .if1 .left),
+      lt-leb (args .offset + (2 ^ args .bits + 1)) (args .length) (omega (arith, power (c .before), c .if2 .taken)),
+    )
 
 returns-3 : tie.Need-returns-3
 returns-3 c =
     let args = c .before .before .args in
-    rw (power (c .before)) (fits (args .length) (args .offset) (args .bits) (c .before .if1 .left) (omega (arith, power (c .before), c .if2 .left)))
+    rw (power (c .before))
+    (fits (args .length) (args .offset) (args .bits) (c .before .if1 .left) (omega (arith, power (c .before), c .if2 .left)))
 
 pub fits-at-spec : {M : Type 1} → statement M
 fits-at-spec =

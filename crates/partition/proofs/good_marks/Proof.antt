@@ -25,25 +25,28 @@ part-requires c κs =
     (dimension-accepted (start .args .d) (start .args .b) (c .before .loop .j) (start .pre .0) (c .loop-test .taken), start .pre .1)
 
 -- The code's test of a dimension is that of its part of the marks.
-tested : (c : tie.After-good-dimension Inv-loop μ-loop)
-    → c .good-dimension .result
-    ≡ goodDimension (dimensionMarks (c .before .before .before .before .args .d) (c .before .before .before .before .args .b) (c .before .before .before .before .args .marks .now) (suc (c .before .before .before .loop .j)))
+tested : (c : tie.After-good-dimension Inv-loop μ-loop) → let at = c .before .before .before in let args = at .before .args in
+    c .good-dimension .result ≡ goodDimension (dimensionMarks (args .d) (args .b) (args .marks .now) (suc (at .loop .j)))
 tested c =
     let args = c .before .before .before .before .args in
     c .good-dimension .ensures
-    ∙ ap goodDimension (c .before .part .ensures ∙ ap (dimensionMarks (args .d) (args .b) (args .marks .now)) (add-one (c .before .before .before .loop .j)))
+    ∙ ap goodDimension (c .before .part .ensures
+    ∙ ap (dimensionMarks (args .d) (args .b) (args .marks .now)) (add-one (c .before .before .before .loop .j)))
 
 returns : tie.Need-returns Inv-loop μ-loop
 returns c =
-    let args = c .before .before .before .before .before .args in
-    sym (all-fails (good-all (args .d) (args .b) (args .marks .now)) (args .d) (c .before .before .before .before .loop .j) (c .before .before .before .loop-test .taken)
+    let at = c .before .before .before .before in
+    let args = at .before .args in
+    sym (all-fails (good-all (args .d) (args .b) (args .marks .now)) (args .d) (at .loop .j) (c .before .before .before .loop-test .taken)
     (sym (tested (c .before)) ∙ not-true (c .before .good-dimension .result) (c .if1 .taken)))
 
 loop-again : tie.Need-loop-again Inv-loop μ-loop
 loop-again c =
-    let args = c .before .before .before .before .before .args in
-    let j = c .before .before .before .before .loop .j in
-    (omega arith, rw (add-one j) (all-next (good-all (args .d) (args .b) (args .marks .now)) j (c .before .before .before .before .loop .inv .1) ∙ sym (tested (c .before)) ∙ not-false (c .before .good-dimension .result) (c .if1 .left)))
+    let at = c .before .before .before .before in
+    let args = at .before .args in
+    let next = all-next (good-all (args .d) (args .b) (args .marks .now)) (at .loop .j) (at .loop .inv .1) in
+    let good = sym (tested (c .before)) ∙ not-false (c .before .good-dimension .result) (c .if1 .left) in
+    (omega arith, rw (add-one (at .loop .j)) (next ∙ good))
 
 returns-2 : tie.Need-returns-2 Inv-loop μ-loop
 returns-2 c =

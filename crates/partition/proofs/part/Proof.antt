@@ -9,7 +9,8 @@ returns : tie.Need-returns
 returns c =
     let start = c .before .before in
     let args = start .args in
-    c .part-at .ensures ∙ stretch-marks (args .d) (args .b) (args .j) (args .marks .now) (start .pre .0) (start .pre .1) (c .before .stretch-of .ensures)
+    c .part-at .ensures ∙ stretch-marks (args .d) (args .b) (args .j) (args .marks .now) (start .pre .0) (start .pre .1)
+    (c .before .stretch-of .ensures)
 
 pub part-spec : {M : Type 1} → statement M
 part-spec = tie.close (tie.spec (λ c κs. search needs) (λ c κs. search needs) returns)

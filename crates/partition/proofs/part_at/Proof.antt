@@ -30,10 +30,12 @@ fits size offset w holds =
 fitted : (c : tie.Else1) → let args = c .before .before .args in Fits (length (args .marks .now)) (args .offset) (args .bits)
 fitted c =
     let args = c .before .before .args in
-    fits (length (args .marks .now)) (args .offset) (args .bits) (sym (c .before .fits-at .ensures) ∙ not-false (c .before .fits-at .result) (c .if1 .left))
+    fits (length (args .marks .now)) (args .offset) (args .bits)
+    (sym (c .before .fits-at .ensures) ∙ not-false (c .before .fits-at .result) (c .if1 .left))
 
 -- The part up to the code's end is the part of so many marks.
-cut : (marks : List ℤ) (offset w : ℕ) → Fits (length marks) offset w → take (offset + 1 * 2 ^ w % 2 ^ 64 + 1 - offset) (drop offset marks) ≡ marksAt marks offset w
+cut : (marks : List ℤ) (offset w : ℕ) → Fits (length marks) offset w
+    → take (offset + 1 * 2 ^ w % 2 ^ 64 + 1 - offset) (drop offset marks) ≡ marksAt marks offset w
 cut marks offset w is =
     let count : offset + 2 ^ w + 1 - offset ≡ 2 ^ w + 1 = omega arith in
     rw (is .power, count) (sym (marks-at marks offset w (is .few) (is .within)))

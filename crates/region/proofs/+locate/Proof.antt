@@ -87,7 +87,8 @@ module _ {marks : List ℤ} {v : ℤ} {first second start : ℕ} (is : Moved mar
   found : {r : ℕ} → r ≡ halved (take (leftOf count) (drop start marks)) v → start + r ≡ halved marks v
   found {r} e =
       let left = leftOf count in
-      sym (unrolled ∙ halvings-enough marks v (count - 3) left start left (left-enough left count (left-less count some)) (le-add-right left 2)
+      sym (unrolled ∙ halvings-enough marks v (count - 3) left start left (left-enough left count (left-less count some))
+      (le-add-right left 2)
       ∙ ap (λ (s : ℕ). halvings left marks v s left) (sym (add-zero start))
       ∙ halvings-part marks v start left left 0 left (left-some count some) (le-of-eq (zero-add left))
       ∙ ap (λ (n : ℕ). start + n) (sym (rw size at e)))

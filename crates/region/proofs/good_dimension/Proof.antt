@@ -47,8 +47,11 @@ loop-again : tie.Need-loop-again Inv-loop μ-loop
 loop-again c =
     let at = c .before .before .before in
     let marks = at .before .args .marks .now in
-    let holds = not-false (c .before .good-mark .result) (c .if1 .left) in
-    (omega arith, rw add-one (sym (good-from marks (at .loop .i) true (omega arith) (sym holds ∙ c .before .good-mark .ensures)) ∙ at .loop .inv .1))
+    let holds = not-false (c .before .good-mark .result) (c .if1 .left) in (
+      omega arith,
+      rw add-one
+          (sym (good-from marks (at .loop .i) true (omega arith) (sym holds ∙ c .before .good-mark .ensures)) ∙ at .loop .inv .1),
+    )
 
 returns-2 : tie.Need-returns-2 Inv-loop μ-loop
 returns-2 c = sym (sym (c .before .loop .inv .1) ∙ good-none (c .before .before .args .marks .now) (c .before .loop .i) (omega arith))

@@ -30,7 +30,8 @@ exact c = eq-eqb (length (c .before .before .before .args .marks .now)) (c .befo
 good : (c : tie.Else3) → goodDimension (c .before .before .before .before .before .args .marks .now) ≡ true
 good c = sym (c .before .good-dimension .ensures) ∙ not-false (c .before .good-dimension .result) (c .if3 .left)
 
-inside : (c : tie.After-in-marks) → let a = c .before .before .before .before .before .before .args in c .in-marks .result ≡ inMarks (a .marks .now) (a .v)
+inside : (c : tie.After-in-marks)
+    → let a = c .before .before .before .before .before .before .args in c .in-marks .result ≡ inMarks (a .marks .now) (a .v)
 inside c =
     let start = c .before .before .before .before .before .before in
     c .in-marks .ensures ∙ ap (inMarks (start .args .marks .now)) (toZ-ofZ w32 (start .args .v) (start .fits .v))
@@ -56,7 +57,12 @@ returns-3 : tie.Need-returns-3
 unfolding first
 returns-3 c =
     let test = c .before in
-    rw (counted (test .before .before), exact (test .before), sym (test .good-dimension .ensures) ∙ not-true (test .good-dimension .result) (c .if3 .taken))
+    rw (
+      counted (test .before .before),
+      exact (test .before),
+      sym (test .good-dimension .ensures)
+          ∙ not-true (test .good-dimension .result) (c .if3 .taken),
+    )
 
 returns-4 : tie.Need-returns-4
 unfolding first

@@ -51,19 +51,23 @@ module _ (d b : ℕ) (marks : List ℤ) (j : ℕ) (v : ℤ) where
   alone : first (partCauses d b marks j) ≡ Accepted → first (regionCauses part (regionCount d b j) v) ≡ value
   alone accepted =
       let is = part-is d b marks j accepted in
-      first-next Bits _ (ap not (is .counted)) ∙ (first-next Length _ (ap not (eq-eqb (length part) (regionCount d b j + 1) (is .exact))) ∙ first-next Mark _ (ap not (is .good)))
+      first-next Bits _ (ap not (is .counted))
+      ∙ (first-next Length _ (ap not (eq-eqb (length part) (regionCount d b j + 1) (is .exact)))
+      ∙ first-next Mark _ (ap not (is .good)))
 
   seen-accepted : first (partCauses d b marks j) ≡ Accepted → seen ≡ told value
   seen-accepted accepted = rw (accepted, alone accepted)
 
   -- A view that was refused has no regions, so a lookup in it refuses.
   seen-refused : {cause : Refusal} → first (partCauses d b marks j) ≡ Refused cause → seen ≡ answer.Refused Bits
-  seen-refused refused = rw refused (ap (λ (w : Verdict). outcome w (answer.Region (regionOf [] v)) answer.Refused) (first-here Bits _ no-regions))
+  seen-refused refused = rw refused
+      (ap (λ (w : Verdict). outcome w (answer.Region (regionOf [] v)) answer.Refused) (first-here Bits _ no-regions))
 
   told-accepted : first (partCauses d b marks j) ≡ Accepted → told (first (valueCauses d b marks j v)) ≡ told value
   told-accepted accepted = rw (first-append (partCauses d b marks j) ((not (inMarks part v) ⇒ Outside) ∷ []), accepted)
 
-  told-refused : {cause : Refusal} → first (partCauses d b marks j) ≡ Refused cause → told (first (valueCauses d b marks j v)) ≡ answer.Refused cause
+  told-refused : {cause : Refusal} → first (partCauses d b marks j) ≡ Refused cause
+      → told (first (valueCauses d b marks j v)) ≡ answer.Refused cause
   told-refused refused = rw (first-append (partCauses d b marks j) ((not (inMarks part v) ⇒ Outside) ∷ []), refused)
 
   -- What the lookup finds is the region.
@@ -78,7 +82,8 @@ module _ (d b : ℕ) (marks : List ℤ) (j : ℕ) (v : ℤ) where
           absurd (omega arith)
 
   -- Where the lookup finds no region in a part that is handed back, the value lies outside.
-  outside : {cause : Refusal} → seen ≡ answer.Refused cause → first (partCauses d b marks j) ≡ Accepted → answer.Refused Outside ≡ told (first (valueCauses d b marks j v))
+  outside : {cause : Refusal} → seen ≡ answer.Refused cause → first (partCauses d b marks j) ≡ Accepted
+      → answer.Refused Outside ≡ told (first (valueCauses d b marks j v))
   outside {cause} is accepted = go (inMarks part v) refl ∙ sym (told-accepted accepted)
     where
       go : (inside : Bool) → inMarks part v ≡ inside → answer.Refused Outside ≡ told value
@@ -105,7 +110,8 @@ returns-2 c =
     let checked = c .before .before in
     let asked = checked .before .before .before in
     let a = asked .before .args in
-    outside (a .d) (a .b) (a .marks .now) (a .j) (a .v) (sym (looked-up asked) ∙ checked .before .enum-told .given .1) (sym (checked .check-part .ensures) ∙ c .enum-told2 .given .1)
+    outside (a .d) (a .b) (a .marks .now) (a .j) (a .v) (sym (looked-up asked) ∙ checked .before .enum-told .given .1)
+    (sym (checked .check-part .ensures) ∙ c .enum-told2 .given .1)
 
 returns-3 : tie.Need-returns-3
 returns-3 c =
