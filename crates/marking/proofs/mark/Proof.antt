@@ -9,7 +9,6 @@ use lib.Pow.{pow-mono}
 use mir.Syntax.{w32}
 use mir.Val.{toZ, ofZ}
 use mir.ValLaws.{toZ-ofZ}
-use borrow.Author.Needs.{needs}
 use borrow.Author.Tests.{lt-ltb, le-ltb}
 use Rattle.limits.specs.Limits.{maxDimensionBits, maxVectors}
 use Rattle.partition.proofs.Power.{shifted}

@@ -8,7 +8,6 @@ use lib.ListN.{length, take, drop, set, length-set, take-append-drop}
 use lib.Seq.{take-all, drop-set-lt}
 use mir.Syntax.{w32}
 use mir.ValLaws.{toZ-ofZ}
-use borrow.Author.Needs.{needs}
 use Rattle.partition.proofs.Power.{shifted}
 use Rattle.marking.specs.Made.{madeDimension, markAt}
 use Rattle.marking.specs.KeysInOrder.{wholeOf}
