@@ -1,7 +1,9 @@
 -- Marks made from vectors (document 01, "Marks, regions, codes"). n vectors of d components stand in a row, each with its d components
 -- alone. Assumes nothing.
+use mathlib.Core.Bool.{cond}
 use mathlib.Core.List.{List, [], _∷_, _++_, map}
 use Prim.Native.Nat.{ℕ, zero, suc, _+_, _-_, _*_, _/_, _^_}
+use lib.Dec.{ltb}
 use lib.IntN.{ℤ, pos, sucℤ}
 use lib.ListN.{getD}
 use Rattle.whole.specs.Keys.{keyOf}
@@ -22,6 +24,10 @@ inOrder components = map (λ i. getD components i (pos 0)) (ranking (map keyOf c
 unfoldable pub madeDimension : ℕ → ℕ → List ℤ → List ℤ
 madeDimension n w ordered =
     map (λ i. getD ordered (i * n / 2 ^ w) (pos 0)) (countFrom 0 (2 ^ w)) ++ (sucℤ (getD ordered (n - 1) (pos 0)) ∷ [])
+
+-- mark i of them, and from the last on the last
+unfoldable pub markAt : ℕ → ℕ → List ℤ → ℕ → ℤ
+markAt n w ordered i = cond (ltb i (2 ^ w)) (getD ordered (i * n / 2 ^ w) (pos 0)) (sucℤ (getD ordered (n - 1) (pos 0)))
 
 -- the marks of the first t dimensions, dimension 1 first
 unfoldable pub madeFirst : ℕ → ℕ → ℕ → List ℤ → ℕ → List ℤ

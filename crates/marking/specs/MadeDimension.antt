@@ -7,7 +7,7 @@ use mathlib.Core.List.{List, [], _∷_, map}
 use Prim.Native.Nat.{ℕ, zero, suc, _+_, _-_, _*_, _/_, _^_, _≤_, _<_}
 use native.Mathlib.Nat.{mul-comm, mul-le-mul-right, mul-lt-mul-of-pos-right, zero-mul, zero-div, div-lt-iff-lt-mul, eq-or-lt-of-le, le-of-suc-le-suc}
 use native.Mathlib.Omega.{arith}
-use borrow.Author.Tests.{le-leb, lt-ltb}
+use borrow.Author.Tests.{le-leb, lt-ltb, le-ltb}
 use lib.IntN.{ℤ, pos, negsuc, sucℤ}
 use lib.Signed.{mag, leZ, ltZ}
 use lib.ListN.{length, getD, length-append, List·getD-append}
@@ -20,7 +20,7 @@ use Rattle.order.specs.Pair.{countFrom}
 use Rattle.region.specs.Dimension.{notAbove, goodDimension}
 use Rattle.region.specs.Region.{firstMark, lastMark, inMarks}
 use Rattle.region.specs.Regions.{within-marks, last-mark}
-use Rattle.marking.specs.Made.{madeDimension}
+use Rattle.marking.specs.Made.{madeDimension, markAt}
 use Rattle.marking.specs.InOrder.{counted-map, counted-map-length, Ordered}
 
 -- ---- components and marks, by their keys
@@ -97,6 +97,14 @@ module _ (n w : ℕ) (ordered : List ℤ) where
   pub made-last : getD (madeDimension n w ordered) (2 ^ w) (pos 0) ≡ sucℤ greatest
   unfolding madeDimension
   made-last = getD-at (map lower (countFrom 0 (2 ^ w))) (sucℤ greatest) [] (pos 0) (2 ^ w) (counted-map-length lower (2 ^ w))
+
+  pub made-mark : (i : ℕ) → i ≤ 2 ^ w → getD (madeDimension n w ordered) i (pos 0) ≡ markAt n w ordered i
+  unfolding markAt
+  made-mark i most =
+      elim (eq-or-lt-of-le most) [
+        | inl e ↦ rw (e, le-ltb (2 ^ w) (2 ^ w) (omega arith)) made-last
+        | inr below ↦ rw (lt-ltb i (2 ^ w) below) (made-at i below)
+      ]
 
 module _ {n : ℕ} (w : ℕ) {ordered : List ℤ} (some : 0 < n) (is : Ordered n ordered) where
   -- the greatest component's key is one less than the last mark's

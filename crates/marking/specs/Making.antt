@@ -63,15 +63,15 @@ pub record ColumnOf (d n t : ℕ) : Type 0 where
   pub among : t < d
   pub count : n ≤ maxVectors
 
--- n components shared out among the regions of w bits, with room for the marks
-pub record Shares (n w room : ℕ) : Type 0 where
+-- n components shared out among the regions of w bits
+pub record Shares (n w : ℕ) : Type 0 where
   pub some : 1 ≤ n
   pub few : n ≤ maxVectors
   pub bits : w ≤ maxDimensionBits
-  pub fits : 2 ^ w + 1 ≤ room
 
 -- a column and its marks, of w bits
 pub record MarksOf (d n t w : ℕ) (vectors : List ℤ) (room : ℕ) : Type 0 where
   pub of-column : ColumnOf d n t
-  pub shares : Shares n w room
+  pub shares : Shares n w
+  pub fits : 2 ^ w + 1 ≤ room
   pub components : areComponents vectors ≡ true

@@ -5,14 +5,14 @@ use refusal::Verdict;
 ghost use mathlib.Core.Path.{_≡_};
 ghost use mathlib.Core.Bool.{true};
 ghost use mathlib.Core.List.{map, _++_};
-ghost use Prim.Native.Nat.{_+_, _^_};
+ghost use Prim.Native.Nat.{_+_, _^_, _≤_};
 ghost use lib.IntN.{sucℤ};
 ghost use lib.ListN.{length, drop};
 ghost use Rattle.refusal.specs.First.{first, outcome};
 ghost use Rattle.refusal.specs.declared.Verdict.the-variants.{Accepted};
 ghost use Rattle.limits.specs.Limits.{isComponent};
 ghost use Rattle.whole.specs.Keys.{keyOf};
-ghost use Rattle.marking.specs.Made.{column, inOrder, madeDimension, madeMarks};
+ghost use Rattle.marking.specs.Made.{column, inOrder, madeDimension, markAt, madeMarks};
 ghost use Rattle.marking.specs.Making.{makeCauses, ColumnOf, MarksOf, Shares};
 ghost use Rattle.marking.specs.KeysInOrder.{wholeOf, ComponentKey, ComponentKeys};
 
@@ -98,19 +98,30 @@ fn column_keys(d: usize, t: usize, vectors: &[i32], keys: &mut [u64])
 
 // The marks from the keys of the components in non-falling order.
 fn write_marks(w: usize, keys: &[u64], part: &mut [i32])
-    requires { ⌜ (Shares (length (now keys)) w (length (now part))) × (ComponentKeys (now keys)) ⌝ }
+    requires { ⌜ (Shares (length (now keys)) w) × (2 ^ w + 1 ≤ length (now part)) × (ComponentKeys (now keys)) ⌝ }
     ensures { λ _. ⌜ now (part .exit)
         ≡ madeDimension (length (now (keys .entry))) w (map wholeOf (now (keys .entry))) ++ drop (2 ^ w + 1) (now (part .entry)) ⌝ }
+{
+    let regions = 1usize << w;
+    let mut i = 0;
+    while i <= regions {
+        part[i] = mark(w, keys, i);
+        i += 1;
+    }
+}
+
+// Mark i of w bits: region i's lower mark, or behind the last region the number behind the greatest component.
+fn mark(w: usize, keys: &[u64], i: usize) -> i32
+    requires { ⌜ (Shares (length (now keys)) w) × (ComponentKeys (now keys)) ⌝ }
+    ensures { λ r. ⌜ r ≡ markAt (length (now (keys .entry))) w (map wholeOf (now (keys .entry))) i ⌝ }
 {
     let n = keys.len();
     let last = n - 1;
     let regions = 1usize << w;
-    let mut i = 0;
-    while i < regions {
-        part[i] = component_of(keys[(i * n) >> w]);
-        i += 1;
+    if i < regions {
+        return component_of(keys[(i * n) >> w]);
     }
-    part[regions] = next(component_of(keys[last]));
+    next(component_of(keys[last]))
 }
 
 // The component of a key.

@@ -115,7 +115,7 @@ in-parts (suc x) t h =
     let same : q * unit * 2 ^ k * 2 ^ 149 ≡ q * 2 ^ x * unit * 2 ^ 32 = rw (mul-right-comm q unit (2 ^ k), split) (simp mul-assoc) in
     closest-same (q * unit * 2 ^ k) (2 ^ 32) (q * 2 ^ x * unit) (2 ^ 149) (pow-pos 32) (pow-pos 149) same
 
--- and fits the accumulator
+-- the parts that a significand comes to fit into 48 bits
 pub parts-fit : (x t : ℕ) → x ≤ 134 → t < 2 ^ 23 → (2 ^ 23 + t) * unit * 2 ^ (x - 118) < 2 ^ 48
 parts-fit x t h bound =
     let scaled : (2 ^ 23 + t) * unit < 2 ^ 32 = omega arith in

@@ -84,7 +84,7 @@ module _ (k : ℕ) (low distance : ℕ → ℕ) (numbers : List ℕ) where
   stable other agree = reading-stable k distance other (ranked low numbers) unread agree
 
 module _ (k : ℕ) (low distance : ℕ → ℕ) (numbers : List ℕ) where
-  -- and so is the scan's answer, where the lows are lower bounds of both
+  -- the scan's answer is the same, where the lows are lower bounds of both
   pub stable-answer : (other : ℕ → ℕ) → LowerBound low distance numbers → LowerBound low other numbers
       → Agree ((read k low distance numbers) .reads) other distance → scan k other numbers ≡ scan k distance numbers
   stable-answer other lower lower-other agree =

@@ -8,14 +8,12 @@ use native.Mathlib.Omega.{arith}
 use lib.IntN.{ℤ}
 use lib.ListN.{length, take, drop}
 use lib.Seq.{length-take-le}
-use borrow.Author.Tests.{le-ltb, eq-eqb}
 use Rattle.refusal.specs.declared.Refusal.the-variants.{Cell}
-use Rattle.refusal.specs.declared.Verdict.the-variants.{Accepted}
 use Rattle.refusal.specs.First.{first, outcome, outcome-accepted, outcome-refused}
 use Rattle.limits.specs.Limits.{maxVectors}
 use Rattle.order.specs.Pair.{countFrom}
 use Rattle.order.specs.Counted.{counted-length}
-use Rattle.order.specs.Rank.{rankCauses, ranking}
+use Rattle.order.specs.Rank.{rankCauses, ranking, no-cause}
 use Rattle.selection.specs.Reading.{readingOrder}
 use Rattle.selection.specs.Theorems.{reads-count}
 use Rattle.distance.specs.Values.{valuesFrom, values-length}
@@ -33,15 +31,11 @@ use Rattle.least_reading.specs.Searching.{Searches, cellCauses, tells-re
 use Rattle.least_reading.proofs.search_ready.Statement.{statement}
 use Rattle.least_reading.proofs.search_ready.Tie as tie
 
-accepted : (n : ℕ) → 1 ≤ n → n ≤ maxVectors → first (rankCauses n n) ≡ Accepted
-unfolding first
-accepted n some few = rw (le-ltb n 1 some, le-ltb maxVectors n few, eq-eqb n n refl)
-
 ranks : (low : ℕ → ℕ) (n : ℕ) (lows old back : List ℕ) (room : ℕ) → 1 ≤ n → n ≤ maxVectors → lows ≡ valuesFrom low 0 n
     → back ≡ outcome (first (rankCauses (length lows) room)) (ranking lows) (λ _. old) → room ≡ n → back ≡ readingOrder low (countFrom 0 n)
 ranks low n lows old back room some few are is size =
     let count : length lows ≡ n = ap length are ∙ values-length low 0 n in
-    (rw (count, size) at is) ∙ outcome-accepted (ranking lows) (λ _. old) (accepted n some few) ∙ ap ranking are ∙ values-ranking low n
+    (rw (count, size) at is) ∙ outcome-accepted (ranking lows) (λ _. old) (no-cause n n some few refl) ∙ ap ranking are ∙ values-ranking low n
 
 -- ---- what is copied out
 

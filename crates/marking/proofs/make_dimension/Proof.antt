@@ -1,10 +1,10 @@
 -- `make_dimension` meets its contract: what is written comes from the column's keys, that came back sorted. Assumes nothing.
 use mathlib.Core.Path.{_≡_, sym, ap, ap₂, _∙_, subst⁻¹}
 use mathlib.Core.List.{List, map, _++_}
-use Prim.Native.Nat.{ℕ}
+use Prim.Native.Nat.{ℕ, _+_, _^_, _≤_}
 use native.Mathlib.Omega.{arith}
 use lib.IntN.{ℤ}
-use lib.ListN.{length, take}
+use lib.ListN.{length}
 use lib.Seq.{length-take-le}
 use borrow.Author.Needs.{needs}
 use Rattle.refusal.specs.First.{first, outcome, outcome-accepted}
@@ -30,8 +30,8 @@ module _ {d n t w room : ℕ} {vectors : List ℤ} (given : MarksOf d n t w vect
       is ∙ outcome-accepted _ _ (no-count-cause (length keys) (omega (arith, given .shares .some)) (omega (arith, given .shares .few))) ∙ ap wordsInOrder are
 
   module _ {keys : List ℕ} (count : length keys ≡ n) (are : keys ≡ wordsInOrder columnKeys) where
-    asked : (Shares (length keys) w room) × (ComponentKeys keys)
-    asked = (rw count (given .shares), rw are (component-keys (column d n vectors t) (column-components d n vectors t (given .components))))
+    asked : (Shares (length keys) w) × (2 ^ w + 1 ≤ room) × (ComponentKeys keys)
+    asked = (rw count (given .shares), given .fits, rw are (component-keys (column d n vectors t) (column-components d n vectors t (given .components))))
 
     made : (rest : List ℤ) {last : List ℤ} → last ≡ madeDimension (length keys) w (map wholeOf keys) ++ rest → last ≡ madeDimension n w (inOrder (column d n vectors t)) ++ rest
     made rest is =

@@ -50,7 +50,8 @@ module _ {d b n : ℕ} {vectors : List ℤ} {room : ℕ} (is : Given d b n vecto
         let shaped = shape d b (is .shaped) in
         record {
           of-column = record { few = shaped .few; among = among; count = is .count .below };
-          shares = record { some = is .count .above; few = is .count .below; bits = stretch .few-bits; fits = omega (arith, ends, part-length (s .offset) marks) };
+          shares = record { some = is .count .above; few = is .count .below; bits = stretch .few-bits };
+          fits = omega (arith, ends, part-length (s .offset) marks);
           components = is .components;
         }
 
