@@ -1,4 +1,4 @@
-//! The soak: random inputs, right and spoilt, by the C interface against the reference, until the time is up. It is given
+//! The soak: random inputs, right and damaged, by the C interface against the reference, until the time is up. It is given
 //! the time in seconds, 60 if none is named, and the first seed, one of the clock if none is named.
 
 use std::{
@@ -12,7 +12,7 @@ use std::{
 };
 use tests::{
     interface,
-    matches::{noise, spoil, Match},
+    matches::{damage, noise, Match},
     random::Random,
     reference,
 };
@@ -20,7 +20,7 @@ use tests::{
 /// The length of the output's buffer.
 const ROOM: usize = 14_344;
 
-/// The inputs of a seed: a match that is right, the same spoilt some times, bytes of no plan.
+/// The inputs of a seed: a match that is right, the same damaged some times, bytes of no plan.
 fn inputs(seed: u64) -> Vec<Vec<u8>> {
     let mut random = Random::new(seed);
     let most = random.one_of(&[3, 10, 10, 30, 30, 512]);
@@ -28,7 +28,7 @@ fn inputs(seed: u64) -> Vec<Vec<u8>> {
     let mut inputs = vec![noise(&mut random), right.clone()];
     for _ in 0..6 {
         let mut input = right.clone();
-        spoil(&mut random, &mut input);
+        damage(&mut random, &mut input);
         inputs.push(input);
     }
     inputs

@@ -14,7 +14,7 @@ pub struct Fault {
     name: String,
     /// a call has this cause if it is given all of these
     of: &'static [Given],
-    spoil: Box<dyn Fn(&mut Input)>,
+    make: Box<dyn Fn(&mut Input)>,
 }
 
 impl Fault {
@@ -91,8 +91,8 @@ fn resize(input: &mut Input, buffer: Given, length: usize) {
 struct Faults(Vec<Fault>);
 
 impl Faults {
-    fn add(&mut self, cause: u32, of: &'static [Given], name: String, spoil: impl Fn(&mut Input) + 'static) {
-        self.0.push(Fault { cause, name, of, spoil: Box::new(spoil) });
+    fn add(&mut self, cause: u32, of: &'static [Given], name: String, make: impl Fn(&mut Input) + 'static) {
+        self.0.push(Fault { cause, name, of, make: Box::new(make) });
     }
 
     /// A count put in its place, each of these.
@@ -195,9 +195,9 @@ fn faults(input: &Input) -> Vec<Fault> {
     }
     let marks = &input.one.marks;
     for value in [marks[0] - 1, marks[marks.len() - 1], LEAST - 1, GREATEST + 1, i32::MIN, i32::MAX] {
-        let spoil = move |input: &mut Input| input.one.value = value;
-        faults.add(8, &[DimensionMarks, Value], format!("value {value}"), spoil);
-        faults.add(8, &[J, Marks, Value], format!("value {value}"), spoil);
+        let make = move |input: &mut Input| input.one.value = value;
+        faults.add(8, &[DimensionMarks, Value], format!("value {value}"), make);
+        faults.add(8, &[J, Marks, Value], format!("value {value}"), make);
     }
 
     code_faults(input, &mut faults);
@@ -212,13 +212,13 @@ fn code_faults(input: &Input, faults: &mut Faults) {
     for at in ends(n * d) {
         let regions = parts[at % d].len() as u8 - 1;
         for region in [regions, regions + 1, 255] {
-            let spoil = move |input: &mut Input| input.regions[at] = region;
-            faults.add(9, &[Regions], format!("region {region} of {regions} at {at}"), spoil);
+            let make = move |input: &mut Input| input.regions[at] = region;
+            faults.add(9, &[Regions], format!("region {region} of {regions} at {at}"), make);
         }
     }
     for bit in 0..8 * input.codes.len() - n * b {
-        let spoil = move |input: &mut Input| *input.codes.last_mut().expect("there are spare bits") |= 1 << bit;
-        faults.add(9, &[Codes], format!("spare bit {bit} set"), spoil);
+        let make = move |input: &mut Input| *input.codes.last_mut().expect("there are spare bits") |= 1 << bit;
+        faults.add(9, &[Codes], format!("spare bit {bit} set"), make);
     }
     for at in ends(n * d) {
         let marks = &input.marks[parts[at % d].clone()];
@@ -280,13 +280,13 @@ pub fn assert_refusals(call: &Call, inputs: &[Input]) {
 
 /// The faults stand with the higher number first, so that a length is changed after the contents.
 fn assert_refused(call: &Call, input: &Input, faults: &[&Fault]) {
-    let mut spoilt = input.clone();
+    let mut faulty = input.clone();
     for fault in faults {
-        (fault.spoil)(&mut spoilt);
-        spoilt.origin += &format!("; {}", fault.name);
+        (fault.make)(&mut faulty);
+        faulty.origin += &format!("; {}", fault.name);
     }
     let cause = faults.iter().map(|fault| fault.cause).min();
-    call.gives(cause.expect("there is a fault"), &spoilt);
+    call.gives(cause.expect("there is a fault"), &faulty);
 }
 
 /// Each buffer that the call takes is refused with 5 at every other length.
@@ -294,10 +294,10 @@ pub fn assert_lengths(call: &Call, input: &Input) {
     for buffer in BUFFERS.into_iter().filter(|buffer| call.takes.contains(buffer)) {
         let exact = length(input, buffer);
         for length in (0..exact + 10).chain([2 * exact, 8 * exact, 16_384]).filter(|&length| length != exact) {
-            let mut spoilt = input.clone();
-            resize(&mut spoilt, buffer, length);
-            spoilt.origin += &format!("; {buffer:?} of {length} for {exact}");
-            call.gives(5, &spoilt);
+            let mut faulty = input.clone();
+            resize(&mut faulty, buffer, length);
+            faulty.origin += &format!("; {buffer:?} of {length} for {exact}");
+            call.gives(5, &faulty);
         }
     }
 }

@@ -1,4 +1,4 @@
-//! Inputs of the program: a library, k, a query; and such inputs spoilt.
+//! Inputs of the program: a library, k, a query; and such inputs damaged.
 
 use crate::{
     input::{LoadRoom, Loaded},
@@ -46,9 +46,9 @@ pub fn loaded(bytes: &[u8]) -> Loaded {
     reference::load(bytes, room).expect("the library is right")
 }
 
-/// Spoils an input in one place or more, most of them in the head or near the end: a byte changed, put in or left out,
+/// Damages an input in one place or more, most of them in the head or near the end: a byte changed, put in or left out,
 /// the end cut off, bytes put behind.
-pub fn spoil(random: &mut Random, bytes: &mut Vec<u8>) {
+pub fn damage(random: &mut Random, bytes: &mut Vec<u8>) {
     for _ in 0..random.one_of(&[1, 1, 1, 2, 3, 5]) {
         let end = bytes.len();
         let (anywhere, head, tail) = (random.below(end + 1), random.below(5), random.below(60));

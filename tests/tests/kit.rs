@@ -8,7 +8,7 @@ use tests::{
     c,
     input::told,
     kit::{self, kit, kit_within},
-    matches::{noise, spoil, Match},
+    matches::{damage, noise, Match},
     random::Random,
     reference,
 };
@@ -72,11 +72,11 @@ fn no_run_on_a_wrong_input_is_answered_otherwise() {
 }
 
 #[test]
-fn no_spoilt_run_goes_wrong() {
+fn no_damaged_run_goes_wrong() {
     let mut random = Random::new(65);
     for seed in 0..200 {
         let mut input = Match::random(seed, 12).bytes();
-        spoil(&mut random, &mut input);
+        damage(&mut random, &mut input);
         assert_run(&input);
         assert_run(&noise(&mut random));
     }

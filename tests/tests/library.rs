@@ -349,13 +349,13 @@ fn no_pattern_is_taken_outside_the_marks() {
                 let values = [first, last - 1, first - 1, last, LEAST, GREATEST];
                 for component in values.into_iter().filter(|value| (LEAST..=GREATEST).contains(value)) {
                     let due = if first <= component && component < last { 0 } else { 8 };
-                    let mut spoilt = bytes.clone();
-                    put(&mut spoilt, t, component);
-                    assert_eq!(number(&spoilt), due, "{component} in dimension {} of vector {i}", t + 1);
+                    let mut faulty = bytes.clone();
+                    put(&mut faulty, t, component);
+                    assert_eq!(number(&faulty), due, "{component} in dimension {} of vector {i}", t + 1);
                     for beyond in [input.d, 31].into_iter().filter(|beyond| (input.d..32).contains(beyond)) {
-                        put(&mut spoilt, beyond, if beyond % 2 == 0 { 1 } else { LEAST });
-                        assert_eq!(number(&spoilt), 6, "{component}, and not zero in place {beyond} of vector {i}");
-                        put(&mut spoilt, beyond, 0);
+                        put(&mut faulty, beyond, if beyond % 2 == 0 { 1 } else { LEAST });
+                        assert_eq!(number(&faulty), 6, "{component}, and not zero in place {beyond} of vector {i}");
+                        put(&mut faulty, beyond, 0);
                     }
                 }
             }

@@ -101,10 +101,10 @@ fn no_bad_mark_is_taken_at_any_place() {
         CHECK_MARKS.gives(0, &input);
         for part in reference::parts(input.d, input.b) {
             for at in part.clone() {
-                let mut spoilt = input.clone();
+                let mut faulty = input.clone();
                 let mut refused = |mark: i32| {
-                    spoilt.marks[at] = mark;
-                    CHECK_MARKS.gives(7, &spoilt);
+                    faulty.marks[at] = mark;
+                    CHECK_MARKS.gives(7, &faulty);
                 };
                 [LEAST - 1, GREATEST + 2, i32::MIN, i32::MAX, LEAST - 65536].into_iter().for_each(&mut refused);
                 if at > part.start && input.marks[at - 1] > LEAST {
@@ -267,18 +267,18 @@ fn no_vector_is_taken_outside_the_range_or_the_marks() {
         let input = random_input(seed, 8);
         let parts = reference::parts(input.d, input.b);
         for at in 0..input.vectors.len() {
-            let mut spoilt = input.clone();
+            let mut faulty = input.clone();
             for value in [LEAST - 1, GREATEST + 1, i32::MIN, i32::MAX, input.vectors[at] ^ 1 << 16] {
-                spoilt.vectors[at] = value;
-                MAKE_MARKS.gives(6, &spoilt);
-                REGIONS.gives(6, &spoilt);
+                faulty.vectors[at] = value;
+                MAKE_MARKS.gives(6, &faulty);
+                REGIONS.gives(6, &faulty);
             }
             let part = parts[at % input.d].clone();
             for value in [input.marks[part.start] - 1, input.marks[part.end - 1]] {
                 if (LEAST..=GREATEST).contains(&value) {
-                    spoilt.vectors[at] = value;
-                    MAKE_MARKS.gives(0, &spoilt);
-                    REGIONS.gives(8, &spoilt);
+                    faulty.vectors[at] = value;
+                    MAKE_MARKS.gives(0, &faulty);
+                    REGIONS.gives(8, &faulty);
                 }
             }
         }

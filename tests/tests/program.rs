@@ -5,7 +5,7 @@ use tests::{
     c,
     input::told,
     interface,
-    matches::{noise, spoil, Match},
+    matches::{damage, noise, Match},
     random::Random,
     reference,
 };
@@ -107,14 +107,14 @@ fn no_damaged_byte_of_forty_tractors_is_misread() {
 }
 
 #[test]
-fn no_spoilt_match_is_misread() {
+fn no_damaged_match_is_misread() {
     let mut random = Random::new(62);
-    let spoilt = (0..60_000).map(|seed| {
+    let damaged = (0..60_000).map(|seed| {
         let mut input = Match::random(seed % 500, 6).bytes();
-        spoil(&mut random, &mut input);
+        damage(&mut random, &mut input);
         input
     });
-    let counts = counts(spoilt);
+    let counts = counts(damaged);
     for number in (0..18).filter(|&number| ![5, 9, 10].contains(&number)) {
         assert!(counts[number] > 20, "{number} is rare: {counts:?}");
     }
