@@ -29,8 +29,8 @@ pub(crate) fn match_rest(
 ) -> usize
     requires { ⌜ Ready (libraryWith d b n (now marks) (now settings) (now components)) ⌝ }
     requires { ⌜ length (restText (libraryWith d b n (now marks) (now settings) (now components)) (now rest)) ≤ length (now text) ⌝ }
-    ensures { λ r. ⌜ Puts (restText (libraryWith d b n (now (marks .entry)) (now (settings .entry)) (now (components .entry))) (now (rest .entry))) 0
-        (now (text .entry)) (now (text .exit)) r ⌝ }
+    ensures { λ r. ⌜ Puts (restText (libraryWith d b n (now (marks .entry)) (now (settings .entry)) (now (components .entry)))
+        (now (rest .entry))) 0 (now (text .entry)) (now (text .exit)) r ⌝ }
 {
     match check_k(rest, n) {
         Verdict::Accepted => {
@@ -78,8 +78,8 @@ fn match_query(
 ) -> usize
     requires { ⌜ (Ready (libraryWith d b n (now marks) (now settings) (now components))) × (leb 1 k && leb k n ≡ true) ⌝ }
     requires { ⌜ length (queryText (libraryWith d b n (now marks) (now settings) (now components)) k (now bytes)) ≤ length (now text) ⌝ }
-    ensures { λ r. ⌜ Puts (queryText (libraryWith d b n (now (marks .entry)) (now (settings .entry)) (now (components .entry))) k (now (bytes .entry))) 0
-        (now (text .entry)) (now (text .exit)) r ⌝ }
+    ensures { λ r. ⌜ Puts (queryText (libraryWith d b n (now (marks .entry)) (now (settings .entry)) (now (components .entry))) k
+        (now (bytes .entry))) 0 (now (text .entry)) (now (text .exit)) r ⌝ }
 {
     let mut query = [0i32; MAX_DIMENSIONS];
     let verdict = query::query(d, bytes, &mut query[..d]);

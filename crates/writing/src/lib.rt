@@ -55,7 +55,8 @@ fn write_all(
     bytes: &mut [u8],
 )
     requires { ⌜ first (writeCauses (libraryWith d b n (now marks) (now settings) (now components)) (length (now bytes))) ≡ Accepted ⌝ }
-    ensures { λ _. ⌜ now (bytes .exit) ≡ libraryBytes (libraryWith d b n (now (marks .entry)) (now (settings .entry)) (now (components .entry))) ⌝ }
+    ensures { λ _. ⌜ now (bytes .exit)
+        ≡ libraryBytes (libraryWith d b n (now (marks .entry)) (now (settings .entry)) (now (components .entry))) ⌝ }
 {
     write_head(d, b, n, bytes);
     write_marks(marks, bytes);

@@ -33,7 +33,8 @@ pub(crate) fn write_head(d: usize, b: usize, n: usize, bytes: &mut [u8])
 pub(crate) fn write_marks(marks: &[i32], bytes: &mut [u8])
     requires { ⌜ (length (now marks) < 2 ^ 32) × (markPlace (length (now marks)) ≤ length (now bytes)) ⌝ }
     ensures { λ _. ⌜ take (markPlace (length (now (marks .entry)))) (now (bytes .exit))
-        ≡ take (markPlace 0) (now (bytes .entry)) ++ each (length (now (marks .entry))) (λ i. markBytes (getD (now (marks .entry)) i (pos 0))) ⌝ }
+        ≡ take (markPlace 0) (now (bytes .entry))
+        ++ each (length (now (marks .entry))) (λ i. markBytes (getD (now (marks .entry)) i (pos 0))) ⌝ }
 {
     let mut i = 0;
     while i < marks.len() {
@@ -94,7 +95,8 @@ fn write_vector(
 fn write_stored(d: usize, at: usize, components: &[i32], from: usize, bytes: &mut [u8])
     requires { ⌜ (at + 2 * d ≤ length (now bytes)) × (Row d from (now components)) ⌝ }
     ensures { λ _. ⌜ take (at + 2 * d) (now (bytes .exit))
-        ≡ take at (now (bytes .entry)) ++ joined (replicate d 2) (tabulate d (λ t. ofZ w16 (getD (now (components .entry)) (from + t) (pos 0)))) ⌝ }
+        ≡ take at (now (bytes .entry))
+        ++ joined (replicate d 2) (tabulate d (λ t. ofZ w16 (getD (now (components .entry)) (from + t) (pos 0)))) ⌝ }
 {
     let mut t = 0;
     while t < d {

@@ -87,7 +87,8 @@ put-byte-requires c κs =
     )
 
 -- the buffer's length is kept by all four
-kept : (c : tie.After-put-byte) → length (c .put-byte .last .0) ≡ length (begin (c .before .before .before .before .before) .args .bytes .now)
+kept : (c : tie.After-put-byte)
+    → length (c .put-byte .last .0) ≡ length (begin (c .before .before .before .before .before) .args .bytes .now)
 kept c =
     let vectors = c .before .before .before .before .before in
     let marks = before-vectors vectors in
