@@ -31,8 +31,3 @@ lookedUp marks regions v = outcome (first (regionCauses marks regions v)) (Regio
 abbrev pub lookupNumber : Lookup → ℕ
 lookupNumber (Region r) = 0
 lookupNumber (Refused cause) = numberOf cause
-
--- The region of an answer is 0 where there is none.
-abbrev pub lookupRegion : Lookup → ℕ
-lookupRegion (Region r) = r
-lookupRegion (Refused cause) = 0
