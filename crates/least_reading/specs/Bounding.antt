@@ -23,7 +23,7 @@ use Rattle.table.specs.TableLaws.{bound-sum, table-le}
 use Rattle.distance.specs.Values.{valuesFrom}
 use Rattle.bounds.specs.Bounded.{table-accepted}
 use Rattle.bounds.specs.Sums.{countedCauses, sumCauses}
-use Rattle.search.specs.Search.{Library, Room}
+use Rattle.search.specs.Search.{Library}
 use Rattle.search.specs.Ready.{Ready}
 
 -- functions that agree have the same values
@@ -42,14 +42,14 @@ pub record Bounding (d b n : ℕ) (query marks : List ℤ) (codes : List ℕ) : 
   pub components : areComponents query ≡ true
   pub good : goodMarks d b marks ≡ true
 
-pub bounding : {l : Library} {query : List ℤ} {k : ℕ} {room : Room} → Ready l query k room → (n : ℕ) → n ≡ l .n
+pub bounding : {l : Library} {query : List ℤ} {k : ℕ} → Ready l query k → (n : ℕ) → n ≡ l .n
     → Bounding (l .d) (l .b) n query (l .marks) (l .codes)
 bounding {l} is n same = record {
   shaped = is .shaped;
   count = rw (same, le-leb 1 (l .n) (omega (arith, is .some, is .enough)), le-leb (l .n) maxVectors (is .count));
-  of-query = is .lengths .of-query;
-  of-marks = is .lengths .of-marks;
-  of-codes = rw same (is .lengths .of-codes);
+  of-query = is .of-query;
+  of-marks = is .of-marks;
+  of-codes = rw same (is .of-codes);
   components = is .components;
   good = is .marks;
 }

@@ -70,8 +70,7 @@ search-stays-accepted l query k room vectors same held =
         of-marks = n .of-marks;
         of-codes = n .of-codes;
         of-vectors = same .size;
-        of-numbers = n .of-numbers;
-        of-distances = n .of-distances;
+        of-entries = n .of-entries;
         of-reads = n .of-reads;
       });
       components = p .components;

@@ -13,8 +13,8 @@ use lib.ListN.{length, getD, take, drop, set, length-append, drop-of-length-le}
 use lib.Seq.{sets, set-out, length-sets, sets-eq, take-all, drop-cons}
 use Rattle.order.specs.Pair.{Pair}
 use Rattle.order.specs.Pairs.{pair}
-use Rattle.nearest.specs.declared.Entry.{Entry}
-use Rattle.nearest.specs.Entries.{entriesOf}
+use Rattle.entries.specs.declared.Entry.{Entry}
+use Rattle.entries.specs.Entries.{entriesOf}
 use Rattle.text.specs.Text.{space, lineEnd, decimal, line, entryLine, entryLines}
 use Rattle.text.specs.TextLaws.{decimal-length}
 

@@ -1,7 +1,7 @@
 // An answer or a refusal as lines of text: decimal numbers with single spaces between them, each line ended by byte 10. What does not fit
 // into the buffer is not written; the index behind the text is that of the whole text, whether it fits or not.
+use entries::Entry;
 use limits::MAX_VECTORS;
-use nearest::Entry;
 use refusal::Refusal;
 ghost use mathlib.Core.Path.{_≡_};
 ghost use mathlib.Core.List.{[], _∷_, _++_};

@@ -3,8 +3,8 @@ use mathlib.Core.Path.{sym, _∙_}
 use lib.Seq.{length-take-le}
 use borrow.Author.Needs.{needs}
 use Rattle.refusal.specs.First.{outcome-accepted}
+use Rattle.order.proofs.Prefix.{back-within, shared-is}
 use Rattle.least_reading.specs.Bounding.{table-fits, summed, bounds}
-use Rattle.least_reading.specs.Buffers.{back-within, shared-is}
 use Rattle.least_reading.proofs.lower_bounds.Statement.{statement}
 use Rattle.least_reading.proofs.lower_bounds.Tie as tie
 

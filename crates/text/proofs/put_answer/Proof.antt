@@ -6,7 +6,7 @@ use native.Mathlib.Omega.{arith}
 use lib.ListN.{length, take}
 use borrow.Author.Needs.{needs}
 use Rattle.limits.specs.Limits.{maxVectors}
-use Rattle.nearest.specs.declared.Entry.{Entry}
+use Rattle.entries.specs.declared.Entry.{Entry}
 use Rattle.text.specs.Text.{entryLines}
 use Rattle.text.specs.Puts.{puts-length, puts-more, puts-same, pairsIn, first-of}
 use Rattle.text.proofs.put_answer.Statement.{statement}

@@ -8,7 +8,7 @@ use lib.Seq.{length-take-le, getD-take}
 use borrow.Author.Needs.{needs}
 use Rattle.limits.specs.Limits.{maxVectors}
 use Rattle.order.specs.Pairs.{pair}
-use Rattle.nearest.specs.declared.Entry.{Entry}
+use Rattle.entries.specs.declared.Entry.{Entry}
 use Rattle.text.specs.Text.{entryLine, entryLines}
 use Rattle.text.specs.Puts.{Puts, puts-length, puts-none, puts-more, puts-same, fieldRoom, pairsIn, linesFrom, lines-next, lines-none}
 use Rattle.text.proofs.put_entries.Statement.{statement}
