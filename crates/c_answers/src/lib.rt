@@ -5,7 +5,7 @@ use loading::Loaded;
 use reading::Intake;
 use reading::Reading;
 use region::Lookup;
-use search::search::Searched;
+use search::Searched;
 ghost use mathlib.Core.Path.{_≡_};
 ghost use Rattle.refusal.specs.Refusal.{verdictNumber};
 ghost use Rattle.reading.specs.Intake.{intakeOf};

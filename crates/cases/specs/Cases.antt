@@ -57,7 +57,7 @@ Holds (codes l) =
 Holds (makes l marks) =
     (first (makeCauses (l .d) (l .b) (l .n) (l .vectors) (length marks)) ≡ Accepted) × (madeMarks (l .d) (l .b) (l .n) (l .vectors) ≡ marks)
 Holds (finds l query k entries reads) =
-    (first (searchCauses l query k (roomOf k k (l .n))) ≡ Accepted) × (searched l query k ≡ record { best = entries; reads = reads })
+    (first (searchCauses l query k (roomOf k (l .n))) ≡ Accepted) × (searched l query k ≡ record { best = entries; reads = reads })
 
 abbrev pub All : List Case → Type 0
 All [] = Unit {0}
@@ -119,6 +119,31 @@ table =
 
 pub cases-hold : All table
 unfolding first intakeOf valueIntake rounded ofBits ofFields odd isNan keyOf below insert sort keyed ranked numbersOf countFrom ranking scan unread leastPair goesOn readNext reading read bitsOf firstBits firstMarks dimensionMarks regionOf column inOrder madeDimension madeFirst lowBits fromBits bytesOf byteBits joined packed codeRegion regionsFrom firstDistance shortest firstBound areComponents goodFirst notAbove goodDimension inMarks inRegion insideFrom allZero inFirst hasValue noneEmpty noEmptyCodes inOwnCells
-cases-hold =
-    (refl, (refl, (refl, (refl, (refl, (refl, (refl, (refl, (refl,
-    ((refl, refl), ((refl, refl), ((refl, refl), ((refl, refl), ((refl, refl), ((refl, refl), tt)))))))))))))))
+cases-hold = (
+  refl,
+  (
+    refl,
+    (
+      refl,
+      (
+        refl,
+        (
+          refl,
+          (
+            refl,
+            (
+              refl,
+              (
+                refl,
+                (
+                  refl,
+                  ((refl, refl), ((refl, refl), ((refl, refl), ((refl, refl), ((refl, refl), ((refl, refl), tt)))))),
+                ),
+              ),
+            ),
+          ),
+        ),
+      ),
+    ),
+  ),
+)

@@ -2,8 +2,7 @@
 use mathlib.Core.Path.{_≡_, refl, sym, _∙_}
 use mathlib.Core.Bool.{Bool, true, false, cond, and-eq-true-iff}
 use mathlib.Core.List.{List, [], _∷_, _++_, List·Memᴰ·head, List·Memᴰ·tail}
-use Prim.Native.Nat.{ℕ, suc, _%_, _^_, _≤_, _<_}
-use native.Mathlib.Nat.{mod-eq-of-lt}
+use Prim.Native.Nat.{ℕ, suc, _≤_, _<_}
 use native.Mathlib.Omega.{arith}
 use lib.IntN.{ℤ}
 use lib.ListN.{length, take, getD}
@@ -17,13 +16,9 @@ use Rattle.selection.specs.Loop.{Reached, after, after-next, reached-next}
 use Rattle.selection.specs.Steps.{next-read}
 use Rattle.best_pairs.specs.Gathered.{Gathers}
 use Rattle.best_pairs.specs.Holds.{Holds}
-use Rattle.cells.specs.Cells.{vectorAt, InCell}
-use Rattle.distance.specs.Small.{distance-small}
-use Rattle.distance.specs.CellComponents.{cell-components}
-use Rattle.search.specs.declared.search.Searched.{Searched}
-use Rattle.search.specs.declared.search.Searched.the-variants.{Read, Refused}
-use Rattle.search.specs.Search.{Library, Room, numbersIn, distanceIn, lowIn, inOwnCell, inOwnCells, searched}
-use Rattle.search.specs.Ready.{Ready, place}
+use Rattle.search.specs.declared.Searched.{Searched}
+use Rattle.search.specs.declared.Searched.the-variants.{Read, Refused}
+use Rattle.search.specs.Search.{Library, numbersIn, distanceIn, lowIn, inOwnCell, inOwnCells, searched}
 
 -- the outcome of reading: the answer, and the keys and numbers of the best
 pub record Reads (l : Library) (query : List ℤ) (k : ℕ) (r : Searched) (keys numbers : List ℕ) : Type 0 where
@@ -69,14 +64,6 @@ cells-fail l is {i} out m = go (inOwnCells l is) refl
     go : (b : Bool) → inOwnCells l is ≡ b → b ≡ false
     go false e = refl
     go true e = sym (cells-member l is e m) ∙ out
-
--- ---- a vector in its cell is measured exactly
-
-pub measured : {l : Library} {query : List ℤ} {k : ℕ} {room : Room} → Ready l query k room → (i : ℕ) → i < l .n → inOwnCell l i ≡ true
-    → distanceIn l query i % 2 ^ 64 ≡ distanceIn l query i
-measured {l} {query} is i below inside =
-    let cell : InCell (l .d) (l .b) (l .marks) (l .codes) i (vectorAt (l .d) (l .vectors) i) = record { components = place is i below .size; inside = inside } in
-    mod-eq-of-lt (distance-small query (is .components) _ (cell-components (l .d) (l .b) (l .marks) (is .marks) (l .codes) i cell) (l .d) (is .dimensions))
 
 -- ---- the loop
 

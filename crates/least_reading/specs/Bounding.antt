@@ -10,17 +10,17 @@ use Rattle.limits.specs.Limits.{maxVectors}
 use Rattle.codes.specs.Codes.{spareZero}
 use Rattle.cells.specs.Cells.{noEmptyCodes}
 use Rattle.bounds.specs.Bounded.{Bounding}
-use Rattle.search.specs.Search.{Library, Room}
+use Rattle.search.specs.Search.{Library}
 use Rattle.search.specs.Ready.{Ready}
 
-pub bounding : {l : Library} {query : List ℤ} {k : ℕ} {room : Room} → Ready l query k room → (n : ℕ) → n ≡ l .n
+pub bounding : {l : Library} {query : List ℤ} {k : ℕ} → Ready l query k → (n : ℕ) → n ≡ l .n
     → Bounding (l .d) (l .b) n query (l .marks) (l .codes)
 bounding {l} is n same = record {
   shaped = is .shaped;
   count = rw (same, le-leb 1 (l .n) (omega (arith, is .some, is .enough)), le-leb (l .n) maxVectors (is .count));
-  of-query = is .lengths .of-query;
-  of-marks = is .lengths .of-marks;
-  of-codes = rw same (is .lengths .of-codes);
+  of-query = is .of-query;
+  of-marks = is .of-marks;
+  of-codes = rw same (is .of-codes);
   components = is .components;
   good = is .marks;
   spare = rw same

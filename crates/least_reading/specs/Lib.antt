@@ -2,4 +2,4 @@ pub mod Answered
 pub mod Searching
 pub mod Buffers
 pub mod Bounding
-pub mod Celled
+pub mod Vector

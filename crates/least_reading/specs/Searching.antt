@@ -1,56 +1,63 @@
--- What the search gives: its answer, and what stands in the buffers that it was lent. Assumes nothing.
-use mathlib.Core.Path.{_≡_, refl, sym, _∙_}
+-- What the search gives: its answer, its entries, and the read list that it was lent. Assumes nothing.
+use mathlib.Core.Path.{_≡_, refl, sym, ap, _∙_}
 use mathlib.Core.Bool.{Bool, true, false, not, cond}
-use mathlib.Core.List.{List, [], _∷_, _++_}
+use mathlib.Core.List.{List, [], _∷_}
 use Prim.Native.Nat.{ℕ}
 use lib.IntN.{ℤ}
-use lib.ListN.{length, drop}
+use lib.ListN.{length, take}
 use Rattle.refusal.specs.declared.Refusal.{Refusal}
 use Rattle.refusal.specs.declared.Refusal.the-variants.{Cell}
 use Rattle.refusal.specs.declared.Verdict.{Verdict}
 use Rattle.refusal.specs.declared.Verdict.the-variants as verdict
-use Rattle.refusal.specs.First.{Row, _⇒_, first, outcome, first-append, outcome-accepted, outcome-refused}
-use Rattle.order.specs.Pair.{numbersOf}
-use Rattle.order.specs.Pairs.{keysOf}
-use Rattle.search.specs.declared.search.Searched.{Searched}
-use Rattle.search.specs.declared.search.Searched.the-variants.{Read, Refused}
+use Rattle.refusal.specs.First.{Row, _⇒_, first, first-append, outcome-accepted, outcome-refused}
+use Rattle.entries.specs.declared.Entry.{Entry}
+use Rattle.entries.specs.Entries.{entriesOf, inArray}
+use Rattle.entries.specs.EntryLaws.{entries-length, array-front}
+use Rattle.search.specs.declared.Found.{Found}
+use Rattle.search.specs.declared.Searched.the-variants.{Read, Refused}
+use Rattle.search.specs.Answer.{searchAnswer, searchEntries, searchReads}
+use Rattle.search.specs.Accepted.{Accepts, best-few, best-size}
 use Rattle.search.specs.Search.{Library, Room, inOwnCells, searched, entryCauses, searchCauses}
 
--- the outcome of a verdict: the answer, and the three buffers, each of which a refusal leaves as it was
-pub record Searches (v : Verdict) (l : Library) (query : List ℤ) (k : ℕ) (r : Searched)
-    (numbers distances reads numbers-then distances-then reads-then : List ℕ) : Type 0 where
-  pub answer : r ≡ outcome v (Read (length (searched l query k .reads))) Refused
-  pub numbers-are : numbers-then ≡ outcome v (numbersOf (searched l query k .best)) (λ _. numbers)
-  pub distances-are : distances-then ≡ outcome v (keysOf (searched l query k .best)) (λ _. distances)
-  pub reads-are :
-      reads-then ≡ outcome v (searched l query k .reads ++ drop (length (searched l query k .reads)) reads) (λ _. reads)
+-- the outcome of a verdict: the answer, its entries, and the read list, which a refusal leaves as it was
+pub record Searches (v : Verdict) (l : Library) (query : List ℤ) (k : ℕ) (r : Found) (reads reads-then : List ℕ) : Type 0 where
+  pub answer : r .answer ≡ searchAnswer v l query k
+  pub entries-are : r .entries ≡ inArray (searchEntries v l query k [])
+  pub reads-are : reads-then ≡ searchReads v l query k reads
+
+-- where nothing refuses, the first k entries are those of the best
+pub found-front : (l : Library) (query : List ℤ) (k : ℕ) (room : Room) {r : Found} {reads reads-then : List ℕ} → Accepts l query k room
+    → Searches (first (searchCauses l query k room)) l query k r reads reads-then → take k (r .entries) ≡ entriesOf (searched l query k .best)
+found-front l query k room held s =
+    ap (take k) (s .entries-are ∙ ap inArray (outcome-accepted _ _ held))
+    ∙ array-front (entriesOf (searched l query k .best)) k (entries-length (searched l query k .best) ∙ best-size l query k room held) (best-few l query k room held)
 
 -- the cause that is left behind the entry
 abbrev pub cellCauses : Library → List ℤ → ℕ → List Row
 cellCauses l query k = (not (inOwnCells l (searched l query k .reads)) ⇒ Cell) ∷ []
 
-pub entered : (l : Library) (query : List ℤ) (k : ℕ) (room : Room) → first (entryCauses l query k room) ≡ verdict.Accepted
+pub behind-entry : (l : Library) (query : List ℤ) (k : ℕ) (room : Room) → first (entryCauses l query k room) ≡ verdict.Accepted
     → first (searchCauses l query k room) ≡ first (cellCauses l query k)
-entered l query k room accepted = first-append (entryCauses l query k room) (cellCauses l query k) ∙ outcome-accepted _ _ accepted
+behind-entry l query k room accepted = first-append (entryCauses l query k room) (cellCauses l query k) ∙ outcome-accepted _ _ accepted
 
 -- the outcome of an equal verdict
-pub searches-by : {v w : Verdict} {l : Library} {query : List ℤ} {k : ℕ} {r : Searched} {numbers distances reads numbers-then distances-then reads-then : List ℕ} → w ≡ v
-    → Searches v l query k r numbers distances reads numbers-then distances-then reads-then
-    → Searches w l query k r numbers distances reads numbers-then distances-then reads-then
+pub searches-by : {v w : Verdict} {l : Library} {query : List ℤ} {k : ℕ} {r : Found} {reads reads-then : List ℕ} → w ≡ v
+    → Searches v l query k r reads reads-then → Searches w l query k r reads reads-then
 searches-by e s = rw e s
 
--- what a refusal at the entry leaves
-pub searches-refused : (l : Library) (query : List ℤ) (k : ℕ) (room : Room) {v : Verdict} (cause : Refusal) (numbers distances reads : List ℕ)
-    → v ≡ first (entryCauses l query k room) → v ≡ verdict.Refused cause
-    → Searches (first (searchCauses l query k room)) l query k (Refused cause) numbers distances reads numbers distances reads
-searches-refused l query k room cause numbers distances reads told is =
-    let refused = first-append (entryCauses l query k room) (cellCauses l query k) ∙ outcome-refused _ _ (sym told ∙ is) in
-    record {
-      answer = sym (outcome-refused _ _ refused);
-      numbers-are = sym (outcome-refused _ _ refused);
-      distances-are = sym (outcome-refused _ _ refused);
-      reads-are = sym (outcome-refused _ _ refused);
-    }
+-- what a refusal leaves
+pub searches-none : {v : Verdict} (l : Library) (query : List ℤ) (k : ℕ) (cause : Refusal) (entries : List Entry) (reads : List ℕ) → v ≡ verdict.Refused cause
+    → entries ≡ inArray [] → Searches v l query k (record { answer = Refused cause; entries = entries }) reads reads
+searches-none l query k cause entries reads refused none = record {
+  answer = sym (outcome-refused _ _ refused);
+  entries-are = none ∙ ap inArray (sym (outcome-refused _ _ refused));
+  reads-are = sym (outcome-refused _ _ refused);
+}
+
+-- a refusal at the entry is the search's
+pub refused-at-entry : (l : Library) (query : List ℤ) (k : ℕ) (room : Room) (cause : Refusal) → first (entryCauses l query k room) ≡ verdict.Refused cause
+    → first (searchCauses l query k room) ≡ verdict.Refused cause
+refused-at-entry l query k room cause refused = first-append (entryCauses l query k room) (cellCauses l query k) ∙ outcome-refused _ _ refused
 
 -- ---- what the answer of reading tells
 

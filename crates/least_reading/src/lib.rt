@@ -3,131 +3,135 @@ mod reading;
 
 use crate::reading::read_all;
 use bounds::sum::sum_bounds;
+use entries::entries_of;
+use entries::no_entries;
+use limits::MAX_NEIGHBOURS;
 use limits::MAX_VECTORS;
 use refusal::Verdict;
+use search::Found;
+use search::Searched;
+use search::Terms;
 use search::entry::check_entry;
-use search::search::Searched;
-use search::search::found;
-use search::search::read_count;
+use search::found_count;
+use search::read_count;
 use step::Bound;
 use table::MAX_TABLE;
 use table::fill_steps;
 ghost use mathlib.Core.Path.{_≡_};
-ghost use mathlib.Core.List.{_++_};
+ghost use mathlib.Core.List.{[], _++_};
 ghost use Prim.Native.Nat.{_≤_};
 ghost use lib.ListN.{length, take, drop};
 ghost use Rattle.refusal.specs.declared.Verdict.the-variants.{Accepted};
 ghost use Rattle.refusal.specs.First.{first};
 ghost use Rattle.layout.specs.Layout.{firstMarks};
 ghost use Rattle.layout.specs.Stretch.{shapeCauses};
-ghost use Rattle.search.specs.Search.{searchCauses};
+ghost use Rattle.selection.specs.Reading.{readingOrder};
 ghost use Rattle.distance.specs.Bounds.{lowerOf};
 ghost use Rattle.distance.specs.Values.{valuesFrom};
 ghost use Rattle.step.specs.Step.{stepOf};
 ghost use Rattle.table.specs.Table.{tableOf};
 ghost use Rattle.bounds.specs.Bounded.{Bounding};
+ghost use Rattle.search.specs.Search.{numbersIn, lowIn, searchCauses};
 ghost use Rattle.search.specs.Ready.{library, roomOf, Ready};
 ghost use Rattle.least_reading.specs.Searching.{Searches, cellCauses};
 
-// The k nearest of n vectors, by number and distance, and the numbers of the vectors that were read, in reading order; the answer is how
-// many those are. What is not written of `reads` keeps its content, and a refusal changes nothing.
-pub fn search(
-    d: usize,
-    b: usize,
-    n: usize,
-    k: usize,
+// The k nearest of n vectors, and the numbers of the vectors that were read, in reading order; the answer is how many those are. What is
+// not written of `reads` keeps its content, and a refusal changes nothing.
+pub fn nearest_by_bounds(
+    terms: Terms,
     query: &[i32],
     marks: &[i32],
     codes: &[u8],
     vectors: &[i32],
-    numbers: &mut [u32],
-    distances: &mut [u64],
+    entries: usize,
     reads: &mut [u32],
-) -> Searched
-    ensures { λ r. let l = library d b n (now (marks .entry)) (now (codes .entry)) (now (vectors .entry)) in
-        let room = roomOf (length (now (numbers .entry))) (length (now (distances .entry))) (length (now (reads .entry))) in
-        ⌜ Searches (first (searchCauses l (now (query .entry)) k room)) l (now (query .entry)) k r
-        (now (numbers .entry)) (now (distances .entry)) (now (reads .entry))
-        (now (numbers .exit)) (now (distances .exit)) (now (reads .exit)) ⌝ }
+) -> Found
+    ensures { λ r. let l = library terms (now (marks .entry)) (now (codes .entry)) (now (vectors .entry)) in
+        let room = roomOf entries (length (now (reads .entry))) in
+        ⌜ Searches (first (searchCauses l (now (query .entry)) (terms .k) room)) l (now (query .entry)) (terms .k) r
+        (now (reads .entry)) (now (reads .exit)) ⌝ }
 {
-    let verdict = check_entry(
-        d,
-        b,
-        n,
-        k,
-        query,
-        marks,
-        codes,
-        vectors,
-        numbers.len(),
-        distances.len(),
-        reads.len(),
-    );
+    let verdict = check_entry(terms, query, marks, codes, vectors, entries, reads.len());
     match verdict {
-        Verdict::Accepted => search_ready(
-            d,
-            b,
-            n,
-            k,
-            query,
-            marks,
-            codes,
-            vectors,
-            numbers,
-            distances,
-            reads,
-        ),
-        Verdict::Refused(cause) => Searched::Refused(cause),
+        Verdict::Accepted => search_ready(terms, query, marks, codes, vectors, reads),
+        Verdict::Refused(cause) => Found {
+            answer: Searched::Refused(cause),
+            entries: no_entries(),
+        },
     }
 }
 
-// The search where nothing refuses at its entry. It works in arrays of its own, and copies nothing out where a vector read refuses.
+// The search where nothing refuses at its entry, in arrays for the most vectors of a library.
 fn search_ready(
-    d: usize,
-    b: usize,
-    n: usize,
-    k: usize,
+    terms: Terms,
     query: &[i32],
     marks: &[i32],
     codes: &[u8],
     vectors: &[i32],
-    numbers: &mut [u32],
-    distances: &mut [u64],
     reads: &mut [u32],
-) -> Searched
-    requires { ⌜ Ready (library d b n (now marks) (now codes) (now vectors)) (now query) k
-        (roomOf (length (now numbers)) (length (now distances)) (length (now reads))) ⌝ }
-    ensures { λ r. ⌜ Searches (first (cellCauses (library d b n (now (marks .entry)) (now (codes .entry)) (now (vectors .entry))) (now (query .entry)) k))
-        (library d b n (now (marks .entry)) (now (codes .entry)) (now (vectors .entry))) (now (query .entry)) k r
-        (now (numbers .entry)) (now (distances .entry)) (now (reads .entry))
-        (now (numbers .exit)) (now (distances .exit)) (now (reads .exit)) ⌝ }
+) -> Found
+    requires { ⌜ (Ready (library terms (now marks) (now codes) (now vectors)) (now query) (terms .k)) × (length (now reads) ≡ terms .n) ⌝ }
+    ensures { λ r. let l = library terms (now (marks .entry)) (now (codes .entry)) (now (vectors .entry)) in
+        ⌜ Searches (first (cellCauses l (now (query .entry)) (terms .k))) l (now (query .entry)) (terms .k) r
+        (now (reads .entry)) (now (reads .exit)) ⌝ }
 {
+    let n = terms.n;
     let mut lows = [0u64; MAX_VECTORS];
-    lower_bounds(d, b, query, marks, codes, &mut lows[..n]);
+    lower_bounds(terms.d, terms.b, query, marks, codes, &mut lows[..n]);
     let mut order = [0u32; MAX_VECTORS];
     ranking::rank(&lows[..n], &mut order[..n]);
-    let mut keys = [0u64; MAX_VECTORS];
-    let mut best = [0u32; MAX_VECTORS];
-    let answer = read_all(
-        d,
-        b,
-        n,
-        k,
+    search_ranked(
+        terms,
         query,
         marks,
         codes,
         vectors,
         &lows[..n],
         &order[..n],
+        reads,
+    )
+}
+
+// The same with the lower bounds and the vectors' numbers in their order. Nothing is written where a vector that is read refuses.
+fn search_ranked(
+    terms: Terms,
+    query: &[i32],
+    marks: &[i32],
+    codes: &[u8],
+    vectors: &[i32],
+    lows: &[u64],
+    order: &[u32],
+    reads: &mut [u32],
+) -> Found
+    requires { ⌜ (Ready (library terms (now marks) (now codes) (now vectors)) (now query) (terms .k)) × (length (now reads) ≡ terms .n) ⌝ }
+    requires { ⌜ now lows ≡ valuesFrom (lowIn (library terms (now marks) (now codes) (now vectors)) (now query)) 0 (terms .n) ⌝ }
+    requires { let l = library terms (now marks) (now codes) (now vectors) in
+        ⌜ now order ≡ readingOrder (lowIn l (now query)) (numbersIn l) ⌝ }
+    ensures { λ r. let l = library terms (now (marks .entry)) (now (codes .entry)) (now (vectors .entry)) in
+        ⌜ Searches (first (cellCauses l (now (query .entry)) (terms .k))) l (now (query .entry)) (terms .k) r
+        (now (reads .entry)) (now (reads .exit)) ⌝ }
+{
+    let k = terms.k;
+    let mut keys = [0u64; MAX_NEIGHBOURS];
+    let mut best = [0u32; MAX_NEIGHBOURS];
+    let answer = read_all(
+        terms,
+        query,
+        marks,
+        codes,
+        vectors,
+        lows,
+        order,
         &mut keys[..k],
         &mut best[..k],
     );
-    let kept = found(answer, k);
     let count = read_count(answer);
-    put_numbers(&best[..k], kept, numbers);
-    put_keys(&keys[..k], kept, distances);
-    put_numbers(&order[..n], count, reads);
-    answer
+    put_numbers(order, count, reads);
+    let kept = found_count(answer, k);
+    Found {
+        answer,
+        entries: entries_of(&keys[..kept], &best[..kept]),
+    }
 }
 
 // The lower bounds of the codes' cells.
@@ -170,18 +174,6 @@ fn put_numbers(numbers: &[u32], count: usize, out: &mut [u32])
     let mut i = 0;
     while i < count {
         out[i] = numbers[i];
-        i += 1;
-    }
-}
-
-// Writes the first keys over the first of a buffer.
-fn put_keys(keys: &[u64], count: usize, out: &mut [u64])
-    requires { ⌜ (count ≤ length (now keys)) × (count ≤ length (now out)) ⌝ }
-    ensures { λ _. ⌜ now (out .exit) ≡ take count (now (keys .entry)) ++ drop count (now (out .entry)) ⌝ }
-{
-    let mut i = 0;
-    while i < count {
-        out[i] = keys[i];
         i += 1;
     }
 }

@@ -26,6 +26,17 @@ maxVectors = 512
 abbrev pub isVectorCount : ℕ → Bool
 isVectorCount n = leb 1 n && leb n maxVectors
 
+-- "k is 1 to n", so it is never above 512: arrays of entries have room for so many
+abbrev pub maxNeighbours : ℕ
+maxNeighbours = 512
+
+abbrev pub isNeighbourCount : ℕ → ℕ → Bool
+isNeighbourCount n k = leb 1 k && leb k n
+
+-- the most vectors of a library that the kit program takes
+abbrev pub kitVectors : ℕ
+kitVectors = 512
+
 -- a component is a whole number from -32768 to 32767
 abbrev pub leastComponent : ℤ
 leastComponent = negsuc 32767

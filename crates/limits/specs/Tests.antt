@@ -9,6 +9,7 @@ use borrow.Author.Tests.{leb-true, leb-false, le-leb, lt-leb}
 use lib.Dec.{leb, ltb}
 use lib.IntN.{ℤ, pos, negsuc}
 use lib.Signed.{ltZ, leZ}
+use Rattle.limits.specs.Limits.{maxVectors, maxNeighbours, isVectorCount, isNeighbourCount}
 
 -- two tests that hold together and fail together
 pub same-leb : (a b c d : ℕ) → (a ≤ b → c ≤ d) → (b < a → d < c) → leb a b ≡ leb c d
@@ -58,6 +59,18 @@ between low x high holds = go (leb low x) refl holds
     go false e holds =
         let impossible : _≡_ {A = ℕ} 0 1 = cc in
         absurd (omega arith)
+
+-- a number of neighbours among a number of vectors: no more than the vectors, and than the most neighbours
+pub record Neighbours (n k : ℕ) : Type 0 where
+  pub some : 1 ≤ k
+  pub enough : k ≤ n
+  pub few : k ≤ maxNeighbours
+
+pub neighbours : (n k : ℕ) → isVectorCount n ≡ true → isNeighbourCount n k ≡ true → Neighbours n k
+neighbours n k counted holds =
+    let vectors = between 1 n maxVectors counted in
+    let among = between 1 k n holds in
+    record { some = among .above; enough = among .below; few = omega (arith, vectors .below, among .below) }
 
 -- ---- tests that all hold, up to a number
 

@@ -3,7 +3,7 @@
 ghost use mathlib.Core.Path.{_≡_};
 ghost use mathlib.Core.Bool.{_&&_};
 ghost use lib.Dec.{leb};
-ghost use Rattle.limits.specs.Limits.{isDimensionCount, isBits, isVectorCount};
+ghost use Rattle.limits.specs.Limits.{isDimensionCount, isBits, isVectorCount, isNeighbourCount};
 
 // Dimension count d is 1 to MAX_DIMENSIONS, total bits b at most MAX_DIMENSION_BITS for each dimension, vector count n 1 to
 // MAX_VECTORS.
@@ -12,6 +12,10 @@ pub const MAX_DIMENSIONS: usize = 32;
 pub const MAX_DIMENSION_BITS: usize = 6;
 
 pub const MAX_VECTORS: usize = 512;
+// The most neighbours, k, that a search or a scan can give: no k is above it, and arrays of entries have room for so many.
+pub const MAX_NEIGHBOURS: usize = 512;
+// The most vectors of a library that the kit program takes.
+pub const KIT_VECTORS: usize = 512;
 // A component is a whole number from LEAST_COMPONENT to GREATEST_COMPONENT.
 pub const LEAST_COMPONENT: i32 = -32768;
 
@@ -44,6 +48,13 @@ pub fn is_vector_count(n: usize) -> bool
     ensures { λ r. ⌜ r ≡ isVectorCount n ⌝ }
 {
     is_between(1, n, MAX_VECTORS)
+}
+
+// Whether k neighbours can be asked for among n vectors.
+pub fn is_neighbour_count(n: usize, k: usize) -> bool
+    ensures { λ r. ⌜ r ≡ isNeighbourCount n k ⌝ }
+{
+    is_between(1, k, n)
 }
 
 // Whether a number is from low to high.

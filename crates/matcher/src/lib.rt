@@ -1,9 +1,9 @@
 // The matcher's C interface: thin functions over the public calls. A float is passed as its 32 bits, or as itself.
 pub mod approximations;
 pub mod distances;
-pub mod entries;
 pub mod files;
 pub mod marks;
+pub mod neighbours;
 pub mod program;
 
 use reading::Reading;

@@ -111,23 +111,22 @@ module _ (bytes : List ℕ) (accepted : first (libraryCauses (readLibrary bytes)
       )
 
   pub searches : (query : List ℤ) (k : ℕ) → length query ≡ l .d → areComponents query ≡ true → leb 1 k && leb k (l .n) ≡ true
-      → first (searchCauses (searchable l) query k (roomOf k k (l .n))) ≡ Accepted
+      → first (searchCauses (searchable l) query k (roomOf k (l .n))) ≡ Accepted
   searches query k size components neighbours =
       let s = searchable l in
       let own = packed-own bytes accepted in
-      accepts s query k (roomOf k k (l .n))
+      accepts s query k (roomOf k (l .n))
       (record {
         dimensions = dimensions;
         bits = bits;
         count = loaded-count bytes accepted;
         neighbours = neighbours;
-        lengths = lengths-exact s query k (roomOf k k (l .n)) (record {
+        lengths = lengths-exact s query k (roomOf k (l .n)) (record {
           of-query = size;
           of-marks = marks-count bytes accepted;
           of-codes = length-packed (l .d) (l .b) (l .n) _;
           of-vectors = components-count bytes accepted;
-          of-numbers = refl;
-          of-distances = refl;
+          of-entries = refl;
           of-reads = refl;
         });
         components = components;

@@ -7,15 +7,15 @@ use native.Mathlib.Omega.{arith}
 use lib.IntN.{ℤ}
 use lib.ListN.{length, getD, take, drop, drop-of-length-le}
 use lib.Seq.{drop-cons}
-use Rattle.limits.specs.Limits.{maxVectors}
+use Rattle.limits.specs.Limits.{maxNeighbours}
 use Rattle.order.specs.Pair.{Pair}
 use Rattle.order.specs.Pairs.{pair}
 use Rattle.order.specs.Members.{_∈_}
 use Rattle.order.specs.Counted.{counted}
 use Rattle.selection.specs.Theorems.{reads-among, best-entries}
 use Rattle.search.specs.Search.{Library as Searchable, numbersIn, distanceIn, lowIn, searched}
-use Rattle.nearest.specs.declared.Entry.{Entry}
-use Rattle.nearest.specs.Entries.{entriesOf}
+use Rattle.entries.specs.declared.Entry.{Entry}
+use Rattle.entries.specs.Entries.{entriesOf}
 use Rattle.matching.specs.Answer.{entryLine, entryLines}
 
 -- entries as pairs
@@ -30,7 +30,7 @@ pairs-back (p ∷ ps) = ap {B = List Pair} (λ rest. p ∷ rest) (pairs-back ps)
 
 -- the first k of an array's entries are there, and there are settings for the number of each
 pub record Listed (k : ℕ) (settings : List ℕ) (entries : List Entry) : Type 0 where
-  pub few : k ≤ maxVectors
+  pub few : k ≤ maxNeighbours
   pub named : (p : Pair) → p ∈ pairsIn (take k entries) → p .number < length settings
 
 pub number-below : (n : ℕ) (es : List Entry) (none : Entry) → ((p : Pair) → p ∈ pairsIn es → p .number < n) → (i : ℕ) → i < length es

@@ -47,7 +47,7 @@ queryText l k bytes = outcome (first (queryCauses (l .d) bytes)) (answerText l (
 pub record Ready (l : Library) : Type 0 where
   pub of-packing : first (packVectorsCauses (l .d) (l .b) (l .n) (l .components) (l .marks) (codeLength (l .b) (l .n))) ≡ Accepted
   pub of-search : (query : List ℤ) (k : ℕ) → length query ≡ l .d → areComponents query ≡ true → leb 1 k && leb k (l .n) ≡ true
-      → first (searchCauses (searchable l) query k (roomOf k k (l .n))) ≡ Accepted
+      → first (searchCauses (searchable l) query k (roomOf k (l .n))) ≡ Accepted
   pub of-settings : length (l .settings) ≡ l .n
 
 pub ready : (input : List ℕ) → first (libraryCauses (readLibrary input) input) ≡ Accepted → Ready (readLibrary input)

@@ -1,10 +1,11 @@
 // The answer of a match: the nearest vectors of a loaded library, as text.
-use crate::found::find;
 use crate::lines::put_answer;
+use least_reading::nearest_by_bounds;
+use limits::KIT_VECTORS;
 use limits::MAX_DIMENSION_BITS;
 use limits::MAX_DIMENSIONS;
-use limits::MAX_VECTORS;
-use search::search::read_count;
+use search::Terms;
+use search::read_count;
 ghost use mathlib.Core.Path.{_≡_};
 ghost use Prim.Native.Nat.{_≤_};
 ghost use lib.ListN.{length};
@@ -19,7 +20,7 @@ ghost use Rattle.text.specs.Puts.{Puts};
 ghost use Rattle.matching.specs.Answer.{searchable, answerLines, answerText};
 
 // The most bytes that codes have.
-const CODES_ROOM: usize = MAX_VECTORS * MAX_DIMENSION_BITS * MAX_DIMENSIONS / 8;
+const CODES_ROOM: usize = KIT_VECTORS * MAX_DIMENSION_BITS * MAX_DIMENSIONS / 8;
 
 // The text of the answer to a query.
 pub(crate) fn answer(
@@ -34,7 +35,8 @@ pub(crate) fn answer(
     text: &mut [u8],
 ) -> usize
     requires { ⌜ first (packVectorsCauses d b n (now components) (now marks) (codeLength b n)) ≡ Accepted ⌝ }
-    requires { ⌜ first (searchCauses (searchable (libraryWith d b n (now marks) (now settings) (now components))) (now query) k (roomOf k k n)) ≡ Accepted ⌝ }
+    requires { ⌜ first (searchCauses (searchable (libraryWith d b n (now marks) (now settings) (now components))) (now query) k (roomOf k n))
+        ≡ Accepted ⌝ }
     requires { ⌜ length (now settings) ≡ n ⌝ }
     requires { ⌜ length (answerText (libraryWith d b n (now marks) (now settings) (now components)) (now query) k) ≤ length (now text) ⌝ }
     ensures { λ r. ⌜ Puts (answerText (libraryWith d b n (now (marks .entry)) (now (settings .entry)) (now (components .entry))) (now (query .entry)) k) 0
@@ -44,10 +46,7 @@ pub(crate) fn answer(
     let mut codes = [0u8; CODES_ROOM];
     approximation::pack_vectors(d, b, n, components, marks, &mut codes[..size]);
     answer_coded(
-        d,
-        b,
-        n,
-        k,
+        Terms { d, b, n, k },
         query,
         marks,
         &codes[..size],
@@ -59,10 +58,7 @@ pub(crate) fn answer(
 
 // The text of the answer to a query, with the codes of the vectors.
 fn answer_coded(
-    d: usize,
-    b: usize,
-    n: usize,
-    k: usize,
+    terms: Terms,
     query: &[i32],
     marks: &[i32],
     codes: &[u8],
@@ -70,16 +66,19 @@ fn answer_coded(
     components: &[i32],
     text: &mut [u8],
 ) -> usize
-    requires { ⌜ first (searchCauses (library d b n (now marks) (now codes) (now components)) (now query) k (roomOf k k n)) ≡ Accepted ⌝ }
-    requires { ⌜ length (now settings) ≡ n ⌝ }
-    requires { ⌜ length (answerLines (now settings) k
-        (searched (library d b n (now marks) (now codes) (now components)) (now query) k)) ≤ length (now text) ⌝ }
-    ensures { λ r. ⌜ Puts (answerLines (now (settings .entry)) k
-        (searched (library d b n (now (marks .entry)) (now (codes .entry)) (now (components .entry))) (now (query .entry)) k)) 0
+    requires { ⌜ first (searchCauses (library terms (now marks) (now codes) (now components)) (now query) (terms .k)
+        (roomOf (terms .k) (terms .n))) ≡ Accepted ⌝ }
+    requires { ⌜ length (now settings) ≡ terms .n ⌝ }
+    requires { ⌜ length (answerLines (now settings) (terms .k)
+        (searched (library terms (now marks) (now codes) (now components)) (now query) (terms .k))) ≤ length (now text) ⌝ }
+    ensures { λ r. ⌜ Puts (answerLines (now (settings .entry)) (terms .k)
+        (searched (library terms (now (marks .entry)) (now (codes .entry)) (now (components .entry))) (now (query .entry)) (terms .k))) 0
         (now (text .entry)) (now (text .exit)) r ⌝ }
 {
-    let mut reads = [0u32; MAX_VECTORS];
-    let found = find(d, b, n, k, query, marks, codes, components, &mut reads[..n]);
+    let n = terms.n;
+    let k = terms.k;
+    let mut reads = [0u32; KIT_VECTORS];
+    let found = nearest_by_bounds(terms, query, marks, codes, components, k, &mut reads[..n]);
     let answer = found.answer;
     let entries = found.entries;
     put_answer(k, read_count(answer), settings, entries, text)

@@ -1,6 +1,6 @@
 // The text of an answer, and that of a refusal.
-use limits::MAX_VECTORS;
-use nearest::Entry;
+use entries::Entry;
+use limits::MAX_NEIGHBOURS;
 use refusal::Refusal;
 use text::put_refused;
 use text::put_three;
@@ -16,7 +16,7 @@ pub(crate) fn put_answer(
     k: usize,
     count: usize,
     settings: &[u32],
-    entries: [Entry; MAX_VECTORS],
+    entries: [Entry; MAX_NEIGHBOURS],
     text: &mut [u8],
 ) -> usize
     requires { ⌜ Listed k (now settings) entries ⌝ }
@@ -32,7 +32,7 @@ pub(crate) fn put_answer(
 fn put_entries(
     k: usize,
     settings: &[u32],
-    entries: [Entry; MAX_VECTORS],
+    entries: [Entry; MAX_NEIGHBOURS],
     text: &mut [u8],
     at: usize,
 ) -> usize

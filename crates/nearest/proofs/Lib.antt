@@ -1,3 +1,3 @@
 pub mod Turn
-pub mod Local
+pub mod InArray
 pub mod ToFill

@@ -1,61 +1,35 @@
-// The nearest vectors as entries: the full scan and the search as other programs call them. Each is thin over `arrays`.
+// The nearest vectors as entries: the full scan and the search as other programs call them. Each is thin over its covered core.
 mod fill;
 
-use limits::MAX_VECTORS;
+use entries::Entry;
 use refusal::Verdict;
-use search::search::Searched;
+use scan::ScanTerms;
+use search::Searched;
+use search::Terms;
 ghost use mathlib.Core.Path.{_≡_};
 ghost use lib.ListN.{length};
-ghost use Rattle.refusal.specs.First.{first, outcome};
+ghost use Rattle.refusal.specs.First.{first};
+ghost use Rattle.scan.specs.Scanning.{scanCauses, scannedEntries};
 ghost use Rattle.search.specs.Search.{searchCauses};
-ghost use Rattle.scan.specs.Scanning.{scanAnswer, scanCauses};
-ghost use Rattle.search.specs.Ready.{library};
-ghost use Rattle.nearest.specs.Entries.{entriesOf, entryRoom};
-ghost use Rattle.nearest.specs.Finding.{Finds};
-
-// A vector's number and its distance from the query.
-#[repr(C)]
-pub struct Entry {
-    pub number: u32,
-    pub distance: u64,
-}
+ghost use Rattle.search.specs.Answer.{searchAnswer, searchEntries, searchReads};
+ghost use Rattle.search.specs.Ready.{library, roomOf};
 
 // The k of n vectors that are nearest to a query of d components, nearest first, ties by lower number. The vectors stand in a row.
-pub fn scan(
-    d: usize,
-    n: usize,
-    k: usize,
-    query: &[i32],
-    vectors: &[i32],
-    entries: &mut [Entry],
-) -> Verdict
-    ensures { λ r. let v = first (scanCauses d n k (now (query .entry)) (now (vectors .entry)) (length (now (entries .entry))) (length (now (entries .entry)))) in
-        ⌜ (r ≡ v) × (now (entries .exit) ≡ outcome v (entriesOf (scanAnswer d n k (now (query .entry)) (now (vectors .entry)))) (λ _. now (entries .entry))) ⌝ }
+pub fn scan(terms: ScanTerms, query: &[i32], vectors: &[i32], entries: &mut [Entry]) -> Verdict
+    ensures { λ r. let v = first (scanCauses terms (now (query .entry)) (now (vectors .entry)) (length (now (entries .entry)))) in
+        ⌜ (r ≡ v) × (now (entries .exit) ≡ scannedEntries v terms (now (query .entry)) (now (vectors .entry)) (now (entries .entry))) ⌝ }
 {
-    let mut numbers = [0u32; MAX_VECTORS];
-    let mut distances = [0u64; MAX_VECTORS];
-    let verdict = arrays::scan(
-        d,
-        n,
-        k,
-        query,
-        vectors,
-        entries.len(),
-        &mut numbers,
-        &mut distances,
-    );
-    let count = arrays::accepted(verdict, k);
-    fill::fill(entries, &numbers, &distances, count);
+    let scanned = scan::nearest_by_scan(terms, query, vectors, entries.len());
+    let verdict = scanned.verdict;
+    let count = scan::accepted_count(verdict, terms.k);
+    fill::fill(entries, scanned.entries, count);
     verdict
 }
 
 // The same by the search, and the numbers of the vectors that were read, in reading order; the answer is how many those are. What is not
 // written of `reads` keeps its content, and a refusal changes nothing.
 pub fn search(
-    d: usize,
-    b: usize,
-    n: usize,
-    k: usize,
+    terms: Terms,
     query: &[i32],
     marks: &[i32],
     codes: &[u8],
@@ -63,27 +37,23 @@ pub fn search(
     entries: &mut [Entry],
     reads: &mut [u32],
 ) -> Searched
-    ensures { λ r. let l = library d b n (now (marks .entry)) (now (codes .entry)) (now (vectors .entry)) in
-        ⌜ Finds (first (searchCauses l (now (query .entry)) k (entryRoom (length (now (entries .entry))) (length (now (reads .entry)))))) l (now (query .entry)) k r
-        (now (entries .entry)) (now (reads .entry)) (now (entries .exit)) (now (reads .exit)) ⌝ }
+    ensures { λ r. let l = library terms (now (marks .entry)) (now (codes .entry)) (now (vectors .entry)) in
+        let v = first (searchCauses l (now (query .entry)) (terms .k) (roomOf (length (now (entries .entry))) (length (now (reads .entry))))) in
+        ⌜ (r ≡ searchAnswer v l (now (query .entry)) (terms .k))
+        × (now (entries .exit) ≡ searchEntries v l (now (query .entry)) (terms .k) (now (entries .entry)))
+        × (now (reads .exit) ≡ searchReads v l (now (query .entry)) (terms .k) (now (reads .entry))) ⌝ }
 {
-    let mut numbers = [0u32; MAX_VECTORS];
-    let mut distances = [0u64; MAX_VECTORS];
-    let answer = arrays::search(
-        d,
-        b,
-        n,
-        k,
+    let found = least_reading::nearest_by_bounds(
+        terms,
         query,
         marks,
         codes,
         vectors,
         entries.len(),
-        &mut numbers,
-        &mut distances,
         reads,
     );
-    let count = search::search::found(answer, k);
-    fill::fill(entries, &numbers, &distances, count);
+    let answer = found.answer;
+    let count = search::found_count(answer, terms.k);
+    fill::fill(entries, found.entries, count);
     answer
 }

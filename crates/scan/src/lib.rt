@@ -1,71 +1,81 @@
 // The full scan: the vectors nearest to a query, by all their distances.
+use entries::Entry;
+use entries::entries_of;
+use entries::no_entries;
+use limits::MAX_NEIGHBOURS;
 use limits::MAX_VECTORS;
 use refusal::Refusal;
 use refusal::Verdict;
 ghost use mathlib.Core.Path.{_≡_};
 ghost use mathlib.Core.Bool.{_&&_};
-ghost use Prim.Native.Nat.{_*_, _^_, _≤_, _<_};
+ghost use mathlib.Core.List.{[]};
+ghost use Prim.Native.Nat.{_*_, _^_, _<_};
 ghost use lib.Dec.{eqb};
 ghost use lib.ListN.{length};
 ghost use Rattle.refusal.specs.First.{first, outcome};
+ghost use Rattle.limits.specs.Tests.{Neighbours};
 ghost use Rattle.whole.specs.Components.{areComponents};
-ghost use Rattle.order.specs.Pair.{numbersOf};
-ghost use Rattle.order.specs.Pairs.{keysOf};
 ghost use Rattle.distance.specs.Values.{valuesFrom};
-ghost use Rattle.scan.specs.Scanning.{distancesOf, scanAnswer, scanCauses};
+ghost use Rattle.entries.specs.Entries.{entriesOf, inArray};
+ghost use Rattle.scan.specs.Scanning.{distancesOf, scanAnswer, scanCauses, scannedEntries};
 ghost use Rattle.scan.specs.Scanned.{Vectors};
 
-// The k of n vectors that are nearest to a query of d components, nearest first, ties by lower number: their numbers and their
-// distances. The vectors stand in a row.
-pub fn scan(
-    d: usize,
-    n: usize,
-    k: usize,
-    query: &[i32],
-    vectors: &[i32],
-    numbers: &mut [u32],
-    distances: &mut [u64],
-) -> Verdict
-    ensures { λ r. ⌜ r ≡ first (scanCauses d n k (now (query .entry)) (now (vectors .entry)) (length (now (numbers .entry))) (length (now (distances .entry)))) ⌝ }
-    ensures { λ _. ⌜ now (numbers .exit)
-        ≡ outcome (first (scanCauses d n k (now (query .entry)) (now (vectors .entry)) (length (now (numbers .entry))) (length (now (distances .entry)))))
-        (numbersOf (scanAnswer d n k (now (query .entry)) (now (vectors .entry)))) (λ _. now (numbers .entry)) ⌝ }
-    ensures { λ _. ⌜ now (distances .exit)
-        ≡ outcome (first (scanCauses d n k (now (query .entry)) (now (vectors .entry)) (length (now (numbers .entry))) (length (now (distances .entry)))))
-        (keysOf (scanAnswer d n k (now (query .entry)) (now (vectors .entry)))) (λ _. now (distances .entry)) ⌝ }
+// The numbers of a scan: of dimensions, of vectors and of neighbours.
+pub struct ScanTerms {
+    pub d: usize,
+    pub n: usize,
+    pub k: usize,
+}
+
+// What a scan answers: its verdict, and the entries at the front of an array, with blank ones behind them.
+pub struct Scanned {
+    pub verdict: Verdict,
+    pub entries: [Entry; MAX_NEIGHBOURS],
+}
+
+// The k of n vectors that are nearest to a query of d components, nearest first, ties by lower number, where so many entries are lent for
+// them. The vectors stand in a row.
+pub fn nearest_by_scan(terms: ScanTerms, query: &[i32], vectors: &[i32], entries: usize) -> Scanned
+    ensures { λ r. let v = first (scanCauses terms (now (query .entry)) (now (vectors .entry)) entries) in
+        ⌜ (r .verdict ≡ v) × (r .entries ≡ inArray (scannedEntries v terms (now (query .entry)) (now (vectors .entry)) [])) ⌝ }
 {
-    let verdict = check_scan(d, n, k, query, vectors, numbers.len(), distances.len());
+    let verdict = check_scan(terms, query, vectors, entries);
     match verdict {
-        Verdict::Accepted => {
-            scan_all(d, n, query, vectors, numbers, distances);
-            Verdict::Accepted
-        }
-        Verdict::Refused(cause) => Verdict::Refused(cause),
+        Verdict::Accepted => Scanned {
+            verdict: Verdict::Accepted,
+            entries: scan_ready(terms, query, vectors),
+        },
+        Verdict::Refused(cause) => Scanned {
+            verdict: Verdict::Refused(cause),
+            entries: no_entries(),
+        },
     }
 }
 
-// Whether the vectors can be scanned, for buffers of these lengths.
-fn check_scan(
-    d: usize,
-    n: usize,
-    k: usize,
-    query: &[i32],
-    vectors: &[i32],
-    numbers: usize,
-    distances: usize,
-) -> Verdict
-    ensures { λ r. ⌜ r ≡ first (scanCauses d n k (now (query .entry)) (now (vectors .entry)) numbers distances) ⌝ }
+// How many of k entries a verdict on a scan leaves to fill.
+pub fn accepted_count(verdict: Verdict, k: usize) -> usize
+    ensures { λ r. ⌜ r ≡ outcome verdict k (λ _. 0) ⌝ }
 {
-    if !limits::is_dimension_count(d) {
+    match verdict {
+        Verdict::Accepted => k,
+        Verdict::Refused(_) => 0,
+    }
+}
+
+// Whether the vectors can be scanned, for so many entries.
+fn check_scan(terms: ScanTerms, query: &[i32], vectors: &[i32], entries: usize) -> Verdict
+    ensures { λ r. ⌜ r ≡ first (scanCauses terms (now (query .entry)) (now (vectors .entry)) entries) ⌝ }
+{
+    if !limits::is_dimension_count(terms.d) {
         return Verdict::Refused(Refusal::Dimension);
     }
-    if !limits::is_vector_count(n) {
+    if !limits::is_vector_count(terms.n) {
         return Verdict::Refused(Refusal::Count);
     }
-    if !limits::is_between(1, k, n) {
+    if !limits::is_neighbour_count(terms.n, terms.k) {
         return Verdict::Refused(Refusal::Neighbours);
     }
-    if !exact_lengths(d, n, k, query.len(), vectors.len(), numbers, distances) {
+    if !exact_lengths(terms, query.len(), vectors.len(), entries) {
         return Verdict::Refused(Refusal::Length);
     }
     if !all_components(query, vectors) {
@@ -74,26 +84,15 @@ fn check_scan(
     Verdict::Accepted
 }
 
-// Whether the lengths of the query, the vectors and the buffers are the exact ones.
-fn exact_lengths(
-    d: usize,
-    n: usize,
-    k: usize,
-    query: usize,
-    vectors: usize,
-    numbers: usize,
-    distances: usize,
-) -> bool
-    requires { ⌜ n * d < 2 ^ 64 ⌝ }
-    ensures { λ r. ⌜ r ≡ eqb query d && (eqb vectors (n * d) && (eqb numbers k && eqb distances k)) ⌝ }
+// Whether the lengths of the query, the vectors and the entries are the exact ones.
+fn exact_lengths(terms: ScanTerms, query: usize, vectors: usize, entries: usize) -> bool
+    requires { ⌜ terms .n * terms .d < 2 ^ 64 ⌝ }
+    ensures { λ r. ⌜ r ≡ eqb query (terms .d) && (eqb vectors (terms .n * terms .d) && eqb entries (terms .k)) ⌝ }
 {
-    if query != d {
+    if query != terms.d {
         return false;
     }
-    if vectors != n * d {
-        return false;
-    }
-    numbers == k && distances == k
+    vectors == terms.n * terms.d && entries == terms.k
 }
 
 // Whether the query's and the vectors' numbers are components.
@@ -103,22 +102,32 @@ fn all_components(query: &[i32], vectors: &[i32]) -> bool
     whole::components::are_components(query) && whole::components::are_components(vectors)
 }
 
-// The answer, where nothing refuses.
-fn scan_all(
-    d: usize,
-    n: usize,
+// The answer where nothing refuses, in arrays for the most vectors of a library.
+fn scan_ready(terms: ScanTerms, query: &[i32], vectors: &[i32]) -> [Entry; MAX_NEIGHBOURS]
+    requires { ⌜ (Vectors (terms .d) (terms .n) (now query) (now vectors)) × Neighbours (terms .n) (terms .k) ⌝ }
+    ensures { λ r. ⌜ r ≡ inArray (entriesOf (scanAnswer terms (now (query .entry)) (now (vectors .entry)))) ⌝ }
+{
+    let n = terms.n;
+    let mut distances = [0u64; MAX_VECTORS];
+    scan_into(terms, query, vectors, &mut distances[..n])
+}
+
+// The same with room for the distances of all vectors.
+fn scan_into(
+    terms: ScanTerms,
     query: &[i32],
     vectors: &[i32],
-    numbers: &mut [u32],
     distances: &mut [u64],
-)
-    requires { ⌜ (Vectors d n (now query) (now vectors)) × (1 ≤ length (now numbers)) × (length (now numbers) ≤ n) × (length (now distances) ≡ length (now numbers)) ⌝ }
-    ensures { λ _. ⌜ now (numbers .exit) ≡ numbersOf (scanAnswer d n (length (now (numbers .entry))) (now (query .entry)) (now (vectors .entry))) ⌝ }
-    ensures { λ _. ⌜ now (distances .exit) ≡ keysOf (scanAnswer d n (length (now (numbers .entry))) (now (query .entry)) (now (vectors .entry))) ⌝ }
+) -> [Entry; MAX_NEIGHBOURS]
+    requires { ⌜ (Vectors (terms .d) (terms .n) (now query) (now vectors)) × (Neighbours (terms .n) (terms .k)) × (length (now distances) ≡ terms .n) ⌝ }
+    ensures { λ r. ⌜ r ≡ inArray (entriesOf (scanAnswer terms (now (query .entry)) (now (vectors .entry)))) ⌝ }
 {
-    let mut keys = [0u64; MAX_VECTORS];
-    measure_all(d, query, vectors, &mut keys[..n]);
-    least::select(&keys[..n], numbers, distances);
+    measure_all(terms.d, query, vectors, distances);
+    let k = terms.k;
+    let mut numbers = [0u32; MAX_NEIGHBOURS];
+    let mut least = [0u64; MAX_NEIGHBOURS];
+    least::select(distances, &mut numbers[..k], &mut least[..k]);
+    entries_of(&least[..k], &numbers[..k])
 }
 
 // The distance of each vector from the query.

@@ -1,21 +1,24 @@
 -- What holds where the search is not refused, and that it is not refused where all of that holds. Assumes nothing.
 use mathlib.Core.Path.{_≡_, refl}
-use mathlib.Core.Bool.{true, _&&_, and-eq-true-iff}
+use mathlib.Core.Bool.{true, and-eq-true-iff}
 use mathlib.Core.List.{List}
-use Prim.Native.Nat.{ℕ, _*_}
-use lib.Dec.{leb}
+use Prim.Native.Nat.{ℕ, _*_, _≤_}
+use native.Mathlib.Omega.{arith}
 use lib.IntN.{ℤ}
 use lib.ListN.{length}
 use borrow.Author.Tests.{not-false, eqb-true, eq-eqb}
 use Rattle.refusal.specs.declared.Verdict.the-variants.{Accepted}
 use Rattle.refusal.specs.First.{first, passed}
-use Rattle.limits.specs.Limits.{isDimensionCount, isBits, isVectorCount}
+use Rattle.limits.specs.Limits.{maxNeighbours, isDimensionCount, isBits, isVectorCount, isNeighbourCount}
+use Rattle.limits.specs.Tests.{neighbours}
 use Rattle.whole.specs.Components.{areComponents}
+use Rattle.order.specs.Counted.{counted-length}
+use Rattle.selection.specs.Theorems.{best-length}
 use Rattle.layout.specs.Layout.{firstMarks}
 use Rattle.partition.specs.Marks.{goodMarks}
 use Rattle.codes.specs.Codes.{codeLength}
 use Rattle.cells.specs.Cells.{goodCodes}
-use Rattle.search.specs.Search.{Library, Room, searched, inOwnCells, exactLengths, searchCauses}
+use Rattle.search.specs.Search.{Library, Room, numbersIn, distanceIn, lowIn, searched, inOwnCells, exactLengths, searchCauses}
 
 -- the search is not refused
 abbrev pub Accepts : Library → List ℤ → ℕ → Room → Type 0
@@ -25,7 +28,7 @@ pub record Passes (l : Library) (query : List ℤ) (k : ℕ) (room : Room) : Typ
   pub dimensions : isDimensionCount (l .d) ≡ true
   pub bits : isBits (l .d) (l .b) ≡ true
   pub count : isVectorCount (l .n) ≡ true
-  pub neighbours : leb 1 k && leb k (l .n) ≡ true
+  pub neighbours : isNeighbourCount (l .n) k ≡ true
   pub lengths : exactLengths l query k room ≡ true
   pub components : areComponents query ≡ true
   pub marks : goodMarks (l .d) (l .b) (l .marks) ≡ true
@@ -47,7 +50,7 @@ passes l query k room accepts =
       dimensions = not-false (isDimensionCount (l .d)) (dimensions .fails);
       bits = not-false (isBits (l .d) (l .b)) (bits .fails);
       count = not-false (isVectorCount (l .n)) (count .fails);
-      neighbours = not-false (leb 1 k && leb k (l .n)) (neighbours .fails);
+      neighbours = not-false (isNeighbourCount (l .n) k) (neighbours .fails);
       lengths = not-false (exactLengths l query k room) (lengths .fails);
       components = not-false (areComponents query) (components .fails);
       marks = not-false (goodMarks (l .d) (l .b) (l .marks)) (marks .fails);
@@ -60,6 +63,18 @@ unfolding first
 accepts l query k room p =
     rw (p .dimensions, p .bits, p .count, p .neighbours, p .lengths, p .components, p .marks, p .codes, p .cells) refl
 
+-- then the search finds k vectors, no more than an array of entries holds
+pub best-few : (l : Library) (query : List ℤ) (k : ℕ) (room : Room) → Accepts l query k room → k ≤ maxNeighbours
+best-few l query k room held =
+    let p = passes l query k room held in
+    neighbours (l .n) k (p .count) (p .neighbours) .few
+
+pub best-size : (l : Library) (query : List ℤ) (k : ℕ) (room : Room) → Accepts l query k room → length (searched l query k .best) ≡ k
+best-size l query k room held =
+    let p = passes l query k room held in
+    let among = neighbours (l .n) k (p .count) (p .neighbours) in
+    omega (arith, best-length k (lowIn l query) (distanceIn l query) (numbersIn l), counted-length 0 (l .n), among .enough)
+
 -- ---- the lengths
 
 pub record Lengths (l : Library) (query : List ℤ) (k : ℕ) (room : Room) : Type 0 where
@@ -67,8 +82,7 @@ pub record Lengths (l : Library) (query : List ℤ) (k : ℕ) (room : Room) : Ty
   pub of-marks : length (l .marks) ≡ firstMarks (l .d) (l .b) (l .d)
   pub of-codes : length (l .codes) ≡ codeLength (l .b) (l .n)
   pub of-vectors : length (l .vectors) ≡ l .n * l .d
-  pub of-numbers : room .numbers ≡ k
-  pub of-distances : room .distances ≡ k
+  pub of-entries : room .entries ≡ k
   pub of-reads : room .reads ≡ l .n
 
 pub lengths-told : (l : Library) (query : List ℤ) (k : ℕ) (room : Room) → exactLengths l query k room ≡ true → Lengths l query k room
@@ -77,20 +91,18 @@ lengths-told l query k room exact =
     let marks-and = and-eq-true-iff _ _ .0 (query-and .1) in
     let codes-and = and-eq-true-iff _ _ .0 (marks-and .1) in
     let vectors-and = and-eq-true-iff _ _ .0 (codes-and .1) in
-    let numbers-and = and-eq-true-iff _ _ .0 (vectors-and .1) in
-    let distances-and = and-eq-true-iff _ _ .0 (numbers-and .1) in
+    let room-and = and-eq-true-iff _ _ .0 (vectors-and .1) in
     record {
       of-query = eqb-true _ _ (query-and .0);
       of-marks = eqb-true _ _ (marks-and .0);
       of-codes = eqb-true _ _ (codes-and .0);
       of-vectors = eqb-true _ _ (vectors-and .0);
-      of-numbers = eqb-true _ _ (numbers-and .0);
-      of-distances = eqb-true _ _ (distances-and .0);
-      of-reads = eqb-true _ _ (distances-and .1);
+      of-entries = eqb-true _ _ (room-and .0);
+      of-reads = eqb-true _ _ (room-and .1);
     }
 
 pub lengths-exact : (l : Library) (query : List ℤ) (k : ℕ) (room : Room) → Lengths l query k room → exactLengths l query k room ≡ true
 lengths-exact l query k room n =
     rw
-    (eq-eqb _ _ (n .of-query), eq-eqb _ _ (n .of-marks), eq-eqb _ _ (n .of-codes), eq-eqb _ _ (n .of-vectors), eq-eqb _ _ (n .of-numbers), eq-eqb _ _ (n .of-distances), eq-eqb _ _ (n .of-reads))
+    (eq-eqb _ _ (n .of-query), eq-eqb _ _ (n .of-marks), eq-eqb _ _ (n .of-codes), eq-eqb _ _ (n .of-vectors), eq-eqb _ _ (n .of-entries), eq-eqb _ _ (n .of-reads))
     refl

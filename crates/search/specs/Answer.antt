@@ -1,8 +1,16 @@
--- What an answer of the search stands for. Assumes nothing.
+-- What an answer of the search stands for, and the outcome of a verdict on a search. Assumes nothing.
+use mathlib.Core.List.{List, _++_}
 use Prim.Native.Nat.{ℕ}
+use lib.IntN.{ℤ}
+use lib.ListN.{length, drop}
+use Rattle.refusal.specs.declared.Verdict.{Verdict}
 use Rattle.refusal.specs.Refusal.{numberOf}
-use Rattle.search.specs.declared.search.Searched.{Searched}
-use Rattle.search.specs.declared.search.Searched.the-variants.{Read, Refused}
+use Rattle.refusal.specs.First.{outcome}
+use Rattle.entries.specs.declared.Entry.{Entry}
+use Rattle.entries.specs.Entries.{entriesOf}
+use Rattle.search.specs.declared.Searched.{Searched}
+use Rattle.search.specs.declared.Searched.the-variants.{Read, Refused}
+use Rattle.search.specs.Search.{Library, searched}
 
 -- document 01's number of an answer, 0 where nothing refuses
 abbrev pub searchedNumber : Searched → ℕ
@@ -18,3 +26,17 @@ searchedCount (Refused cause) = 0
 abbrev pub foundCount : Searched → ℕ → ℕ
 foundCount (Read count) k = k
 foundCount (Refused cause) k = 0
+
+-- ---- the outcome of a verdict on a search
+
+-- the answer
+abbrev pub searchAnswer : Verdict → Library → List ℤ → ℕ → Searched
+searchAnswer v l query k = outcome v (Read (length (searched l query k .reads))) Refused
+
+-- the entries of the best, or what a refusal leaves
+abbrev pub searchEntries : Verdict → Library → List ℤ → ℕ → List Entry → List Entry
+searchEntries v l query k refused = outcome v (entriesOf (searched l query k .best)) (λ _. refused)
+
+-- the read list: the numbers read, and what stood past them
+abbrev pub searchReads : Verdict → Library → List ℤ → ℕ → List ℕ → List ℕ
+searchReads v l query k reads = outcome v (searched l query k .reads ++ drop (length (searched l query k .reads)) reads) (λ _. reads)

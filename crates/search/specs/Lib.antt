@@ -5,5 +5,4 @@ pub mod Rows
 pub mod Instance
 pub mod Theorems
 pub mod Ready
-pub mod Entry
 pub mod Answer

@@ -3,21 +3,23 @@
 use mathlib.Core.Bool.{Bool, true, not, _&&_}
 use mathlib.Core.List.{List, [], _∷_, _++_}
 use Prim.Native.Nat.{ℕ, _*_}
-use lib.Dec.{leb, eqb}
+use lib.Dec.{eqb}
 use lib.IntN.{ℤ}
 use lib.ListN.{length}
-use Rattle.refusal.specs.declared.Refusal.the-variants.{Dimension, Bits, Count, Neighbours, Length, Component, Mark, Code, Cell}
+use Rattle.refusal.specs.declared.Refusal.the-variants.{Count, Neighbours, Length, Component, Mark, Code, Cell}
 use Rattle.refusal.specs.First.{Row, _⇒_}
-use Rattle.limits.specs.Limits.{isDimensionCount, isBits, isVectorCount}
+use Rattle.limits.specs.Limits.{isVectorCount, isNeighbourCount}
 use Rattle.whole.specs.Components.{areComponents}
 use Rattle.order.specs.Pair.{Pair, countFrom}
-use Rattle.selection.specs.Reading.{scan, Reading, read}
+use Rattle.selection.specs.Reading.{Reading, read}
 use Rattle.layout.specs.Layout.{firstMarks}
+use Rattle.layout.specs.Stretch.{shapeCauses}
 use Rattle.partition.specs.Marks.{goodMarks}
 use Rattle.codes.specs.Codes.{codeLength}
 use Rattle.cells.specs.Cells.{vectorAt, inFirst, goodCodes}
 use Rattle.distance.specs.Distance.{distanceOf}
 use Rattle.distance.specs.Bounds.{lowerOf, upperOf}
+use Rattle.scan.specs.Scanning.{scanTerms, scanAnswer}
 
 -- the vectors that are searched, with their marks and codes
 pub record Library : Type 0 where
@@ -46,9 +48,9 @@ highIn l query i = upperOf (l .d) (l .b) (l .marks) (l .codes) query i
 abbrev pub inOwnCell : Library → ℕ → Bool
 inOwnCell l i = inFirst (l .d) (l .b) (l .marks) (l .codes) i (vectorAt (l .d) (l .vectors) i) (l .d)
 
--- "A full scan's answer is the k least pairs (distance, number) over all patterns, least first."
+-- the full scan's answer over the library's vectors
 abbrev pub scanned : Library → List ℤ → ℕ → List Pair
-scanned l query k = scan k (distanceIn l query) (numbersIn l)
+scanned l query k = scanAnswer (scanTerms (l .d) (l .n) k) query (l .vectors)
 
 -- the reading order "worked out from query, k, marks, codes and patterns": the k best pairs read, and the numbers read, in reading order
 abbrev pub searched : Library → List ℤ → ℕ → Reading
@@ -61,10 +63,9 @@ unfoldable pub inOwnCells : Library → List ℕ → Bool
 inOwnCells l [] = true
 inOwnCells l (i ∷ is) = inOwnCell l i && inOwnCells l is
 
--- the lengths of the buffers that the answer is lent in
+-- how many entries and how many numbers of vectors read are lent
 pub record Room : Type 0 where
-  pub numbers : ℕ
-  pub distances : ℕ
+  pub entries : ℕ
   pub reads : ℕ
 
 -- every buffer has its exact length
@@ -74,20 +75,27 @@ exactLengths l query k room =
     && (eqb (length (l .marks)) (firstMarks (l .d) (l .b) (l .d))
     && (eqb (length (l .codes)) (codeLength (l .b) (l .n))
     && (eqb (length (l .vectors)) (l .n * l .d)
-    && (eqb (room .numbers) k && (eqb (room .distances) k && eqb (room .reads) (l .n))))))
+    && (eqb (room .entries) k && eqb (room .reads) (l .n)))))
 
--- the causes that are tested before anything is read: "the search tests 6 on the query only, 8 never"
-abbrev pub entryCauses : Library → List ℤ → ℕ → Room → List Row
-entryCauses l query k room =
-    (not (isDimensionCount (l .d)) ⇒ Dimension)
-    ∷ (not (isBits (l .d) (l .b)) ⇒ Bits)
-    ∷ (not (isVectorCount (l .n)) ⇒ Count)
-    ∷ (not (leb 1 k && leb k (l .n)) ⇒ Neighbours)
+-- the test of a query: "the search tests 6 on the query only, 8 never"
+abbrev pub queryCauses : List ℤ → List Row
+queryCauses query = (not (areComponents query) ⇒ Component) ∷ []
+
+-- the tests of a library
+abbrev pub libraryCauses : Library → List Row
+libraryCauses l =
+    (not (goodMarks (l .d) (l .b) (l .marks)) ⇒ Mark) ∷ (not (goodCodes (l .d) (l .b) (l .n) (l .marks) (l .codes)) ⇒ Code) ∷ []
+
+-- the causes that are tested before anything is read: those of the shape, and those behind it
+abbrev pub shapedCauses : Library → List ℤ → ℕ → Room → List Row
+shapedCauses l query k room =
+    (not (isVectorCount (l .n)) ⇒ Count)
+    ∷ (not (isNeighbourCount (l .n) k) ⇒ Neighbours)
     ∷ (not (exactLengths l query k room) ⇒ Length)
-    ∷ (not (areComponents query) ⇒ Component)
-    ∷ (not (goodMarks (l .d) (l .b) (l .marks)) ⇒ Mark)
-    ∷ (not (goodCodes (l .d) (l .b) (l .n) (l .marks) (l .codes)) ⇒ Code)
-    ∷ []
+    ∷ (queryCauses query ++ libraryCauses l)
+
+abbrev pub entryCauses : Library → List ℤ → ℕ → Room → List Row
+entryCauses l query k room = shapeCauses (l .d) (l .b) ++ shapedCauses l query k room
 
 -- ".. and 10 while reading": a vector that is read is not in its code's cell
 abbrev pub searchCauses : Library → List ℤ → ℕ → Room → List Row

@@ -68,8 +68,7 @@ accepts-others l query k room vectors size cells held =
         of-marks = n .of-marks;
         of-codes = n .of-codes;
         of-vectors = size;
-        of-numbers = n .of-numbers;
-        of-distances = n .of-distances;
+        of-entries = n .of-entries;
         of-reads = n .of-reads;
       });
       components = p .components;

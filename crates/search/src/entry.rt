@@ -1,136 +1,90 @@
 // The entry to a search: all causes of its refusal but the one that is met while reading.
+use crate::Terms;
 use refusal::Refusal;
 use refusal::Verdict;
 ghost use mathlib.Core.Path.{_≡_};
 ghost use Prim.Native.Nat.{_≤_};
-ghost use lib.Dec.{eqb};
-ghost use mathlib.Core.Bool.{_&&_};
+ghost use lib.ListN.{length};
 ghost use Rattle.refusal.specs.First.{first};
 ghost use Rattle.refusal.specs.declared.Verdict.the-variants.{Accepted};
 ghost use Rattle.limits.specs.Limits.{maxVectors};
 ghost use Rattle.layout.specs.Stretch.{shapeCauses};
-ghost use Rattle.search.specs.Search.{exactLengths, entryCauses};
+ghost use Rattle.search.specs.Search.{exactLengths, entryCauses, shapedCauses};
 ghost use Rattle.search.specs.Ready.{library, roomOf};
-ghost use Rattle.search.specs.Entry.{shapedEntryCauses};
 
-// Whether a library can be searched for the k nearest to a query, for answer buffers of these lengths.
+// Whether a library can be searched for the k nearest to a query, where so many entries and numbers of vectors read are lent.
 pub fn check_entry(
-    d: usize,
-    b: usize,
-    n: usize,
-    k: usize,
+    terms: Terms,
     query: &[i32],
     marks: &[i32],
     codes: &[u8],
     vectors: &[i32],
-    numbers: usize,
-    distances: usize,
+    entries: usize,
     reads: usize,
 ) -> Verdict
-    ensures { λ r. ⌜ r ≡ first (entryCauses (library d b n (now (marks .entry)) (now (codes .entry)) (now (vectors .entry)))
-        (now (query .entry)) k (roomOf numbers distances reads)) ⌝ }
+    ensures { λ r. ⌜ r ≡ first (entryCauses (library terms (now (marks .entry)) (now (codes .entry)) (now (vectors .entry)))
+        (now (query .entry)) (terms .k) (roomOf entries reads)) ⌝ }
 {
-    match layout::check_shape(d, b) {
-        Verdict::Accepted => check_shaped(
-            d,
-            b,
-            n,
-            k,
-            query,
-            marks,
-            codes,
-            vectors,
-            numbers,
-            distances,
-            reads,
-        ),
+    match layout::check_shape(terms.d, terms.b) {
+        Verdict::Accepted => check_shaped(terms, query, marks, codes, vectors, entries, reads),
         Verdict::Refused(cause) => Verdict::Refused(cause),
     }
 }
 
+// The same where the shape is right. The query is tested by itself, and so are the library's marks and codes.
 fn check_shaped(
-    d: usize,
-    b: usize,
-    n: usize,
-    k: usize,
+    terms: Terms,
     query: &[i32],
     marks: &[i32],
     codes: &[u8],
     vectors: &[i32],
-    numbers: usize,
-    distances: usize,
+    entries: usize,
     reads: usize,
 ) -> Verdict
-    requires { ⌜ first (shapeCauses d b) ≡ Accepted ⌝ }
-    ensures { λ r. ⌜ r ≡ first (shapedEntryCauses (library d b n (now (marks .entry)) (now (codes .entry)) (now (vectors .entry)))
-        (now (query .entry)) k (roomOf numbers distances reads)) ⌝ }
+    requires { ⌜ first (shapeCauses (terms .d) (terms .b)) ≡ Accepted ⌝ }
+    ensures { λ r. ⌜ r ≡ first (shapedCauses (library terms (now (marks .entry)) (now (codes .entry)) (now (vectors .entry)))
+        (now (query .entry)) (terms .k) (roomOf entries reads)) ⌝ }
 {
-    if !limits::is_vector_count(n) {
+    if !limits::is_vector_count(terms.n) {
         return Verdict::Refused(Refusal::Count);
     }
-    if !limits::is_between(1, k, n) {
+    if !limits::is_neighbour_count(terms.n, terms.k) {
         return Verdict::Refused(Refusal::Neighbours);
     }
-    if !exact_lengths(
-        d,
-        b,
-        n,
-        k,
-        query,
-        marks,
-        codes,
-        vectors,
-        numbers,
-        distances,
-        reads,
-    ) {
+    if !exact_lengths(terms, query, marks, codes, vectors, entries, reads) {
         return Verdict::Refused(Refusal::Length);
     }
     if !whole::components::are_components(query) {
         return Verdict::Refused(Refusal::Component);
     }
-    cells::check_codes(d, b, n, marks, codes)
+    cells::check_codes(terms.d, terms.b, terms.n, marks, codes)
 }
 
 // Whether every buffer has its exact length.
 fn exact_lengths(
-    d: usize,
-    b: usize,
-    n: usize,
-    k: usize,
+    terms: Terms,
     query: &[i32],
     marks: &[i32],
     codes: &[u8],
     vectors: &[i32],
-    numbers: usize,
-    distances: usize,
+    entries: usize,
     reads: usize,
 ) -> bool
-    requires { ⌜ (first (shapeCauses d b) ≡ Accepted) × (n ≤ maxVectors) ⌝ }
-    ensures { λ r. ⌜ r ≡ exactLengths (library d b n (now (marks .entry)) (now (codes .entry)) (now (vectors .entry)))
-        (now (query .entry)) k (roomOf numbers distances reads) ⌝ }
+    requires { ⌜ (first (shapeCauses (terms .d) (terms .b)) ≡ Accepted) × (terms .n ≤ maxVectors) ⌝ }
+    ensures { λ r. ⌜ r ≡ exactLengths (library terms (now (marks .entry)) (now (codes .entry)) (now (vectors .entry)))
+        (now (query .entry)) (terms .k) (roomOf entries reads) ⌝ }
 {
-    if query.len() != d {
+    if query.len() != terms.d {
         return false;
     }
-    if marks.len() != layout::marks_length(d, b) {
+    if marks.len() != layout::marks_length(terms.d, terms.b) {
         return false;
     }
-    if codes.len() != layout::codes_length(d, b, n) {
+    if codes.len() != layout::codes_length(terms.d, terms.b, terms.n) {
         return false;
     }
-    if vectors.len() != n * d {
+    if vectors.len() != terms.n * terms.d {
         return false;
     }
-    has_room(n, k, numbers, distances, reads)
-}
-
-// Whether the answer's buffers have room for k pairs and n numbers, and for no more.
-fn has_room(n: usize, k: usize, numbers: usize, distances: usize, reads: usize) -> bool
-    ensures { λ r. ⌜ r ≡ eqb numbers k && (eqb distances k && eqb reads n) ⌝ }
-{
-    if numbers != k {
-        return false;
-    }
-    distances == k && reads == n
+    entries == terms.k && reads == terms.n
 }

@@ -7,12 +7,12 @@ use lib.ListN.{length}
 use lib.Seq.{length-take-le}
 use borrow.Author.Needs.{needs}
 use Rattle.refusal.specs.First.{outcome-accepted}
+use Rattle.order.proofs.Prefix.{back-within, shared-is}
 use Rattle.step.specs.declared.Bound.the-variants.{Lower}
 use Rattle.distance.specs.Values.{valuesFrom}
 use Rattle.table.specs.Table.{boundSum}
 use Rattle.table.specs.TableLaws.{bounds-sum, table-le}
 use Rattle.bounds.specs.Sums.{sums-accepted}
-use Rattle.least_reading.specs.Buffers.{back-within, shared-is}
 use Rattle.least_reading.proofs.lower_bounds.Statement.{statement}
 use Rattle.least_reading.proofs.lower_bounds.Tie as tie
 

@@ -18,7 +18,7 @@ use Rattle.scan.proofs.check_scan.Tie as tie
 
 -- the rows from the m-th on
 abbrev rows : ℕ → tie.Start → List Row
-rows m c = drop m (scanCauses (c .args .d) (c .args .n) (c .args .k) (c .args .query .now) (c .args .vectors .now) (c .args .numbers) (c .args .distances))
+rows m c = drop m (scanCauses (c .args .terms) (c .args .query .now) (c .args .vectors .now) (c .args .entries))
 
 -- what the code's flag says of the row's test
 told : {result test value : Bool} → result ≡ test → not result ≡ value → not test ≡ value
@@ -31,7 +31,7 @@ passed-2 : (c : tie.Else2) → let start = c .before .before .before .before in 
 passed-2 c = passed-1 (c .before .before) ∙ first-next Count _ (told (c .before .is-vector-count .ensures) (c .if2 .left))
 
 passed-3 : (c : tie.Else3) → let start = c .before .before .before .before .before .before in first (rows 0 start) ≡ first (rows 3 start)
-passed-3 c = passed-2 (c .before .before) ∙ first-next Neighbours _ (told (c .before .is-between .ensures) (c .if3 .left))
+passed-3 c = passed-2 (c .before .before) ∙ first-next Neighbours _ (told (c .before .is-neighbour-count .ensures) (c .if3 .left))
 
 passed-4 : (c : tie.Else4) → let start = c .before .before .before .before .before .before .before .before in first (rows 0 start) ≡ first (rows 4 start)
 passed-4 c = passed-3 (c .before .before) ∙ first-next Length _ (told (c .before .exact-lengths .ensures) (c .if4 .left))
@@ -43,7 +43,7 @@ returns-2 : tie.Need-returns-2
 returns-2 c = sym (passed-1 (c .before .before) ∙ first-here Count _ (told (c .before .is-vector-count .ensures) (c .if2 .taken)))
 
 returns-3 : tie.Need-returns-3
-returns-3 c = sym (passed-2 (c .before .before) ∙ first-here Neighbours _ (told (c .before .is-between .ensures) (c .if3 .taken)))
+returns-3 c = sym (passed-2 (c .before .before) ∙ first-here Neighbours _ (told (c .before .is-neighbour-count .ensures) (c .if3 .taken)))
 
 -- a number of vectors and a number of dimensions have a small product
 exact-lengths-requires : tie.Need-exact-lengths-requires
@@ -51,9 +51,9 @@ exact-lengths-requires c κs =
     let two = c .before .before in
     let one = two .before .before in
     let a = one .before .before .args in
-    let vectors = between 1 (a .n) maxVectors (not-false (isVectorCount (a .n)) (told (two .before .is-vector-count .ensures) (two .if2 .left))) in
-    let dimensions = between 1 (a .d) maxDimensions (not-false (isDimensionCount (a .d)) (told (one .before .is-dimension-count .ensures) (one .if1 .left))) in
-    let small : a .n * a .d ≤ maxVectors * maxDimensions = mul-le-mul (vectors .below) (dimensions .below) in
+    let vectors = between 1 (a .terms .n) maxVectors (not-false (isVectorCount (a .terms .n)) (told (two .before .is-vector-count .ensures) (two .if2 .left))) in
+    let dimensions = between 1 (a .terms .d) maxDimensions (not-false (isDimensionCount (a .terms .d)) (told (one .before .is-dimension-count .ensures) (one .if1 .left))) in
+    let small : a .terms .n * a .terms .d ≤ maxVectors * maxDimensions = mul-le-mul (vectors .below) (dimensions .below) in
     omega arith
 
 returns-4 : tie.Need-returns-4

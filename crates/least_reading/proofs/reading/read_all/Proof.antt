@@ -1,5 +1,5 @@
 -- `read_all` meets its contract: the first k are read and sorted, and the rest read from there on. Assumes nothing.
-use mathlib.Core.Path.{_≡_, refl, _∙_}
+use mathlib.Core.Path.{_≡_, _∙_}
 use mathlib.Core.Bool.{Bool, true, false}
 use mathlib.Core.List.{List}
 use Prim.Native.Nat.{ℕ}
@@ -19,15 +19,15 @@ use Rattle.order.specs.Ranking.{ranked-count}
 use Rattle.selection.specs.Reading.{readingOrder}
 use Rattle.selection.specs.Loop.{after, reached-first}
 use Rattle.best_pairs.specs.Gathered.{gathers-sorted}
-use Rattle.search.specs.declared.search.Searched.the-variants.{Refused}
-use Rattle.search.specs.Search.{Library, Room, numbersIn, distanceIn, lowIn}
-use Rattle.search.specs.Ready.{Ready, ready-room}
+use Rattle.search.specs.declared.Searched.the-variants.{Refused}
+use Rattle.search.specs.Search.{Library, numbersIn, distanceIn, lowIn}
+use Rattle.search.specs.Ready.{Ready}
 use Rattle.least_reading.specs.Answered.{Reads, FirstReads, HasRead}
 use Rattle.least_reading.proofs.reading.read_all.Statement.{statement}
 use Rattle.least_reading.proofs.reading.read_all.Tie as tie
 
 module _ {l : Library} {query : List ℤ} {k : ℕ} {r : Bool} {keys best : List ℕ} (first-reads : FirstReads l query k r keys best) where
-  sorted : {room : Room} → Ready l query k room → r ≡ true → {keys-then best-then : List ℕ}
+  sorted : Ready l query k → r ≡ true → {keys-then best-then : List ℕ}
       → keys-then ≡ outcome (first (rankCauses (length keys) (length best))) (keysOf (sort (pairsOf keys best))) (λ _. keys)
       → best-then ≡ outcome (first (rankCauses (length keys) (length best))) (numbersOf (sort (pairsOf keys best))) (λ _. best)
       → HasRead l query k k keys-then best-then
@@ -56,15 +56,15 @@ read-rest-requires c κs =
     let sort = c .before .before .before .before .before .before in
     let read = sort .before .before .before .before .before .before .before .before in
     let pre = read .before .before .before .before .before .before .before .before .pre in
-    (ready-room (pre .0) _ _ _ refl refl refl, (pre .1 .0, (pre .1 .1, sorted (read .read-first .ensures) (pre .0) (not-false _ (sort .before .before .before .if1 .left)) (sort .sort .ensures .1 .0) (sort .sort .ensures .1 .1))))
+    (pre .0 .0, (pre .1 .0, (pre .1 .1, sorted (read .read-first .ensures) (pre .0 .0) (not-false _ (sort .before .before .before .if1 .left)) (sort .sort .ensures .1 .0) (sort .sort .ensures .1 .1))))
 
 pub read-all-spec : {M : Type 1} → statement M
 read-all-spec =
     tie.close
     (tie.spec
     (λ c κs. (c .before .before .before .before .before .before .before .pre .0, c .before .before .before .before .before .before .before .pre .1 .1))
-    (λ c. c .before .before .before .before .before .read-first .kept .1 .1 .1 .1 .1 .1 .1 .1 .1 .0)
-    (λ c. c .before .before .before .before .before .read-first .kept .1 .1 .1 .1 .1 .1 .1 .1 .1 .1 .0)
+    (λ c. c .before .before .before .before .before .read-first .kept .1 .1 .1 .1 .1 .1 .0)
+    (λ c. c .before .before .before .before .before .read-first .kept .1 .1 .1 .1 .1 .1 .1 .0)
     returns
     (λ c κs. tt)
     read-rest-requires

@@ -1,24 +1,24 @@
 -- `read_first` meets its contract: the first `done` of the reading order lie in their cells and stand in the two lists. Assumes nothing.
 use mathlib.Core.Path.{_≡_, refl, sym, ap, _∙_}
-use mathlib.Core.Bool.{Bool, true, false, true≢false, false≢true}
+use mathlib.Core.Bool.{true, false, true≢false, false≢true}
 use mathlib.Core.List.{List}
-use Prim.Native.Nat.{ℕ, _+_, _-_, _%_, _^_, _≤_, _<_}
+use Prim.Native.Nat.{ℕ, _+_, _-_, _≤_, _<_}
 use native.Mathlib.Numerals.{add-one}
 use native.Mathlib.Omega.{arith}
 use lib.IntN.{ℤ}
 use lib.ListN.{length, take, getD, set}
 use lib.Seq.{length-take-le, take-suc}
 use borrow.Author.Needs.{needs}
-use borrow.Author.Tests.{not-true, not-false}
 use Rattle.order.specs.Counted.{counted-length}
 use Rattle.order.specs.Ranking.{ranked-count}
 use Rattle.selection.specs.Reading.{readingOrder}
 use Rattle.selection.specs.Loop.{reached-first, goes-on-first}
 use Rattle.best_pairs.specs.Gathered.{Gathers, gathers-start, gathers-next}
-use Rattle.search.specs.Search.{Library, Room, numbersIn, distanceIn, lowIn, inOwnCell, inOwnCells}
-use Rattle.search.specs.Ready.{library, Ready, place, ordered-below}
-use Rattle.least_reading.specs.Answered.{FirstReads, cells-snoc, measured, next-outside}
-use Rattle.least_reading.specs.Celled.{celled}
+use Rattle.search.specs.Search.{Library, numbersIn, distanceIn, lowIn, inOwnCell, inOwnCells}
+use Rattle.search.specs.Ready.{library, Ready, ordered-below}
+use Rattle.least_reading.specs.Answered.{FirstReads, cells-snoc, next-outside}
+use Rattle.least_reading.specs.declared.reading.VectorRead.the-variants.{Distance, Outside}
+use Rattle.least_reading.specs.Vector.{vectorRead, tells-distance, tells-outside}
 use Rattle.least_reading.proofs.reading.read_first.Statement.{statement}
 use Rattle.least_reading.proofs.reading.read_first.Tie as tie
 
@@ -28,13 +28,13 @@ record State (l : Library) (query : List ℤ) (k done : ℕ) (keys best : List �
   inside : inOwnCells l (take done (readingOrder (lowIn l query) (numbersIn l))) ≡ true
 
 abbrev Inv-loop : tie.InvT-loop
-Inv-loop d b n k query marks codes vectors order keys₀ best₀ done₀ keys best done =
-    State (library d b n marks codes vectors) query k done keys best
+Inv-loop terms query marks codes vectors order keys₀ best₀ k done₀ keys best done =
+    State (library terms marks codes vectors) query (terms .k) done keys best
 
 abbrev μ-loop : tie.MeasureT-loop
-μ-loop d b n k query marks codes vectors order keys₀ best₀ done₀ keys best done = k - done
+μ-loop terms query marks codes vectors order keys₀ best₀ k done₀ keys best done = terms .k - done
 
-module _ {l : Library} {query : List ℤ} {k : ℕ} {room : Room} (is : Ready l query k room) {keys best : List ℕ} where
+module _ {l : Library} {query : List ℤ} {k : ℕ} (is : Ready l query k) {keys best : List ℕ} where
   begin : length keys ≡ k → length best ≡ k → State l query k 0 keys best
   unfolding inOwnCells
   begin keys-room best-room = record { within = omega arith; gathers = gathers-start keys-room best-room; inside = refl }
@@ -52,8 +52,8 @@ module _ {l : Library} {query : List ℤ} {k : ℕ} {room : Room} (is : Ready l 
       long : length (readingOrder (lowIn l query) (numbersIn l)) ≡ l .n
       long = ranked-count (lowIn l query) (numbersIn l) ∙ counted-length 0 (l .n)
 
-      fails : {r : Bool} → r ≡ inOwnCell l number → r ≡ false → FirstReads l query k false keys best
-      fails told out =
+      fails : vectorRead l query number ≡ Outside → FirstReads l query k false keys best
+      fails told =
           let enough : k ≤ length (numbersIn l) = omega (arith, is .enough, counted-length 0 (l .n)) in
           record {
             inside = λ none. absurd (false≢true none);
@@ -62,77 +62,63 @@ module _ {l : Library} {query : List ℤ} {k : ℕ} {room : Room} (is : Ready l 
                 next-outside l query k done (omega (arith, is .enough))
                 (reached-first k (lowIn l query) (distanceIn l query) (numbersIn l) done (at .within) enough)
                 (goes-on-first k (lowIn l query) (distanceIn l query) (numbersIn l) done more (omega arith) _)
-                (sym (ap (inOwnCell l) its) ∙ sym told ∙ out);
+                (sym (ap (inOwnCell l) its) ∙ tells-outside (inOwnCell l number) (distanceIn l query number) told);
           }
 
-      turn : {r : Bool} → r ≡ inOwnCell l number → r ≡ true → (distance : ℕ) → distance ≡ distanceIn l query number % 2 ^ 64
-          → State l query k (done + 1) (set keys done distance) (set best done number)
-      turn told is-inside distance is-distance =
-          let cell : inOwnCell l number ≡ true = sym told ∙ is-inside in
+      turn : (distance : ℕ) → vectorRead l query number ≡ Distance distance → State l query k (done + 1) (set keys done distance) (set best done number)
+      turn distance told =
+          let tells = tells-distance (inOwnCell l number) (distanceIn l query number) distance told in
           let order = readingOrder (lowIn l query) (numbersIn l) in
           let short : done < length order = omega (arith, long, is .enough) in
           let one = take-suc order done 0 short in
           rw add-one
           (record {
             within = omega arith;
-            gathers = rw (one, ← its)
-                (gathers-next (at .gathers) number done distance (sym (length-take-le done order (omega arith))) more (is-distance ∙ measured is number below cell));
-            inside = rw (one, ← its) (cells-snoc l (take done order) number (at .inside) cell);
+            gathers = rw (one, ← its) (gathers-next (at .gathers) number done distance (sym (length-take-le done order (omega arith))) more (tells .is));
+            inside = rw (one, ← its) (cells-snoc l (take done order) number (at .inside) (tells .in-cell));
           })
 
 -- the library that was handed in
 abbrev given : tie.Start Inv-loop μ-loop → Library
-given s = library (s .args .d) (s .args .b) (s .args .n) (s .args .marks .now) (s .args .codes .now) (s .args .vectors .now)
+given s = library (s .args .terms) (s .args .marks .now) (s .args .codes .now) (s .args .vectors .now)
 
 loop-holds : tie.Need-loop-holds Inv-loop μ-loop
 loop-holds c =
-    let is = c .before .before .before .before .pre .0 in
-    begin is (is .lengths .of-distances) (is .lengths .of-numbers)
+    let pre = c .before .before .before .before .pre .0 in
+    begin (pre .0) (pre .1) (pre .2)
 
-order-length : (s : tie.Start Inv-loop μ-loop) → length (s .args .order .now) ≡ s .args .n
+order-length : (s : tie.Start Inv-loop μ-loop) → length (s .args .order .now) ≡ s .args .terms .n
 order-length s =
-    ap length (s .pre .1) ∙ ranked-count (lowIn (given s) (s .args .query .now)) (numbersIn (given s)) ∙ counted-length 0 (s .args .n)
+    ap length (s .pre .1) ∙ ranked-count (lowIn (given s) (s .args .query .now)) (numbersIn (given s)) ∙ counted-length 0 (s .args .terms .n)
+
+-- where the next number is looked up
+abbrev entry : tie.After-shared-slice-known3 Inv-loop μ-loop → tie.Start Inv-loop μ-loop
+entry c = c .before .before .before .before .before .before .before
 
 -- the number that is read next
-its-number : (c : tie.After-shared-slice-known3 Inv-loop μ-loop) → let s = c .before .before .before .before .before .before .before in let done = c .before .before .loop .done in
+its-number : (c : tie.After-shared-slice-known3 Inv-loop μ-loop) → let s = entry c in let done = c .before .before .loop .done in
     getD (s .args .order .now) done 0 ≡ getD (readingOrder (lowIn (given s) (s .args .query .now)) (numbersIn (given s))) done 0
-its-number c = ap (λ (o : List ℕ). getD o (c .before .before .loop .done) 0) (c .before .before .before .before .before .before .before .pre .1)
+its-number c = ap (λ (o : List ℕ). getD o (c .before .before .loop .done) 0) (entry c .pre .1)
 
-is-below : (c : tie.After-shared-slice-known3 Inv-loop μ-loop) → let s = c .before .before .before .before .before .before .before in
-    getD (s .args .order .now) (c .before .before .loop .done) 0 < s .args .n
-is-below c =
-    let is = c .before .before .before .before .before .before .before .pre .0 in
-    below is (c .before .before .loop .inv) (c .before .loop-test .taken) _ (its-number c)
-
-read-number : tie.Need-shared-slice-read-number Inv-loop μ-loop
-read-number c =
-    let s = c .before .before .before .before .before .before .before in
-    omega (arith, order-length s, s .pre .0 .enough)
-
-in-own-cell-requires : tie.Need-in-own-cell-requires Inv-loop μ-loop
-in-own-cell-requires c κs =
-    celled (c .before .before .before .before .before .before .before .pre .0) _ (is-below c)
+is-below : (c : tie.After-shared-slice-known3 Inv-loop μ-loop) → getD (entry c .args .order .now) (c .before .before .loop .done) 0 < entry c .args .terms .n
+is-below c = below (entry c .pre .0 .0) (c .before .before .loop .inv) (c .before .loop-test .taken) _ (its-number c)
 
 returns : tie.Need-returns Inv-loop μ-loop
 returns c =
-    let next = c .before .before in
-    fails (next .before .before .before .before .before .before .before .pre .0) (next .before .before .loop .inv) (next .before .loop-test .taken) _ (its-number next)
-    (c .before .in-own-cell .ensures) (not-true _ (c .if1 .taken))
-
-distance-of-requires : tie.Need-distance-of-requires Inv-loop μ-loop
-distance-of-requires c κs =
-    let next = c .before .before in
-    place (next .before .before .before .before .before .before .before .pre .0) _ (is-below next)
+    let read = c .before .before in
+    let next = read .before in
+    fails (entry next .pre .0 .0) (next .before .before .loop .inv) (next .before .loop-test .taken) _ (its-number next)
+    (sym (read .read-vector .ensures) ∙ c .enum-told .given .1)
 
 loop-again : tie.Need-loop-again Inv-loop μ-loop
 loop-again c =
-    let asked = c .before .before in
-    let next = asked .before in
-    turn (next .before .before .before .before .before .before .before .pre .0) (next .before .before .loop .inv) (next .before .loop-test .taken) _ (its-number next)
-    (asked .in-own-cell .ensures) (not-false _ (c .before .if1 .left)) _ (c .distance-of .ensures)
+    let read = c .before .before .before in
+    let next = read .before in
+    turn (entry next .pre .0 .0) (next .before .before .loop .inv) (next .before .loop-test .taken) _ (its-number next) _
+    (sym (read .read-vector .ensures) ∙ c .before .read .given .1)
 
 returns-2 : tie.Need-returns-2 Inv-loop μ-loop
-returns-2 c = finish (c .before .before .before .before .before .before .pre .0) (c .before .loop .inv) (omega arith)
+returns-2 c = finish (c .before .before .before .before .before .before .pre .0 .0) (c .before .loop .inv) (omega arith)
 
 pub read-first-spec : {M : Type 1} → statement M
 read-first-spec =
@@ -142,12 +128,13 @@ read-first-spec =
     μ-loop
     loop-holds
     (λ c. search needs)
-    read-number
-    in-own-cell-requires
+    (λ c. omega (arith, order-length (entry c), entry c .pre .0 .0 .enough))
+    (λ c κs. (entry c .pre .0 .0, is-below c))
+    (λ c. search needs)
+    (λ c. search needs)
     (λ c. search needs)
     (λ c. search needs)
     returns
-    distance-of-requires
     (λ c. search needs)
     (λ c. search needs)
     (λ c. search needs)

@@ -2,7 +2,7 @@
 use mathlib.Core.Path.{_≡_, sym, ap, _∙_}
 use mathlib.Core.Bool.{Bool, true, false}
 use mathlib.Core.List.{List}
-use Prim.Native.Nat.{ℕ, suc, _+_, _-_, _%_, _^_, _≤_, _<_}
+use Prim.Native.Nat.{ℕ, suc, _+_, _-_, _≤_, _<_}
 use native.Mathlib.Numerals.{add-one}
 use native.Mathlib.Omega.{arith}
 use lib.IntN.{ℤ}
@@ -20,23 +20,24 @@ use Rattle.selection.specs.Reading.{readingOrder, goesOn}
 use Rattle.selection.specs.Loop.{after, reached-next, reached-stop, reached-end, full-after}
 use Rattle.best_pairs.specs.Kept.{Keeps}
 use Rattle.best_pairs.specs.Holds.{holds-keys, holds-numbers, arrays-goes-on, arrays-next}
-use Rattle.search.specs.declared.search.Searched.the-variants.{Read, Refused}
-use Rattle.search.specs.Search.{Library, Room, numbersIn, distanceIn, lowIn, inOwnCell, searched}
+use Rattle.search.specs.declared.Searched.the-variants.{Read, Refused}
+use Rattle.search.specs.Search.{Library, numbersIn, distanceIn, lowIn, inOwnCell, searched}
 use Rattle.distance.specs.Values.{valuesFrom, values-length, value-at}
-use Rattle.search.specs.Ready.{library, Ready, Place, place, ordered-below}
-use Rattle.least_reading.specs.Answered.{Reads, HasRead, afterReads, measured, next-in-cell, next-outside}
-use Rattle.least_reading.specs.Celled.{celled}
+use Rattle.search.specs.Ready.{library, Ready, ordered-below}
+use Rattle.least_reading.specs.Answered.{Reads, HasRead, afterReads, next-in-cell, next-outside}
+use Rattle.least_reading.specs.declared.reading.VectorRead.the-variants.{Distance, Outside}
+use Rattle.least_reading.specs.Vector.{vectorRead, tells-distance, tells-outside}
 use Rattle.least_reading.proofs.reading.read_rest.Statement.{statement}
 use Rattle.least_reading.proofs.reading.read_rest.Tie as tie
 
 abbrev Inv-loop : tie.InvT-loop
-Inv-loop d b n k query marks codes vectors lows order keys₀ best₀ done₀ keys best done =
-    (k ≤ done) × HasRead (library d b n marks codes vectors) query k done keys best
+Inv-loop terms query marks codes vectors lows order keys₀ best₀ n k done₀ keys best done =
+    (terms .k ≤ done) × HasRead (library terms marks codes vectors) query (terms .k) done keys best
 
 abbrev μ-loop : tie.MeasureT-loop
-μ-loop d b n k query marks codes vectors lows order keys₀ best₀ done₀ keys best done = n - done
+μ-loop terms query marks codes vectors lows order keys₀ best₀ n k done₀ keys best done = terms .n - done
 
-module _ {l : Library} {query : List ℤ} {k : ℕ} {room : Room} (is : Ready l query k room) {keys best : List ℕ} {done : ℕ}
+module _ {l : Library} {query : List ℤ} {k : ℕ} (is : Ready l query k) {keys best : List ℕ} {done : ℕ}
     (at : HasRead l query k done keys best) where
   -- nothing more is read
   reads-count : length (afterReads l query k done .reads) ≡ done
@@ -68,62 +69,59 @@ module _ {l : Library} {query : List ℤ} {k : ℕ} {room : Room} (is : Ready l 
     stop stops = finish (reached-stop _ _ _ _ _ (at .reached) inside stops)
 
     module _ (goes : goesOn k (afterReads l query k done .best) (pairOf (lowIn l query) (getD (readingOrder (lowIn l query) (numbersIn l)) done 0)) ≡ true) where
-      outside : {r : Bool} → r ≡ inOwnCell l number → r ≡ false → Reads l query k (Refused Cell) keys best
-      outside told out =
-          let some-out = next-outside l query k done more (at .reached) goes (sym (ap (inOwnCell l) its) ∙ sym told ∙ out) in
+      outside : vectorRead l query number ≡ Outside → Reads l query k (Refused Cell) keys best
+      outside told =
+          let some-out = next-outside l query k done more (at .reached) goes (sym (ap (inOwnCell l) its) ∙ tells-outside (inOwnCell l number) (distanceIn l query number) told) in
           record {
             answer = rw some-out;
             keys-are = λ none. cc;
             numbers-are = λ none. cc;
           }
 
-      turn : k ≤ done → {inside : Bool} → inside ≡ inOwnCell l number → inside ≡ true → (distance : ℕ) → distance ≡ distanceIn l query number % 2 ^ 64
+      turn : k ≤ done → (distance : ℕ) → vectorRead l query number ≡ Distance distance
           → {keys-then best-then : List ℕ} {r : ℕ} → Keeps keys best k (pair distance number) r keys-then best-then
           → HasRead l query k (done + 1) keys-then best-then
-      turn full told is-inside distance is-distance {keys-then} {best-then} {r} keeps =
-          let cell : inOwnCell l number ≡ true = sym told ∙ is-inside in
-          let holds = arrays-next _ _ _ _ _ (at .holds) (pair distance number) its (is-distance ∙ measured is number below cell) inside keeps in
+      turn full distance told {keys-then} {best-then} {r} keeps =
+          let tells = tells-distance (inOwnCell l number) (distanceIn l query number) distance told in
+          let holds = arrays-next _ _ _ _ _ (at .holds) (pair distance number) its (tells .is) inside keeps in
           let same : r ≡ k = holds .counted ∙ full-after k (lowIn l query) (distanceIn l query) (numbersIn l) (suc done) (omega arith) inside in
           rw add-one
           (record {
             within = omega arith;
             reached = reached-next _ _ _ _ _ (at .reached) inside goes;
             holds = rw same at holds;
-            inside = next-in-cell l query k done more (at .inside) (sym (ap (inOwnCell l) its) ∙ cell);
+            inside = next-in-cell l query k done more (at .inside) (sym (ap (inOwnCell l) its) ∙ tells .in-cell);
           })
 
 -- the library that was handed in
 abbrev given : tie.Start Inv-loop μ-loop → Library
-given s = library (s .args .d) (s .args .b) (s .args .n) (s .args .marks .now) (s .args .codes .now) (s .args .vectors .now)
+given s = library (s .args .terms) (s .args .marks .now) (s .args .codes .now) (s .args .vectors .now)
 
 -- where the next number is looked up
 abbrev entry : tie.After-shared-slice-known4 Inv-loop μ-loop → tie.Start Inv-loop μ-loop
 entry c = c .before .before .before .before .before .before .before .before
 
-order-length : (s : tie.Start Inv-loop μ-loop) → length (s .args .order .now) ≡ s .args .n
+order-length : (s : tie.Start Inv-loop μ-loop) → length (s .args .order .now) ≡ s .args .terms .n
 order-length s =
-    ap length (s .pre .1 .1 .0) ∙ ranked-count (lowIn (given s) (s .args .query .now)) (numbersIn (given s)) ∙ counted-length 0 (s .args .n)
+    ap length (s .pre .1 .1 .0) ∙ ranked-count (lowIn (given s) (s .args .query .now)) (numbersIn (given s)) ∙ counted-length 0 (s .args .terms .n)
 
 -- the number that is read next
 its-number : (c : tie.After-shared-slice-known4 Inv-loop μ-loop) → let s = entry c in let done = c .before .before .loop .done in
     getD (s .args .order .now) done 0 ≡ getD (readingOrder (lowIn (given s) (s .args .query .now)) (numbersIn (given s))) done 0
 its-number c = ap (λ (o : List ℕ). getD o (c .before .before .loop .done) 0) (entry c .pre .1 .1 .0)
 
-is-below : (c : tie.After-shared-slice-known4 Inv-loop μ-loop) → getD (entry c .args .order .now) (c .before .before .loop .done) 0 < entry c .args .n
+is-below : (c : tie.After-shared-slice-known4 Inv-loop μ-loop) → getD (entry c .args .order .now) (c .before .before .loop .done) 0 < entry c .args .terms .n
 is-below c = below (entry c .pre .0) (c .before .before .loop .inv .1) (c .before .loop-test .taken) _ (its-number c)
 
--- it has a low, and a place among the vectors
+-- it has a low
 has-low : (c : tie.After-shared-slice-known4 Inv-loop μ-loop) → getD (entry c .args .order .now) (c .before .before .loop .done) 0 < length (entry c .args .lows .now)
 has-low c =
     let s = entry c in
-    omega (arith, is-below c, ap length (s .pre .1 .0) ∙ values-length (lowIn (given s) (s .args .query .now)) 0 (s .args .n))
-
-its-place : (c : tie.After-shared-slice-known4 Inv-loop μ-loop) → Place (entry c .args .d) (entry c .args .vectors .now) (getD (entry c .args .order .now) (c .before .before .loop .done) 0)
-its-place c = place (entry c .pre .0) _ (is-below c)
+    omega (arith, is-below c, ap length (s .pre .1 .0) ∙ values-length (lowIn (given s) (s .args .query .now)) 0 (s .args .terms .n))
 
 -- and whether it is read
 test : (c : tie.After-goes-on Inv-loop μ-loop) → let next = c .before .before .before .before in let s = entry next in let done = next .before .before .loop .done in
-    goesOn (s .args .k) (afterReads (given s) (s .args .query .now) (s .args .k) done .best) (pairOf (lowIn (given s) (s .args .query .now)) (getD (readingOrder (lowIn (given s) (s .args .query .now)) (numbersIn (given s))) done 0))
+    goesOn (s .args .terms .k) (afterReads (given s) (s .args .query .now) (s .args .terms .k) done .best) (pairOf (lowIn (given s) (s .args .query .now)) (getD (readingOrder (lowIn (given s) (s .args .query .now)) (numbersIn (given s))) done 0))
     ≡ c .goes-on .result
 test c =
     let next = c .before .before .before .before in
@@ -136,36 +134,32 @@ returns c =
     let next = c .before .before .before .before .before in
     stop (entry next .pre .0) (next .before .before .loop .inv .1) (next .before .loop-test .taken) _ (its-number next) (test (c .before) ∙ not-true _ (c .if1 .taken))
 
-in-own-cell-requires : tie.Need-in-own-cell-requires Inv-loop μ-loop
-in-own-cell-requires c κs =
-    let next = c .before .before .before .before .before in
-    celled (entry next .pre .0) _ (is-below next)
-
 returns-2 : tie.Need-returns-2 Inv-loop μ-loop
 returns-2 c =
-    let asked = c .before in
-    let next = asked .before .before .before .before .before .before in
+    let read = c .before .before in
+    let tested = read .before in
+    let next = tested .before .before .before .before .before in
     outside (entry next .pre .0) (next .before .before .loop .inv .1) (next .before .loop-test .taken) _ (its-number next)
-    (test (asked .before .before) ∙ not-false _ (asked .before .if1 .left)) (asked .in-own-cell .ensures) (not-true _ (c .if2 .taken))
+    (test (tested .before) ∙ not-false _ (tested .if1 .left)) (sym (read .read-vector .ensures) ∙ c .enum-told .given .1)
 
 loop-again : tie.Need-loop-again Inv-loop μ-loop
 loop-again c =
     let kept = c .before .before .before .before in
-    let measure = kept .before .before .before in
-    let asked = measure .before .before in
-    let next = asked .before .before .before .before .before .before in
+    let known = kept .before .before .before in
+    let read = known .before .before .before in
+    let tested = read .before in
+    let next = tested .before .before .before .before .before in
     let at = next .before .before .loop .inv in (
       omega arith,
-      turn (entry next .pre .0) (at .1) (next .before .loop-test .taken) _ (its-number next)
-          (test (asked .before .before) ∙ not-false _ (asked .before .if1 .left)) (at .0) (asked .in-own-cell .ensures) (not-false _ (measure .before .if2 .left))
-          _ (measure .distance-of .ensures) (kept .keep .ensures),
+      turn (entry next .pre .0) (at .1) (next .before .loop-test .taken) _ (its-number next) (test (tested .before) ∙ not-false _ (tested .if1 .left)) (at .0)
+          _ (sym (read .read-vector .ensures) ∙ known .before .read .given .1) (kept .keep .ensures),
     )
 
 returns-3 : tie.Need-returns-3 Inv-loop μ-loop
 returns-3 c =
     let start = c .before .before .before .before .before .before .before in
     let at = c .before .loop .inv .1 in
-    finish (start .pre .0) at (reached-end _ _ _ _ _ (at .reached) (omega (arith, counted-length 0 (start .args .n))))
+    finish (start .pre .0) at (reached-end _ _ _ _ _ (at .reached) (omega (arith, counted-length 0 (start .args .terms .n))))
 
 pub read-rest-spec : {M : Type 1} → statement M
 read-rest-spec =
@@ -183,11 +177,12 @@ read-rest-spec =
     (λ c. search needs)
     (λ c. search needs)
     returns
-    in-own-cell-requires
+    (λ c κs. (entry (c .before .before .before .before .before) .pre .0, is-below (c .before .before .before .before .before)))
+    (λ c. search needs)
+    (λ c. search needs)
     (λ c. search needs)
     (λ c. search needs)
     returns-2
-    (λ c κs. its-place (c .before .before .before .before .before .before .before))
     (λ c κs. search needs)
     (λ c. search needs)
     (λ c. search needs)

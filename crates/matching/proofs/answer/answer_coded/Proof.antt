@@ -3,25 +3,22 @@
 use mathlib.Core.Path.{_≡_, sym, ap, subst, _∙_}
 use mathlib.Core.List.{List}
 use Prim.Native.Nat.{ℕ, _≤_}
-use native.Mathlib.Nat.{le-trans}
 use borrow.Author.Needs.{needs}
 use lib.IntN.{ℤ}
 use lib.ListN.{length, take}
 use lib.Seq.{length-take-le}
 use Rattle.refusal.specs.declared.Verdict.the-variants.{Accepted}
-use Rattle.refusal.specs.First.{first}
-use Rattle.limits.specs.Limits.{maxVectors}
-use Rattle.limits.specs.Tests.{between}
+use Rattle.refusal.specs.First.{first, outcome-accepted}
+use Rattle.limits.specs.Limits.{maxVectors, maxNeighbours}
+use Rattle.limits.specs.Tests.{between, neighbours}
 use Rattle.order.specs.Pair.{Pair}
 use Rattle.order.specs.Members.{_∈_}
-use Rattle.search.specs.declared.search.Searched.{Searched}
-use Rattle.search.specs.declared.search.Searched.the-variants.{Read}
+use Rattle.search.specs.declared.Found.{Found}
 use Rattle.search.specs.Answer.{searchedCount}
 use Rattle.search.specs.Search.{Library, searched, searchCauses}
 use Rattle.search.specs.Ready.{library, roomOf}
 use Rattle.search.specs.Accepted.{Passes, passes}
-use Rattle.nearest.specs.declared.Entry.{Entry}
-use Rattle.nearest.specs.Entries.{entriesOf, entryRoom}
+use Rattle.least_reading.specs.Searching.{Searches, found-front}
 use Rattle.text.specs.Puts.{puts-length, puts-same}
 use Rattle.matching.specs.Answer.{linesOf, answerLines}
 use Rattle.matching.specs.Lines.{pairsIn, pairs-back, Listed, best-below}
@@ -30,61 +27,60 @@ use Rattle.matching.proofs.answer.answer_coded.Tie as tie
 
 -- the library that is searched
 abbrev given : tie.Start → Library
-given s = library (s .args .d) (s .args .b) (s .args .n) (s .args .marks .now) (s .args .codes .now) (s .args .components .now)
+given s = library (s .args .terms) (s .args .marks .now) (s .args .codes .now) (s .args .components .now)
 
-abbrev passing : (s : tie.Start) → Passes (given s) (s .args .query .now) (s .args .k) (roomOf (s .args .k) (s .args .k) (s .args .n))
-passing s = passes (given s) (s .args .query .now) (s .args .k) (roomOf (s .args .k) (s .args .k) (s .args .n)) (s .pre .0)
+passing : (s : tie.Start) → let t = s .args .terms in Passes (given s) (s .args .query .now) (t .k) (roomOf (t .k) (t .n))
+passing s =
+    let t = s .args .terms in
+    passes (given s) (s .args .query .now) (t .k) (roomOf (t .k) (t .n)) (s .pre .0)
 
-few : (s : tie.Start) → s .args .n ≤ maxVectors
-few s = between 1 (s .args .n) maxVectors (passing s .count) .below
+few : (s : tie.Start) → s .args .terms .n ≤ maxVectors
+few s = between 1 (s .args .terms .n) maxVectors (passing s .count) .below
 
-few-neighbours : (s : tie.Start) → s .args .k ≤ maxVectors
-few-neighbours s = le-trans (between 1 (s .args .k) (s .args .n) (passing s .neighbours) .below) (few s)
-
-room-same : (l : Library) (query : List ℤ) (k n : ℕ) {reads : ℕ} → reads ≡ n → first (searchCauses l query k (roomOf k k n)) ≡ Accepted
-    → first (searchCauses l query k (entryRoom k reads)) ≡ Accepted
-room-same l query k n same accepted = rw same accepted
-
-find-requires : tie.Need-find-requires
-find-requires c κs =
-    let s = c .before .before .before .before in
-    room-same (given s) (s .args .query .now) (s .args .k) (s .args .n) (length-take-le _ _ (few s)) (s .pre .0)
+few-neighbours : (s : tie.Start) → s .args .terms .k ≤ maxNeighbours
+few-neighbours s = neighbours (s .args .terms .n) (s .args .terms .k) (passing s .count) (passing s .neighbours) .few
 
 -- the lines of what was found, and that its numbers are those of settings
-module _ (l : Library) (query : List ℤ) (k : ℕ) {answer : Searched} (entries : List Entry)
-    (found : (answer ≡ Read (length (searched l query k .reads))) × (take k entries ≡ entriesOf (searched l query k .best))) where
-  pairs-are : pairsIn (take k entries) ≡ searched l query k .best
-  pairs-are = ap pairsIn (found .1) ∙ pairs-back (searched l query k .best)
+module _ (l : Library) (query : List ℤ) (k n reads : ℕ) {f : Found} {old new : List ℕ}
+    (accepted : first (searchCauses l query k (roomOf k n)) ≡ Accepted) (same : reads ≡ n)
+    (found : Searches (first (searchCauses l query k (roomOf k reads))) l query k f old new) where
+  held : first (searchCauses l query k (roomOf k reads)) ≡ Accepted
+  held = rw same accepted
 
-  lines-are : (settings : List ℕ) {count : ℕ} → count ≡ searchedCount answer
-      → linesOf settings k count (pairsIn (take k entries)) ≡ answerLines settings k (searched l query k)
-  lines-are settings of-count = rw (of-count ∙ ap searchedCount (found .0), pairs-are)
+  pairs-are : pairsIn (take k (f .entries)) ≡ searched l query k .best
+  pairs-are = ap pairsIn (found-front l query k (roomOf k reads) held found) ∙ pairs-back (searched l query k .best)
 
-  listed : (settings : List ℕ) → k ≤ maxVectors → length settings ≡ l .n → Listed k settings entries
-  listed settings few named = record {
-    few = few;
+  lines-are : (settings : List ℕ) {count : ℕ} → count ≡ searchedCount (f .answer)
+      → linesOf settings k count (pairsIn (take k (f .entries))) ≡ answerLines settings k (searched l query k)
+  lines-are settings of-count = rw (of-count ∙ ap searchedCount (found .answer ∙ outcome-accepted _ _ held), pairs-are)
+
+  listed : (settings : List ℕ) → k ≤ maxNeighbours → length settings ≡ l .n → Listed k settings (f .entries)
+  listed settings small named = record {
+    few = small;
     named = λ p m. rw named (best-below l query k p (subst (λ (ps : List Pair). p ∈ ps) pairs-are m));
   }
 
 abbrev start : tie.After-read-count → tie.Start
 start c = c .before .before .before .before .before .before .before .before
 
-text-is : (c : tie.After-read-count) → let a = start c .args in let found = c .before .before .before .find in
-    linesOf (a .settings .now) (a .k) (c .read-count .result) (pairsIn (take (a .k) (found .result .entries)))
-    ≡ answerLines (a .settings .now) (a .k) (searched (given (start c)) (a .query .now) (a .k))
+text-is : (c : tie.After-read-count) → let a = start c .args in let found = c .before .before .before .nearest-by-bounds in
+    linesOf (a .settings .now) (a .terms .k) (c .read-count .result) (pairsIn (take (a .terms .k) (found .result .entries)))
+    ≡ answerLines (a .settings .now) (a .terms .k) (searched (given (start c)) (a .query .now) (a .terms .k))
 text-is c =
-    let a = start c .args in
-    let found = c .before .before .before .find in
-    lines-are (given (start c)) (a .query .now) (a .k) (found .result .entries) (found .ensures) (a .settings .now) (c .read-count .ensures)
+    let s = start c in
+    let t = s .args .terms in
+    let found = c .before .before .before .nearest-by-bounds in
+    lines-are (given s) (s .args .query .now) (t .k) (t .n) _ (s .pre .0) (length-take-le _ _ (few s)) (found .ensures) (s .args .settings .now)
+    (c .read-count .ensures)
 
 put-answer-requires : tie.Need-put-answer-requires
 put-answer-requires c κs =
     let count = c .before in
-    let found = count .before .before .before .find in
     let s = start count in
-    let a = s .args in (
-      listed (given s) (a .query .now) (a .k) (found .result .entries) (found .ensures) (a .settings .now) (few-neighbours s)
-          (s .pre .1 .0),
+    let t = s .args .terms in
+    let found = count .before .before .before .nearest-by-bounds in (
+      listed (given s) (s .args .query .now) (t .k) (t .n) _ (s .pre .0) (length-take-le _ _ (few s)) (found .ensures)
+          (s .args .settings .now) (few-neighbours s) (s .pre .1 .0),
       rw (text-is count) (s .pre .1 .1),
     )
 
@@ -99,7 +95,7 @@ answer-coded-spec =
     (tie.spec
     (λ c. few (c .before .before .before))
     (λ c. sym (length-take-le _ _ (few (c .before .before .before .before))))
-    find-requires
+    (λ c κs. search needs)
     (λ c κs. search needs)
     put-answer-requires
     (λ c. puts-length (c .before .before .put-answer .ensures))

@@ -6,9 +6,9 @@ use native.Mathlib.Omega.{arith}
 use lib.ListN.{length, getD, take, length-append}
 use lib.Seq.{length-take-le, getD-take}
 use borrow.Author.Needs.{needs}
-use Rattle.limits.specs.Limits.{maxVectors}
+use Rattle.limits.specs.Limits.{maxNeighbours}
 use Rattle.order.specs.Pairs.{pair}
-use Rattle.nearest.specs.declared.Entry.{Entry}
+use Rattle.entries.specs.declared.Entry.{Entry}
 use Rattle.text.specs.Puts.{Puts, puts-length, puts-none, puts-more, puts-same, part-puts}
 use Rattle.matching.specs.Answer.{entryLine, entryLines}
 use Rattle.matching.specs.Lines.{pairsIn, Listed, number-below, linesFrom, lines-next, lines-none}
@@ -69,7 +69,7 @@ module _ {k : ℕ} {settings text₀ : List ℕ} {at : ℕ} {entries : List Entr
 loop-holds : tie.Need-loop-holds Inv-loop μ-loop
 loop-holds c =
     let start = c .before .before in
-    let size : length (start .args .t3) ≡ maxVectors = start .good .1 .1 .0 .1 .0 .1 in
+    let size : length (start .args .t3) ≡ maxNeighbours = start .good .1 .1 .0 .1 .0 .1 in
     record {
       few = omega arith;
       size = length-take-le (start .args .k) (start .args .t3) (rw size (start .pre .0 .few));

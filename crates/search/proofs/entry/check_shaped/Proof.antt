@@ -1,13 +1,13 @@
 -- `check_shaped` meets its contract: the tests in their order. Assumes nothing.
 use mathlib.Core.Path.{_≡_, sym, _∙_}
-use mathlib.Core.Bool.{true, _&&_, and-eq-true-iff}
+use mathlib.Core.Bool.{true, and-eq-true-iff}
 use Prim.Native.Nat.{_≤_}
 use borrow.Author.Needs.{needs}
 use borrow.Author.Tests.{not-true, not-false}
-use lib.Dec.{eqb, leb}
+use lib.Dec.{eqb}
 use lib.ListN.{length}
 use Rattle.refusal.specs.First.{first, first-append, outcome-accepted}
-use Rattle.limits.specs.Limits.{maxVectors, isVectorCount}
+use Rattle.limits.specs.Limits.{maxVectors, isVectorCount, isNeighbourCount}
 use Rattle.limits.specs.Tests.{between}
 use Rattle.whole.specs.Components.{areComponents}
 use Rattle.layout.specs.Layout.{firstMarks}
@@ -19,17 +19,17 @@ use Rattle.search.specs.Ready.{library, roomOf}
 use Rattle.search.proofs.entry.check_shaped.Statement.{statement}
 use Rattle.search.proofs.entry.check_shaped.Tie as tie
 
-counted : (c : tie.Else1) → isVectorCount (c .before .before .before .args .n) ≡ true
+counted : (c : tie.Else1) → isVectorCount (c .before .before .before .args .terms .n) ≡ true
 counted c = sym (c .before .is-vector-count .ensures) ∙ not-false (c .before .is-vector-count .result) (c .if1 .left)
 
-few : (c : tie.Else1) → c .before .before .before .args .n ≤ maxVectors
-few c = between 1 (c .before .before .before .args .n) maxVectors (counted c) .below
+few : (c : tie.Else1) → c .before .before .before .args .terms .n ≤ maxVectors
+few c = between 1 (c .before .before .before .args .terms .n) maxVectors (counted c) .below
 
-enough : (c : tie.Else2) → let a = c .before .before .before .before .before .args in leb 1 (a .k) && leb (a .k) (a .n) ≡ true
-enough c = sym (c .before .is-between .ensures) ∙ not-false (c .before .is-between .result) (c .if2 .left)
+enough : (c : tie.Else2) → let a = c .before .before .before .before .before .args in isNeighbourCount (a .terms .n) (a .terms .k) ≡ true
+enough c = sym (c .before .is-neighbour-count .ensures) ∙ not-false (c .before .is-neighbour-count .result) (c .if2 .left)
 
 measured : (c : tie.Else3) → let a = c .before .before .before .before .before .before .before .args in
-    exactLengths (library (a .d) (a .b) (a .n) (a .marks .now) (a .codes .now) (a .vectors .now)) (a .query .now) (a .k) (roomOf (a .numbers) (a .distances) (a .reads)) ≡ true
+    exactLengths (library (a .terms) (a .marks .now) (a .codes .now) (a .vectors .now)) (a .query .now) (a .terms .k) (roomOf (a .entries) (a .reads)) ≡ true
 measured c = sym (c .before .exact-lengths .ensures) ∙ not-false (c .before .exact-lengths .result) (c .if3 .left)
 
 queried : (c : tie.Else4) → areComponents (c .before .before .before .before .before .before .before .before .before .args .query .now) ≡ true
@@ -41,7 +41,7 @@ returns c = rw (← c .before .is-vector-count .ensures, not-true (c .before .is
 
 returns-2 : tie.Need-returns-2
 unfolding first
-returns-2 c = rw (counted (c .before .before), ← c .before .is-between .ensures, not-true (c .before .is-between .result) (c .if2 .taken))
+returns-2 c = rw (counted (c .before .before), ← c .before .is-neighbour-count .ensures, not-true (c .before .is-neighbour-count .result) (c .if2 .taken))
 
 returns-3 : tie.Need-returns-3
 unfolding first
@@ -64,12 +64,12 @@ returns-5 c =
     let two = three .before .before in
     let start = two .before .before .before .before .before in
     let a = start .args in
-    let behind = and-eq-true-iff (eqb (length (a .query .now)) (a .d)) _ .0 (measured three) .1 in
-    let marks-and = and-eq-true-iff (eqb (length (a .marks .now)) (firstMarks (a .d) (a .b) (a .d))) _ .0 behind in
-    let of-marks : eqb (length (a .marks .now)) (firstMarks (a .d) (a .b) (a .d)) ≡ true = marks-and .0 in
-    let of-codes : eqb (length (a .codes .now)) (codeLength (a .b) (a .n)) ≡ true = and-eq-true-iff (eqb (length (a .codes .now)) (codeLength (a .b) (a .n))) _ .0 (marks-and .1) .0 in
+    let behind = and-eq-true-iff (eqb (length (a .query .now)) (a .terms .d)) _ .0 (measured three) .1 in
+    let marks-and = and-eq-true-iff (eqb (length (a .marks .now)) (firstMarks (a .terms .d) (a .terms .b) (a .terms .d))) _ .0 behind in
+    let of-marks : eqb (length (a .marks .now)) (firstMarks (a .terms .d) (a .terms .b) (a .terms .d)) ≡ true = marks-and .0 in
+    let of-codes : eqb (length (a .codes .now)) (codeLength (a .terms .b) (a .terms .n)) ≡ true = and-eq-true-iff (eqb (length (a .codes .now)) (codeLength (a .terms .b) (a .terms .n))) _ .0 (marks-and .1) .0 in
     c .check-codes .ensures
-    ∙ first-append (shapeCauses (a .d) (a .b)) (shapedCodeCauses (a .d) (a .b) (a .n) (a .marks .now) (a .codes .now))
+    ∙ first-append (shapeCauses (a .terms .d) (a .terms .b)) (shapedCodeCauses (a .terms .d) (a .terms .b) (a .terms .n) (a .marks .now) (a .codes .now))
     ∙ outcome-accepted _ _ (start .pre)
     ∙ rw (measured three, counted (two .before .before), enough two, queried four, of-marks, of-codes)
 

@@ -1,0 +1,58 @@
+// The nearest vectors, for C. Each gives 0, or the refusal's number; a refused call leaves the buffers as they were, and its count is 0.
+use entries::Entry;
+use scan::ScanTerms;
+use search::Terms;
+ghost use mathlib.Core.Path.{_≡_};
+ghost use lib.ListN.{length};
+ghost use Rattle.refusal.specs.Refusal.{verdictNumber};
+ghost use Rattle.refusal.specs.First.{first, outcome};
+ghost use Rattle.scan.specs.Scanning.{scanTerms, scanCauses, scannedEntries};
+ghost use Rattle.search.specs.Search.{searched, searchCauses};
+ghost use Rattle.search.specs.Answer.{searchEntries, searchReads};
+ghost use Rattle.search.specs.Ready.{library, termsOf, roomOf};
+
+// The k of n vectors that are nearest to a query, by all their distances.
+#[no_mangle]
+pub extern "C" fn matcher_scan(
+    d: usize,
+    n: usize,
+    k: usize,
+    query: &[i32],
+    vectors: &[i32],
+    entries: &mut [Entry],
+) -> u32
+    ensures { λ r. let t = scanTerms d n k in
+        let v = first (scanCauses t (now (query .entry)) (now (vectors .entry)) (length (now (entries .entry)))) in
+        ⌜ (r ≡ verdictNumber v) × (now (entries .exit) ≡ scannedEntries v t (now (query .entry)) (now (vectors .entry)) (now (entries .entry))) ⌝ }
+{
+    let terms = ScanTerms { d, n, k };
+    let verdict = nearest::scan(terms, query, vectors, entries);
+    verdict.number()
+}
+
+// The same by the search; also the numbers of the vectors that it reads, in reading order, and their count.
+#[no_mangle]
+pub extern "C" fn matcher_search(
+    d: usize,
+    b: usize,
+    n: usize,
+    k: usize,
+    query: &[i32],
+    marks: &[i32],
+    codes: &[u8],
+    vectors: &[i32],
+    entries: &mut [Entry],
+    reads: &mut [u32],
+    count: &mut usize,
+) -> u32
+    ensures { λ r. let l = library (termsOf d b n k) (now (marks .entry)) (now (codes .entry)) (now (vectors .entry)) in
+        let v = first (searchCauses l (now (query .entry)) k (roomOf (length (now (entries .entry))) (length (now (reads .entry))))) in
+        ⌜ (r ≡ verdictNumber v)
+        × (now (count .exit) ≡ outcome v (length (searched l (now (query .entry)) k .reads)) (λ _. 0))
+        × (now (entries .exit) ≡ searchEntries v l (now (query .entry)) k (now (entries .entry)))
+        × (now (reads .exit) ≡ searchReads v l (now (query .entry)) k (now (reads .entry))) ⌝ }
+{
+    let terms = Terms { d, b, n, k };
+    let answer = nearest::search(terms, query, marks, codes, vectors, entries, reads);
+    c_answers::put_read_count(answer, count)
+}
