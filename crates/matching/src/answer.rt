@@ -33,7 +33,8 @@ pub(crate) fn answer(
     text: &mut [u8],
 ) -> usize
     requires { ⌜ first (packVectorsCauses d b n (now components) (now marks) (codeLength b n)) ≡ Accepted ⌝ }
-    requires { ⌜ first (searchCauses (searchable (libraryWith d b n (now marks) (now settings) (now components))) (now query) k (roomOf k n)) ≡ Accepted ⌝ }
+    requires { ⌜ first (searchCauses (searchable (libraryWith d b n (now marks) (now settings) (now components))) (now query) k
+        (roomOf k n)) ≡ Accepted ⌝ }
     ensures { λ r. ⌜ Puts (answerText (libraryWith d b n (now (marks .entry)) (now (settings .entry)) (now (components .entry))) (now (query .entry)) k) 0
         (now (text .entry)) (now (text .exit)) r ⌝ }
 {
@@ -61,7 +62,8 @@ fn answer_coded(
     components: &[i32],
     text: &mut [u8],
 ) -> usize
-    requires { ⌜ first (searchCauses (library terms (now marks) (now codes) (now components)) (now query) (terms .k) (roomOf (terms .k) (terms .n))) ≡ Accepted ⌝ }
+    requires { ⌜ first (searchCauses (library terms (now marks) (now codes) (now components)) (now query) (terms .k)
+        (roomOf (terms .k) (terms .n))) ≡ Accepted ⌝ }
     ensures { λ r. ⌜ Puts (answerLines (now (settings .entry)) (terms .k)
         (searched (library terms (now (marks .entry)) (now (codes .entry)) (now (components .entry))) (now (query .entry)) (terms .k))) 0
         (now (text .entry)) (now (text .exit)) r ⌝ }

@@ -1,4 +1,5 @@
--- `read_vector` meets its contract: the part that is lent is the vector, its cell is there, and in it its distance is exact. Assumes nothing.
+-- `read_vector` meets its contract: the part that is lent is the vector, its cell is there, and in it its distance is exact. Assumes
+-- nothing.
 use mathlib.Core.Path.{_≡_, sym, ap, _∙_}
 use Prim.Native.Nat.{ℕ, _+_, _-_, _*_, _%_, _^_, _<_}
 use native.Mathlib.Omega.{arith}
@@ -32,7 +33,8 @@ inside c =
     let size : o + a .terms .d - o ≡ a .terms .d = omega arith in
     let few : a .number < maxVectors = omega (arith, s .pre .1, s .pre .0 .count) in
     c .in-cell .ensures
-    ∙ ap (λ (m : ℕ). cellHolds (a .terms .d) (a .terms .b) (a .marks .now) (a .codes .now) (a .number) (take m (drop o (a .vectors .now)))) size
+    ∙ ap (λ (m : ℕ). cellHolds (a .terms .d) (a .terms .b) (a .marks .now) (a .codes .now) (a .number)
+    (take m (drop o (a .vectors .now)))) size
     ∙ outcome-accepted _ _ (s .pre .0 .shaped)
     ∙ rw (lt-ltb (a .number) maxVectors few, its-place s .size, celled (s .pre .0) (a .number) (s .pre .1))
 

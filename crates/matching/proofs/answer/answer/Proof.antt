@@ -68,7 +68,9 @@ returns c =
     let put = c .before .before in
     let back = put .before .before .before .before in
     let a = back .before .before .before .before .args in
-    puts-same (ap (λ (codes : List ℕ). answerLines (a .settings .now) (a .k) (searched (library (termsOf (a .d) (a .b) (a .n) (a .k)) (a .marks .now) codes (a .components .now)) (a .query .now) (a .k))) (codes-are back))
+    puts-same (ap (λ (codes : List ℕ). answerLines (a .settings .now) (a .k)
+    (searched (library (termsOf (a .d) (a .b) (a .n) (a .k)) (a .marks .now) codes (a .components .now)) (a .query .now) (a .k)))
+    (codes-are back))
     (put .answer-coded .ensures)
 
 pub answer-spec : {M : Type 1} → statement M

@@ -38,7 +38,11 @@ lines-are : (l : Library) (query : List ℤ) (k n reads : ℕ) (settings : List 
     → line k (count ∷ []) ++ entryLines settings (pairsIn (take k (f .entries))) ≡ answerLines settings k (searched l query k)
 lines-are l query k n reads settings accepted of-count found same =
     let held : first (searchCauses l query k (roomOf k reads)) ≡ Accepted = rw same accepted in
-    rw (of-count ∙ ap searchedCount (found .answer ∙ outcome-accepted _ _ held), found-front l query k (roomOf k reads) held found, pairs-back (searched l query k .best))
+    rw (
+      of-count ∙ ap searchedCount (found .answer ∙ outcome-accepted _ _ held),
+      found-front l query k (roomOf k reads) held found,
+      pairs-back (searched l query k .best),
+    )
 
 returns : tie.Need-returns
 returns c =

@@ -40,7 +40,8 @@ wanted c = c .marks-length .ensures ∙ marks-length-is _ _ (from-1 (c .before) 
 of-query : (c : tie.Else1) → let a = from-1 c .args in eqb (length (a .query .now)) (a .terms .d) ≡ true
 of-query c = eq-eqb _ _ (c .if1 .left)
 
-of-marks : (c : tie.Else2) → let a = from-2 c .args in eqb (length (a .marks .now)) (firstMarks (a .terms .d) (a .terms .b) (a .terms .d)) ≡ true
+of-marks : (c : tie.Else2) → let a = from-2 c .args in eqb (length (a .marks .now))
+    (firstMarks (a .terms .d) (a .terms .b) (a .terms .d)) ≡ true
 of-marks c = eq-eqb _ _ (c .if2 .left ∙ wanted (c .before))
 
 of-codes : (c : tie.Else3) → let a = from-3 c .args in eqb (length (a .codes .now)) (codeLength (a .terms .b) (a .terms .n)) ≡ true
