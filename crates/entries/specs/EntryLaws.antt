@@ -60,7 +60,8 @@ sets-fit l es = go (decLe (length es) (length l))
     go (yes fits) = rw (take-all (length l) es fits)
     go (no more) =
         let size = length-take-le (length l) es (omega arith) in
-        let past : length (sets l 0 (take (length l) es)) ≤ 0 + length (take (length l) es) = omega (arith, length-sets l 0 (take (length l) es)) in
+        let past : length (sets l 0 (take (length l) es)) ≤ 0 + length (take (length l) es) = omega
+        (arith, length-sets l 0 (take (length l) es)) in
         sym (sets-out (sets l 0 (take (length l) es)) (0 + length (take (length l) es)) (drop (length l) es) past)
         ∙ sets-append l 0 (take (length l) es) (drop (length l) es)
         ∙ ap (λ (all : List Entry). sets l 0 all) (take-append-drop (length l) es)

@@ -27,10 +27,12 @@ pub record Searches (v : Verdict) (l : Library) (query : List ℤ) (k : ℕ) (r 
 
 -- where nothing refuses, the first k entries are those of the best
 pub found-front : (l : Library) (query : List ℤ) (k : ℕ) (room : Room) {r : Found} {reads reads-then : List ℕ} → Accepts l query k room
-    → Searches (first (searchCauses l query k room)) l query k r reads reads-then → take k (r .entries) ≡ entriesOf (searched l query k .best)
+    → Searches (first (searchCauses l query k room)) l query k r reads reads-then
+    → take k (r .entries) ≡ entriesOf (searched l query k .best)
 found-front l query k room held s =
     ap (take k) (s .entries-are ∙ ap inArray (outcome-accepted _ _ held))
-    ∙ array-front (entriesOf (searched l query k .best)) k (entries-length (searched l query k .best) ∙ best-size l query k room held) (best-few l query k room held)
+    ∙ array-front (entriesOf (searched l query k .best)) k (entries-length (searched l query k .best) ∙ best-size l query k room held)
+    (best-few l query k room held)
 
 -- the cause that is left behind the entry
 abbrev pub cellCauses : Library → List ℤ → ℕ → List Row
@@ -46,7 +48,8 @@ pub searches-by : {v w : Verdict} {l : Library} {query : List ℤ} {k : ℕ} {r 
 searches-by e s = rw e s
 
 -- what a refusal leaves
-pub searches-none : {v : Verdict} (l : Library) (query : List ℤ) (k : ℕ) (cause : Refusal) (entries : List Entry) (reads : List ℕ) → v ≡ verdict.Refused cause
+pub searches-none : {v : Verdict} (l : Library) (query : List ℤ) (k : ℕ) (cause : Refusal) (entries : List Entry) (reads : List ℕ)
+    → v ≡ verdict.Refused cause
     → entries ≡ inArray [] → Searches v l query k (record { answer = Refused cause; entries = entries }) reads reads
 searches-none l query k cause entries reads refused none = record {
   answer = sym (outcome-refused _ _ refused);
@@ -55,9 +58,11 @@ searches-none l query k cause entries reads refused none = record {
 }
 
 -- a refusal at the entry is the search's
-pub refused-at-entry : (l : Library) (query : List ℤ) (k : ℕ) (room : Room) (cause : Refusal) → first (entryCauses l query k room) ≡ verdict.Refused cause
+pub refused-at-entry : (l : Library) (query : List ℤ) (k : ℕ) (room : Room) (cause : Refusal)
+    → first (entryCauses l query k room) ≡ verdict.Refused cause
     → first (searchCauses l query k room) ≡ verdict.Refused cause
-refused-at-entry l query k room cause refused = first-append (entryCauses l query k room) (cellCauses l query k) ∙ outcome-refused _ _ refused
+refused-at-entry l query k room cause refused = first-append (entryCauses l query k room) (cellCauses l query k)
+    ∙ outcome-refused _ _ refused
 
 -- ---- what the answer of reading tells
 

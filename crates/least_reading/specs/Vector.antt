@@ -25,7 +25,8 @@ pub record TellsDistance (inside : Bool) (m distance : ℕ) : Type 0 where
   pub in-cell : inside ≡ true
   pub is : distance ≡ m
 
-pub tells-distance : (inside : Bool) (m distance : ℕ) → cond inside (Distance m) Outside ≡ Distance distance → TellsDistance inside m distance
+pub tells-distance : (inside : Bool) (m distance : ℕ) → cond inside (Distance m) Outside ≡ Distance distance
+    → TellsDistance inside m distance
 tells-distance true m distance e = record { in-cell = refl; is = cc }
 tells-distance false m distance e = record { in-cell = cc; is = cc }
 
@@ -48,5 +49,7 @@ module _ {l : Library} {query : List ℤ} {k : ℕ} (is : Ready l query k) (i : 
   -- in its cell it is measured exactly
   pub measured : inOwnCell l i ≡ true → distanceIn l query i % 2 ^ 64 ≡ distanceIn l query i
   measured inside =
-      let cell : InCell (l .d) (l .b) (l .marks) (l .codes) i (vectorAt (l .d) (l .vectors) i) = record { components = place is i below .size; inside = inside } in
-      mod-eq-of-lt (distance-small query (is .components) _ (cell-components (l .d) (l .b) (l .marks) (is .marks) (l .codes) i cell) (l .d) (is .dimensions))
+      let cell : InCell (l .d) (l .b) (l .marks) (l .codes) i
+      (vectorAt (l .d) (l .vectors) i) = record { components = place is i below .size; inside = inside } in
+      mod-eq-of-lt (distance-small query (is .components) _ (cell-components (l .d) (l .b) (l .marks) (is .marks) (l .codes) i cell)
+      (l .d) (is .dimensions))

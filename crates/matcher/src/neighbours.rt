@@ -23,7 +23,8 @@ pub extern "C" fn matcher_scan(
 ) -> u32
     ensures { λ r. let t = scanTerms d n k in
         let v = first (scanCauses t (now (query .entry)) (now (vectors .entry)) (length (now (entries .entry)))) in
-        ⌜ (r ≡ verdictNumber v) × (now (entries .exit) ≡ scannedEntries v t (now (query .entry)) (now (vectors .entry)) (now (entries .entry))) ⌝ }
+        ⌜ (r ≡ verdictNumber v) × (now (entries .exit) ≡ scannedEntries v t (now (query .entry)) (now (vectors .entry))
+        (now (entries .entry))) ⌝ }
 {
     let terms = ScanTerms { d, n, k };
     let verdict = nearest::scan(terms, query, vectors, entries);

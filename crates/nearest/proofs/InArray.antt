@@ -30,10 +30,13 @@ module _ {M : Type 1} (𝓤 : URA M) (H : Heap 𝓤) (A : Atoms 𝓤) (W : Given
   in-row mk xs v is =
       qed W (‵ (fat fullShare (tyArray (lone (R .mir)) n) l 0 v) ∷ []) ∵
       owned ! (Array R n) (Is (Array R n)) (array-makes 𝓤 H A W R mk n) xs (v ∷ []) is $ move ! (1 ∷ 0 ∷ []) $
-      use2 W (‵ (partAt (Array R n) fullShare xs l 0)) (part-in-at 𝓤 H A W (Array R n) refl fullShare xs l 0 (tyArray (lone (R .mir)) n) refl v) $
-      use1 W (‵ (arr-parts (shares R) n .part fullShare xs l 0)) (array-apart 𝓤 H A W R fullShare single n xs l 0) $ fsplit ! $ drop ! $ done !
+      use2 W (‵ (partAt (Array R n) fullShare xs l 0))
+      (part-in-at 𝓤 H A W (Array R n) refl fullShare xs l 0 (tyArray (lone (R .mir)) n) refl v) $
+      use1 W (‵ (arr-parts (shares R) n .part fullShare xs l 0)) (array-apart 𝓤 H A W R fullShare single n xs l 0) $ fsplit ! $ drop ! $
+      done !
 
-  pub row-room : (xs : List (R .Denot)) → length xs ≡ n → ent 𝓤 (sem 𝓤 H A (row R fullShare xs l 0)) (H .room (tyArray (lone (R .mir)) n) l 0)
+  pub row-room : (xs : List (R .Denot)) → length xs ≡ n
+      → ent 𝓤 (sem 𝓤 H A (row R fullShare xs l 0)) (H .room (tyArray (lone (R .mir)) n) l 0)
   row-room xs size =
       qed W (‵ (row R fullShare xs l 0) ∷ []) ∵
       feqI ! ℕ (length xs) n size $ fjoin ! $

@@ -45,7 +45,8 @@ Entries = Array R maxNeighbours
 abbrev Field : RattleType
 Field = Array (S.the-field .row) maxNeighbours
 
-each-back : (es : List Entry) (us : List Val) → shadow (each (S.the-field .row .Denot) (S.the-field .row .own) (map (S.the-field .into) es) us)
+each-back : (es : List Entry) (us : List Val)
+    → shadow (each (S.the-field .row .Denot) (S.the-field .row .own) (map (S.the-field .into) es) us)
     → shadow (each Entry (R .own) es us)
 each-back [] [] is = tt
 each-back [] (u ∷ us) is = absurd is

@@ -50,7 +50,8 @@ filled-length array entries (suc i) = length-set (filled array entries i) i (get
 
 -- ---- all of them
 
-filled-at : (array entries : List Entry) (count i : ℕ) → i < count → count ≤ length entries → getD (filled array entries count) i blank ≡ getD array i blank
+filled-at : (array entries : List Entry) (count i : ℕ) → i < count → count ≤ length entries
+    → getD (filled array entries count) i blank ≡ getD array i blank
 unfolding filled
 filled-at array entries zero i below room = absurd (omega arith)
 filled-at array entries (suc count) i below room =
@@ -58,8 +59,10 @@ filled-at array entries (suc count) i below room =
   where
     go : (i ≡ count) ⊎ (i < count) → (i < count → getD (filled array entries count) i blank ≡ getD array i blank)
         → getD (set (filled array entries count) count (getD array count blank)) i blank ≡ getD array i blank
-    go (inl e) before = rw e (getD-set-same (filled array entries count) count (getD array count blank) blank (omega (arith, filled-length array entries count)))
-    go (inr less) before = getD-set-other (filled array entries count) count i (getD array count blank) blank (λ e. absurd (omega (arith, e))) ∙ before less
+    go (inl e) before = rw e (getD-set-same (filled array entries count) count (getD array count blank) blank
+        (omega (arith, filled-length array entries count)))
+    go (inr less) before = getD-set-other (filled array entries count) count i (getD array count blank) blank
+        (λ e. absurd (omega (arith, e))) ∙ before less
 
 -- from the array that holds them
 filled-all : (es entries : List Entry) (k : ℕ) → length es ≡ k → length entries ≡ k → k ≤ maxNeighbours → filled (inArray es) entries k ≡ es

@@ -38,7 +38,8 @@ pub fn search(
     reads: &mut [u32],
 ) -> Searched
     ensures { λ r. let l = library terms (now (marks .entry)) (now (codes .entry)) (now (vectors .entry)) in
-        let v = first (searchCauses l (now (query .entry)) (terms .k) (roomOf (length (now (entries .entry))) (length (now (reads .entry))))) in
+        let v = first (searchCauses l (now (query .entry)) (terms .k)
+        (roomOf (length (now (entries .entry))) (length (now (reads .entry))))) in
         ⌜ (r ≡ searchAnswer v l (now (query .entry)) (terms .k))
         × (now (entries .exit) ≡ searchEntries v l (now (query .entry)) (terms .k) (now (entries .entry)))
         × (now (reads .exit) ≡ searchReads v l (now (query .entry)) (terms .k) (now (reads .entry))) ⌝ }

@@ -119,7 +119,8 @@ fn scan_into(
     vectors: &[i32],
     distances: &mut [u64],
 ) -> [Entry; MAX_NEIGHBOURS]
-    requires { ⌜ (Vectors (terms .d) (terms .n) (now query) (now vectors)) × (Neighbours (terms .n) (terms .k)) × (length (now distances) ≡ terms .n) ⌝ }
+    requires { ⌜ (Vectors (terms .d) (terms .n) (now query) (now vectors)) × (Neighbours (terms .n) (terms .k))
+        × (length (now distances) ≡ terms .n) ⌝ }
     ensures { λ r. ⌜ r ≡ inArray (entriesOf (scanAnswer terms (now (query .entry)) (now (vectors .entry)))) ⌝ }
 {
     measure_all(terms.d, query, vectors, distances);

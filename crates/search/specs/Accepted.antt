@@ -103,6 +103,12 @@ lengths-told l query k room exact =
 
 pub lengths-exact : (l : Library) (query : List ℤ) (k : ℕ) (room : Room) → Lengths l query k room → exactLengths l query k room ≡ true
 lengths-exact l query k room n =
-    rw
-    (eq-eqb _ _ (n .of-query), eq-eqb _ _ (n .of-marks), eq-eqb _ _ (n .of-codes), eq-eqb _ _ (n .of-vectors), eq-eqb _ _ (n .of-entries), eq-eqb _ _ (n .of-reads))
+    rw (
+      eq-eqb _ _ (n .of-query),
+      eq-eqb _ _ (n .of-marks),
+      eq-eqb _ _ (n .of-codes),
+      eq-eqb _ _ (n .of-vectors),
+      eq-eqb _ _ (n .of-entries),
+      eq-eqb _ _ (n .of-reads),
+    )
     refl

@@ -34,7 +34,8 @@ module _ {keys numbers : List ℕ} {count : ℕ} {entries : List Entry} {i : ℕ
   turn : i < count → Holds keys numbers count (set entries i (record { number = getD numbers i 0; distance = getD keys i 0 })) (i + 1)
   turn more = record {
     within = omega arith;
-    are = rw (at .are, ← entry-at keys numbers i (omega (arith, counted))) (array-next (entriesOf (pairsOf keys numbers)) i (omega (arith, counted, long)));
+    are = rw (at .are, ← entry-at keys numbers i (omega (arith, counted)))
+        (array-next (entriesOf (pairsOf keys numbers)) i (omega (arith, counted, long)));
   }
 
   done : count ≤ i → entries ≡ inArray (entriesOf (pairsOf keys numbers))

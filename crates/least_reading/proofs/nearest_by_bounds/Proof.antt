@@ -36,7 +36,8 @@ returns c =
     let searched = c .before .before in
     let told = searched .before .before in
     let s = told .before .before .before .before .before in
-    searches-by (behind-entry (given s) (s .args .query .now) (s .args .terms .k) (room s) (accepted told)) (searched .search-ready .ensures)
+    searches-by (behind-entry (given s) (s .args .query .now) (s .args .terms .k) (room s) (accepted told))
+    (searched .search-ready .ensures)
 
 returns-2 : tie.Need-returns-2
 returns-2 c =

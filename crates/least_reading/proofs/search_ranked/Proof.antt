@@ -54,7 +54,8 @@ module _ (l : Library) (query : List ℤ) (k : ℕ) {keys best : List ℕ} where
   answers (Read count) read of-keys of-best keys-rest best-rest {order} {reads} ordered put entries kept are all =
       let told = tells-read _ _ _ (sym (read .answer)) in
       let accepted = cells-accepted l query k (told .in-cells) in
-      let in-front : take (length (searched l query k .reads)) order ≡ searched l query k .reads = rw ordered (sym (reads-are-the-order l query k)) in
+      let in-front : take (length (searched l query k .reads)) order ≡ searched l query k .reads = rw ordered
+      (sym (reads-are-the-order l query k)) in
       let pairs : pairsOf keys best ≡ searched l query k .best =
       rw (read .keys-are (told .in-cells), read .numbers-are (told .in-cells)) (pairs-both (searched l query k .best)) in
       record {
@@ -80,7 +81,8 @@ given s = library (s .args .terms) (s .args .marks .now) (s .args .codes .now) (
 
 order-length : (s : tie.Start) → length (s .args .order .now) ≡ s .args .terms .n
 order-length s =
-    ap length (s .pre .1 .1) ∙ ranked-count (lowIn (given s) (s .args .query .now)) (numbersIn (given s)) ∙ counted-length 0 (s .args .terms .n)
+    ap length (s .pre .1 .1) ∙ ranked-count (lowIn (given s) (s .args .query .now)) (numbersIn (given s))
+    ∙ counted-length 0 (s .args .terms .n)
 
 -- ---- the fronts of the two arrays
 
@@ -91,18 +93,36 @@ best-hold : tie.Need-array-borrow-prefix-best
 best-hold c = c .before .before .before .before .before .pre .0 .0 .few
 
 -- as many as were found
-kept-few : (c : tie.After-found-count) → c .found-count .result ≤ c .before .before .before .before .before .before .before .before .before .before .before .before .before .before .before .args .terms .k
-kept-few c = omega (arith, c .found-count .ensures, found-most (c .before .before .before .before .before .before .before .before .read-all .result) (c .before .before .before .before .before .before .before .before .before .before .before .before .before .before .before .args .terms .k))
+kept-few : (c : tie.After-found-count)
+    → c .found-count .result ≤ c .before .before .before .before .before .before .before .before .before .before .before .before .before
+    .before .before .args .terms .k
+kept-few c = omega (
+  arith,
+  c .found-count .ensures,
+  found-most (c .before .before .before .before .before .before .before .before .read-all .result)
+      (c .before .before .before .before .before .before .before .before .before .before .before .before .before .before .before .args
+      .terms .k),
+)
 
 keys-within : tie.Need-array-share-prefix-keys
 keys-within c =
     let read = c .before .before .before .before .before .before .before .before in
-    omega (arith, kept-few c, back-within _ _ (read .read-all .last .1 .1 .1 .1 .1 .1 .1 .0) (keys-hold (read .before .before .before)) (read .read-all .kept .1 .1 .1 .1 .1 .1 .1 .0))
+    omega (
+      arith,
+      kept-few c,
+      back-within _ _ (read .read-all .last .1 .1 .1 .1 .1 .1 .1 .0) (keys-hold (read .before .before .before))
+          (read .read-all .kept .1 .1 .1 .1 .1 .1 .1 .0),
+    )
 
 best-within : tie.Need-array-share-prefix-best
 best-within c =
     let read = c .before .before .before .before .before .before .before .before .before in
-    omega (arith, kept-few (c .before), back-within _ _ (read .read-all .last .1 .1 .1 .1 .1 .1 .1 .1 .0) (best-hold (read .before .before)) (read .read-all .kept .1 .1 .1 .1 .1 .1 .1 .1 .0))
+    omega (
+      arith,
+      kept-few (c .before),
+      back-within _ _ (read .read-all .last .1 .1 .1 .1 .1 .1 .1 .1 .0) (best-hold (read .before .before))
+          (read .read-all .kept .1 .1 .1 .1 .1 .1 .1 .1 .0),
+    )
 
 read-all-requires : tie.Need-read-all-requires
 read-all-requires c κs =
@@ -126,7 +146,8 @@ returns c =
     let s = read .before .before .before .before .before .before .before in
     let a = s .args in
     answers (given s) (a .query .now) (a .terms .k) (read .read-all .result) (read .read-all .ensures)
-    (read .read-all .kept .1 .1 .1 .1 .1 .1 .1 .0 ∙ length-take-le _ _ (keys-hold (read .before .before .before))) (read .read-all .kept .1 .1 .1 .1 .1 .1 .1 .1 .0 ∙ length-take-le _ _ (best-hold (read .before .before))) _ _
+    (read .read-all .kept .1 .1 .1 .1 .1 .1 .1 .0 ∙ length-take-le _ _ (keys-hold (read .before .before .before)))
+    (read .read-all .kept .1 .1 .1 .1 .1 .1 .1 .1 .0 ∙ length-take-le _ _ (best-hold (read .before .before))) _ _
     (s .pre .1 .1)
     (written .put-numbers .ensures ∙ ap (λ (m : ℕ). take m (a .order .now) ++ drop m (a .reads .now)) (counted .read-count .ensures))
     _ _ (c .entries-of .ensures) (found .found-count .ensures)

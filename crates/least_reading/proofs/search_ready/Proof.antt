@@ -37,7 +37,8 @@ lows-hold c = c .before .before .pre .0 .count
 lows-within : tie.Need-array-share-prefix-lows
 lows-within c =
     let filled = c .before in
-    back-within _ _ (filled .lower-bounds .last .1 .1 .1 .1 .1 .0) (lows-hold (filled .before .before)) (filled .lower-bounds .kept .1 .1 .1 .1 .1 .0)
+    back-within _ _ (filled .lower-bounds .last .1 .1 .1 .1 .1 .0) (lows-hold (filled .before .before))
+    (filled .lower-bounds .kept .1 .1 .1 .1 .1 .0)
 
 order-hold : tie.Need-array-borrow-prefix-order
 order-hold c = c .before .before .before .before .before .before .pre .0 .count
@@ -61,7 +62,8 @@ ordered c =
     let filled = c .before .before .before .before in
     let s = filled .before .before .before .before in
     let is = s .pre .0 in
-    ranks (lowIn (given s) (s .args .query .now)) (s .args .terms .n) _ _ (c .rank .last .1 .0) _ (omega (arith, is .some, is .enough)) (is .count)
+    ranks (lowIn (given s) (s .args .query .now)) (s .args .terms .n) _ _ (c .rank .last .1 .0) _ (omega (arith, is .some, is .enough))
+    (is .count)
     (shared-is _ _ (filled .lower-bounds .last .1 .1 .1 .1 .1 .0) (lows-hold (filled .before .before)) (filled .lower-bounds .kept .1 .1 .1 .1 .1 .0) ∙ bounded filled)
     (c .rank .ensures .1) (length-take-le _ _ (order-hold (c .before .before)))
 

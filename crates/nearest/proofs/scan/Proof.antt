@@ -1,4 +1,5 @@
--- `scan` meets its contract: a walk of its MIR, by hand. `scan::nearest_by_scan` answers by value, and `fill` writes its entries over those lent.
+-- `scan` meets its contract: a walk of its MIR, by hand. `scan::nearest_by_scan` answers by value, and `fill` writes its entries over
+-- those lent.
 -- Of each callee the proof knows the contract alone. Assumes nothing.
 use mathlib.Core.Path.{_≡_, refl, ap, _∙_}
 use Prim.Native.Nat.{ℕ, _≤_, _<_, _^_}
@@ -109,7 +110,13 @@ module _ (f : Scanned) (u : Val) (is : Is Held f (u ∷ [])) where
   entries-are = entries-back (f .entries) _ (LL.owed Hd.the-type Held′.the-laws f (u ∷ []) is .1 .0)
 
 abbrev stayed : Stays (face.ended .signature .params) (face.ended .kept)
-stayed = (stay-dropped (plain (λ _. Terms-row)) yes, (stay-dropped (shrSliceOf (0 ∷ []) tt (plain (λ _. i32))) yes, (stay-dropped (shrSliceOf (1 ∷ []) tt (plain (λ _. i32))) yes, (gave-slice (2 ∷ []) tt (plain (λ _. R)), tt))))
+stayed = (
+  stay-dropped (plain (λ _. Terms-row)) yes,
+  (
+    stay-dropped (shrSliceOf (0 ∷ []) tt (plain (λ _. i32))) yes,
+    (stay-dropped (shrSliceOf (1 ∷ []) tt (plain (λ _. i32))) yes, (gave-slice (2 ∷ []) tt (plain (λ _. R)), tt)),
+  ),
+)
 
 module _ {M : Type 1} (𝓤 : URA M) (H : Heap 𝓤) (A : Atoms 𝓤) (mem : Memory → SProp 𝓤) (run : Routine → Fun 𝓤) where
   -- the contracts that the proof cites
@@ -131,7 +138,16 @@ module _ {M : Type 1} (𝓤 : URA M) (H : Heap 𝓤) (A : Atoms 𝓤) (W : Given
 
   -- what the triple binds outside
   abbrev bound : walkOf 𝓤 H A face.ended stayed (face.clauses 𝓤 H A mem run) .Ghost
-  bound = (((κ-query, (κ-vectors, (κ-entries, tt))), (q-query, (q-vectors, (q-entries, tt))), tt, (terms, (query, (vectors, (entries, tt)))), at), tt)
+  bound = (
+    (
+      (κ-query, (κ-vectors, (κ-entries, tt))),
+      (q-query, (q-vectors, (q-entries, tt))),
+      tt,
+      (terms, (query, (vectors, (entries, tt)))),
+      at,
+    ),
+    tt,
+  )
 
   abbrev Post : Val → SProp 𝓤
   Post = walkOf 𝓤 H A face.ended stayed (face.clauses 𝓤 H A mem run) .post bound
@@ -167,10 +183,12 @@ module _ {M : Type 1} (𝓤 : URA M) (H : Heap 𝓤) (A : Atoms 𝓤) (W : Given
   told f c zs e e₂ e₃ = (e .0, e₃ ∙ rw (counted f c e e₂, e .1) (outcome-filled verdict k best (now entries) fits))
 
   exits : (r : Verdict) (u : Val) (zs : List Entry) → length zs ≡ length (now entries) → Claim r zs
-      → ent 𝓤 (⋆ 𝓤 H A (‵ (finally R (name entries) zs) ∷ ‵ (Row .own r (u ∷ [])) ∷ ‵ (flft κ-query q-query) ∷ ‵ (flft κ-vectors q-vectors) ∷ ‵ (flft κ-entries q-entries) ∷ [])) (Post u)
+      → ent 𝓤 (⋆ 𝓤 H A (‵ (finally R (name entries) zs) ∷ ‵ (Row .own r (u ∷ [])) ∷ ‵ (flft κ-query q-query) ∷ ‵
+      (flft κ-vectors q-vectors) ∷ ‵ (flft κ-entries q-entries) ∷ [])) (Post u)
   exits r u zs size claim =
       qed W (‵ (finally R (name entries) zs) ∷ ‵ (Row .own r (u ∷ [])) ∷ ‵ (flft κ-query q-query) ∷ ‵ (flft κ-vectors q-vectors) ∷ ‵ (flft κ-entries q-entries) ∷ []) ∵
-      suffices ! _ (ends-at 𝓤 H A face.ended stayed (face.clauses 𝓤 H A mem run) W bound u r (tt, (tt, (tt, (zs, tt)))) (tt, (tt, (tt, (size, tt))))) $
+      suffices ! _ (ends-at 𝓤 H A face.ended stayed (face.clauses 𝓤 H A mem run) W bound u r (tt, (tt, (tt, (zs, tt))))
+      (tt, (tt, (tt, (size, tt))))) $
       says ! claim $ nothing ! $ move ! (3 ∷ 4 ∷ 5 ∷ 0 ∷ []) $ group ! 4 $ frame ! $ nothing ! $ nothing ! $ nothing ! $ nothing ! $
       move ! (3 ∷ 2 ∷ 1 ∷ 4 ∷ 0 ∷ []) $ group ! 5 $ frame ! $ done !
 
@@ -217,7 +235,8 @@ module _ {M : Type 1} (𝓤 : URA M) (H : Heap 𝓤) (A : Atoms 𝓤) (W : Given
       Filled = Lasts fill.ended (κ-entries, tt) (entries, (f .entries, (c, tt)))
 
       fill-asked : (c ≤ length (now entries)) × (c ≤ maxNeighbours)
-          → ent 𝓤 (onEntry 𝓤 H A fill.signature (κ-entries, tt) (q-entries, tt) (entries, (f .entries, (c, tt))) (slice-vals entries, (entries-val f ∷ [], (u ∷ [], tt)))) (Fill 𝓤 H A mem run .pre filling)
+          → ent 𝓤 (onEntry 𝓤 H A fill.signature (κ-entries, tt) (q-entries, tt) (entries, (f .entries, (c, tt)))
+          (slice-vals entries, (entries-val f ∷ [], (u ∷ [], tt)))) (Fill 𝓤 H A mem run .pre filling)
       fill-asked room = asked-fill κ-entries q-entries entries (f .entries) (entries-val f) c u 𝓤 H A mem run W room
 
   answer-made : Makes 𝓤 H A Row (Is Row)
@@ -229,9 +248,11 @@ module _ {M : Type 1} (𝓤 : URA M) (H : Heap 𝓤) (A : Atoms 𝓤) (W : Given
   answer-typed : (f : Scanned) (u : Val) → Is Held f (u ∷ []) → T (hasTy Ans′.mir (answer-val f)) × WT (answer-val f)
   answer-typed f u is = EL.lawful Ans.the-type Ans′.the-laws 𝓤 H A W tt .typed (f .verdict) _ (answer-is f u is) .0
 
-  module _ (𝓣 : Tables 𝓤 H) (known-core : Triple 𝓤 (𝓣 .C #core) (Core 𝓤 H A mem run)) (known-count : Triple 𝓤 (𝓣 .C #count) (Count 𝓤 H A mem run))
+  module _ (𝓣 : Tables 𝓤 H) (known-core : Triple 𝓤 (𝓣 .C #core) (Core 𝓤 H A mem run))
+      (known-count : Triple 𝓤 (𝓣 .C #count) (Count 𝓤 H A mem run))
       (known-fill : Triple 𝓤 (𝓣 .C #fill) (Fill 𝓤 H A mem run)) (terms-is : Is Terms-row terms (terms-val terms ∷ []))
-      (room-query : Room i32 (length (now query))) (room-vectors : Room i32 (length (now vectors))) (room-entries : Room R (length (now entries))) where
+      (room-query : Room i32 (length (now query))) (room-vectors : Room i32 (length (now vectors)))
+      (room-entries : Room R (length (now entries))) where
     fm : FmC 𝓤 H (W .laws) (𝓣 .C)
     fm = fmOf 𝓤 H (W .laws) 𝓣
 
@@ -241,11 +262,19 @@ module _ {M : Type 1} (𝓤 : URA M) (H : Heap 𝓤) (A : Atoms 𝓤) (W : Given
     terms-typed : T (hasTy Tm′.mir (terms-val terms)) × WT (terms-val terms)
     terms-typed = LL.lawful Tm.the-type Tm′.the-laws 𝓤 H A W .typed terms _ terms-is .0
 
-    walk : ent 𝓤 (onEntry 𝓤 H A face.signature (κ-query, (κ-vectors, (κ-entries, tt))) (q-query, (q-vectors, (q-entries, tt))) (terms, (query, (vectors, (entries, tt)))) at)
-        (WpFn 𝓤 H (𝓣 .C) (𝓣 .Λ) code.function (terms-val terms ∷ sliceVal (query .ptr) (length (now query)) ∷ sliceVal (vectors .ptr) (length (now vectors)) ∷ sliceVal (entries .ptr) (length (now entries)) ∷ []) Post)
+    walk : ent 𝓤 (onEntry 𝓤 H A face.signature (κ-query, (κ-vectors, (κ-entries, tt))) (q-query, (q-vectors, (q-entries, tt)))
+        (terms, (query, (vectors, (entries, tt)))) at)
+        (WpFn 𝓤 H (𝓣 .C) (𝓣 .Λ) code.function
+        (terms-val terms ∷ sliceVal (query .ptr) (length (now query)) ∷ sliceVal (vectors .ptr) (length (now vectors)) ∷ sliceVal
+        (entries .ptr) (length (now entries)) ∷ []) Post)
     walk =
-        qed W ((‵ (flft κ-query q-query) ⊛ (‵ (flft κ-vectors q-vectors) ⊛ (‵ (flft κ-entries q-entries) ⊛ ‵ ftrue))) ∷ ‵ (Terms-row .own terms (terms-val terms ∷ [])) ∷ ‵ (ShrSlice (named 0) κ-query i32 .own query (slice-vals query)) ∷ ‵ (ShrSlice (named 1) κ-vectors i32 .own vectors (slice-vals vectors)) ∷ ‵ (MutSlice (named 2) κ-entries R .own entries (slice-vals entries)) ∷ ‵ ftrue ∷ []) ∵
-        enter ! (𝓣 .C) (𝓣 .Λ) code.function (terms-val terms ∷ sliceVal (query .ptr) (length (now query)) ∷ sliceVal (vectors .ptr) (length (now vectors)) ∷ sliceVal (entries .ptr) (length (now entries)) ∷ []) _ $
+        qed W ((‵ (flft κ-query q-query) ⊛ (‵ (flft κ-vectors q-vectors) ⊛ (‵ (flft κ-entries q-entries) ⊛ ‵ ftrue))) ∷ ‵
+        (Terms-row .own terms (terms-val terms ∷ [])) ∷ ‵ (ShrSlice (named 0) κ-query i32 .own query (slice-vals query)) ∷ ‵
+        (ShrSlice (named 1) κ-vectors i32 .own vectors (slice-vals vectors)) ∷ ‵
+        (MutSlice (named 2) κ-entries R .own entries (slice-vals entries)) ∷ ‵ ftrue ∷ []) ∵
+        enter ! (𝓣 .C) (𝓣 .Λ) code.function
+        (terms-val terms ∷ sliceVal (query .ptr) (length (now query)) ∷ sliceVal (vectors .ptr) (length (now vectors)) ∷ sliceVal
+        (entries .ptr) (length (now entries)) ∷ []) _ $
         alloc1 ! (λ l₀. alloc1 ! (λ l₁. alloc1 ! (λ l₂. alloc1 ! (λ l₃. alloc1 ! (λ l₄. alloc1 ! (λ l₅. alloc1 ! (λ l₆. alloc1 ! (λ l₇.
         alloc1 ! (λ l₈. alloc1 ! (λ l₉. alloc1 ! (λ l₁₀. alloc1 ! (λ l₁₁. alloc0 ! $ params1 ! $ pass1 ! (init ! 20 refl terms-typed) $
         pass1 ! (init ! 18 refl (tt, (tt, (record { fits = room-query .0 }, tt)))) $
@@ -322,18 +351,35 @@ module _ {M : Type 1} (𝓤 : URA M) (H : Heap 𝓤) (A : Atoms 𝓤) (W : Given
         owned ! Row (Is Row) answer-made (f .verdict) _ (answer-is f u is) $ keep ! (2 ∷ 0 ∷ 4 ∷ 3 ∷ 1 ∷ []) $
         by ! (exits (f .verdict) (answer-val f) (zs .0) size (told f c (zs .0) e e₂ e₃)))))))))))))))))))))))))))))
 
-module _ {M : Type 1} (𝓤 : URA M) (H : Heap 𝓤) (A : Atoms 𝓤) (W : Given 𝓤 H A) (mem : Memory → SProp 𝓤) (run : Routine → Fun 𝓤) (𝓣 : Tables 𝓤 H)
+module _ {M : Type 1} (𝓤 : URA M) (H : Heap 𝓤) (A : Atoms 𝓤) (W : Given 𝓤 H A) (mem : Memory → SProp 𝓤) (run : Routine → Fun 𝓤)
+    (𝓣 : Tables 𝓤 H)
     (known-core : Triple 𝓤 (𝓣 .C #core) (Core 𝓤 H A mem run)) (known-count : Triple 𝓤 (𝓣 .C #count) (Count 𝓤 H A mem run))
     (known-fill : Triple 𝓤 (𝓣 .C #fill) (Fill 𝓤 H A mem run)) where
   walks : Walks 𝓤 H A face.ended stayed (WpFn 𝓤 H (𝓣 .C) (𝓣 .Λ) code.function) (face.clauses 𝓤 H A mem run)
   walks = walked 𝓤 H A face.ended stayed (face.clauses 𝓤 H A mem run) (WpFn 𝓤 H (𝓣 .C) (𝓣 .Λ) code.function)
       (λ κs. ((λ (t : ScanTerms). terms-val t ∷ []), (slice-vals, (slice-vals, (slice-vals, tt)))))
-      (λ κs. (terms-tells, (shr-slice-tells (named 0) (κs .0) i32, (shr-slice-tells (named 1) (κs .1 .0) i32, (mut-slice-tells (named 2) (κs .1 .1 .0) R, tt)))))
-      (λ κs qs bounds a g are. via 𝓤 _ (fst∗ 𝓤 _ (emp 𝓤)) (walk 𝓤 H A W mem run (κs .0) (κs .1 .0) (κs .1 .1 .0) (qs .0) (qs .1 .0) (qs .1 .1 .0) (a .0) (a .1 .0) (a .1 .1 .0) (a .1 .1 .1 .0) 𝓣 known-core known-count known-fill (are .0) (are .1 .0 .0 .1) (are .1 .1 .0 .0 .1) (are .1 .1 .1 .0 .0 .1)))
+      (λ κs. (
+        terms-tells,
+        (
+          shr-slice-tells (named 0) (κs .0) i32,
+          (shr-slice-tells (named 1) (κs .1 .0) i32, (mut-slice-tells (named 2) (κs .1 .1 .0) R, tt)),
+        ),
+      ))
+      (λ κs qs bounds a g are. via 𝓤 _ (fst∗ 𝓤 _ (emp 𝓤))
+      (walk 𝓤 H A W mem run (κs .0) (κs .1 .0) (κs .1 .1 .0) (qs .0) (qs .1 .0) (qs .1 .1 .0) (a .0) (a .1 .0) (a .1 .1 .0)
+      (a .1 .1 .1 .0) 𝓣 known-core known-count known-fill (are .0) (are .1 .0 .0 .1) (are .1 .1 .0 .0 .1) (are .1 .1 .1 .0 .0 .1)))
 
   meets : Meets 𝓤 H A face.signature (WpFn 𝓤 H (𝓣 .C) (𝓣 .Λ) code.function) (face.spec 𝓤 H A mem run)
-  meets = walk-meets 𝓤 H A face.ended stayed W
-      (goes-dropped 𝓤 H A W 3 (plain (λ _. Terms-row)) yes (λ κs y f. refl), (goes-dropped 𝓤 H A W 3 (shrSliceOf (0 ∷ []) tt (plain (λ _. i32))) yes (λ κs y f. refl), (goes-dropped 𝓤 H A W 3 (shrSliceOf (1 ∷ []) tt (plain (λ _. i32))) yes (λ κs y f. refl), (goes-gave-slice 𝓤 H A W 3 2 tt (plain (λ _. R)), tt))))
+  meets = walk-meets 𝓤 H A face.ended stayed W (
+    goes-dropped 𝓤 H A W 3 (plain (λ _. Terms-row)) yes (λ κs y f. refl),
+    (
+      goes-dropped 𝓤 H A W 3 (shrSliceOf (0 ∷ []) tt (plain (λ _. i32))) yes (λ κs y f. refl),
+      (
+        goes-dropped 𝓤 H A W 3 (shrSliceOf (1 ∷ []) tt (plain (λ _. i32))) yes (λ κs y f. refl),
+        (goes-gave-slice 𝓤 H A W 3 2 tt (plain (λ _. R)), tt),
+      ),
+    ),
+  )
       (face.clauses 𝓤 H A mem run) (WpFn 𝓤 H (𝓣 .C) (𝓣 .Λ) code.function) (WpFn-mono 𝓤 H (W .laws) 𝓣 code.function) walks
 
 pub scan-spec : {M : Type 1} → stated.statement M
@@ -342,6 +388,8 @@ scan-spec 𝓤 H 𝓜 𝓖 𝓡 =
     entered 𝓤 H (tripleOf 𝓤 H (𝓖 .A) face.signature (face.spec 𝓤 H (𝓖 .A) (𝓜 .mem) (𝓡 .run)))
     (tables 𝓤 H 𝓜 𝓡 code.env .C) (tables 𝓤 H 𝓜 𝓡 code.env .Λ) #nearest·scan code.function (code.unfolded 𝓤 H 𝓜 𝓡)
     (meets 𝓤 H (𝓖 .A) (givenOf 𝓤 H 𝓜 𝓖) (𝓜 .mem) (𝓡 .run) (tablesOf 𝓤 H 𝓜 (tables 𝓤 H 𝓜 𝓡 code.env))
-    (cited 𝓤 H (Core 𝓤 H (𝓖 .A) (𝓜 .mem) (𝓡 .run)) 𝓜 𝓡 code.env #core core-def.routine code.calls-scan·nearest-by-scan (core-thm.met 𝓤 H 𝓜 𝓖 𝓡))
-    (cited 𝓤 H (Count 𝓤 H (𝓖 .A) (𝓜 .mem) (𝓡 .run)) 𝓜 𝓡 code.env #count count-def.routine code.calls-scan·accepted-count (count-thm.met 𝓤 H 𝓜 𝓖 𝓡))
+    (cited 𝓤 H (Core 𝓤 H (𝓖 .A) (𝓜 .mem) (𝓡 .run)) 𝓜 𝓡 code.env #core core-def.routine code.calls-scan·nearest-by-scan
+    (core-thm.met 𝓤 H 𝓜 𝓖 𝓡))
+    (cited 𝓤 H (Count 𝓤 H (𝓖 .A) (𝓜 .mem) (𝓡 .run)) 𝓜 𝓡 code.env #count count-def.routine code.calls-scan·accepted-count
+    (count-thm.met 𝓤 H 𝓜 𝓖 𝓡))
     (cited 𝓤 H (Fill 𝓤 H (𝓖 .A) (𝓜 .mem) (𝓡 .run)) 𝓜 𝓡 code.env #fill fill-def.routine code.calls-nearest·fill·fill (fill-thm.met 𝓤 H 𝓜 𝓖 𝓡)))

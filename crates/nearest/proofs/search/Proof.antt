@@ -1,4 +1,5 @@
--- `search` meets its contract: a walk of its MIR, by hand. `least_reading::nearest_by_bounds` answers by value, and `fill` writes its entries over those lent.
+-- `search` meets its contract: a walk of its MIR, by hand. `least_reading::nearest_by_bounds` answers by value, and `fill` writes its
+-- entries over those lent.
 -- Of each callee the proof knows the contract alone. Assumes nothing.
 use mathlib.Core.Path.{_≡_, refl, ap, _∙_}
 use Prim.Native.Nat.{ℕ, _≤_, _<_, _^_}
@@ -113,7 +114,22 @@ module _ (f : Found) (u : Val) (is : Is Held f (u ∷ [])) where
   entries-are = entries-back (f .entries) _ (LL.owed Hd.the-type Held′.the-laws f (u ∷ []) is .1 .0)
 
 abbrev stayed : Stays (face.ended .signature .params) (face.ended .kept)
-stayed = (stay-dropped (plain (λ _. Terms-row)) yes, (stay-dropped (shrSliceOf (0 ∷ []) tt (plain (λ _. i32))) yes, (stay-dropped (shrSliceOf (1 ∷ []) tt (plain (λ _. i32))) yes, (stay-dropped (shrSliceOf (2 ∷ []) tt (plain (λ _. u8))) yes, (stay-dropped (shrSliceOf (3 ∷ []) tt (plain (λ _. i32))) yes, (gave-slice (4 ∷ []) tt (plain (λ _. R)), (gave-slice (5 ∷ []) tt (plain (λ _. u32)), tt)))))))
+stayed = (
+  stay-dropped (plain (λ _. Terms-row)) yes,
+  (
+    stay-dropped (shrSliceOf (0 ∷ []) tt (plain (λ _. i32))) yes,
+    (
+      stay-dropped (shrSliceOf (1 ∷ []) tt (plain (λ _. i32))) yes,
+      (
+        stay-dropped (shrSliceOf (2 ∷ []) tt (plain (λ _. u8))) yes,
+        (
+          stay-dropped (shrSliceOf (3 ∷ []) tt (plain (λ _. i32))) yes,
+          (gave-slice (4 ∷ []) tt (plain (λ _. R)), (gave-slice (5 ∷ []) tt (plain (λ _. u32)), tt)),
+        ),
+      ),
+    ),
+  ),
+)
 
 module _ {M : Type 1} (𝓤 : URA M) (H : Heap 𝓤) (A : Atoms 𝓤) (mem : Memory → SProp 𝓤) (run : Routine → Fun 𝓤) where
   -- the contracts that the proof cites
@@ -124,18 +140,35 @@ module _ {M : Type 1} (𝓤 : URA M) (H : Heap 𝓤) (A : Atoms 𝓤) (mem : Mem
   Count = tripleOf 𝓤 H A count.signature (count.spec 𝓤 H A mem run)
 
 module _ {M : Type 1} (𝓤 : URA M) (H : Heap 𝓤) (A : Atoms 𝓤) (W : Given 𝓤 H A) (mem : Memory → SProp 𝓤) (run : Routine → Fun 𝓤)
-    (κ-query κ-marks κ-codes κ-vectors κ-entries κ-reads : Lft) (q-query q-marks q-codes q-vectors q-entries q-reads : Share) (terms : Terms)
-    (query : RefT (List ℤ)) (marks : RefT (List ℤ)) (codes : RefT (List ℕ)) (vectors : RefT (List ℤ)) (entries : RefT (List Entry)) (reads : RefT (List ℕ)) where
+    (κ-query κ-marks κ-codes κ-vectors κ-entries κ-reads : Lft) (q-query q-marks q-codes q-vectors q-entries q-reads : Share)
+    (terms : Terms)
+    (query : RefT (List ℤ)) (marks : RefT (List ℤ)) (codes : RefT (List ℕ)) (vectors : RefT (List ℤ)) (entries : RefT (List Entry))
+    (reads : RefT (List ℕ)) where
   abbrev k : ℕ
   k = terms .k
 
   -- the parameters' machine values
   abbrev at : Vals face.signature (κ-query, (κ-marks, (κ-codes, (κ-vectors, (κ-entries, (κ-reads, tt))))))
-  at = (terms-val terms ∷ [], (slice-vals query, (slice-vals marks, (slice-vals codes, (slice-vals vectors, (slice-vals entries, (slice-vals reads, tt)))))))
+  at = (
+    terms-val terms ∷ [],
+    (
+      slice-vals query,
+      (slice-vals marks, (slice-vals codes, (slice-vals vectors, (slice-vals entries, (slice-vals reads, tt))))),
+    ),
+  )
 
   -- what the triple binds outside
   abbrev bound : walkOf 𝓤 H A face.ended stayed (face.clauses 𝓤 H A mem run) .Ghost
-  bound = (((κ-query, (κ-marks, (κ-codes, (κ-vectors, (κ-entries, (κ-reads, tt)))))), (q-query, (q-marks, (q-codes, (q-vectors, (q-entries, (q-reads, tt)))))), tt, (terms, (query, (marks, (codes, (vectors, (entries, (reads, tt))))))), at), tt)
+  bound = (
+    (
+      (κ-query, (κ-marks, (κ-codes, (κ-vectors, (κ-entries, (κ-reads, tt)))))),
+      (q-query, (q-marks, (q-codes, (q-vectors, (q-entries, (q-reads, tt)))))),
+      tt,
+      (terms, (query, (marks, (codes, (vectors, (entries, (reads, tt))))))),
+      at,
+    ),
+    tt,
+  )
 
   abbrev Post : Val → SProp 𝓤
   Post = walkOf 𝓤 H A face.ended stayed (face.clauses 𝓤 H A mem run) .post bound
@@ -172,21 +205,28 @@ module _ {M : Type 1} (𝓤 : URA M) (H : Heap 𝓤) (A : Atoms 𝓤) (W : Given
       (r ≡ searchAnswer verdict l (now query) k) × (zs ≡ searchEntries verdict l (now query) k (now entries))
       × (rs ≡ searchReads verdict l (now query) k (now reads))
 
-  told : (f : Found) (rs : List ℕ) (c : ℕ) (zs : List Entry) → Told f rs → c ≡ Counted f → zs ≡ filled (f .entries) (now entries) c → Claim (f .answer) zs rs
+  told : (f : Found) (rs : List ℕ) (c : ℕ) (zs : List Entry) → Told f rs → c ≡ Counted f → zs ≡ filled (f .entries) (now entries) c
+      → Claim (f .answer) zs rs
   told f rs c zs e e₂ e₃ =
       (e .answer, e₃ ∙ rw (counted f rs c e e₂, e .entries-are) (outcome-filled verdict k best (now entries) fits), e .reads-are)
 
-  exits : (r : Searched) (u : Val) (zs : List Entry) (rs : List ℕ) → length rs ≡ length (now reads) → length zs ≡ length (now entries) → Claim r zs rs
-      → ent 𝓤 (⋆ 𝓤 H A (‵ (finally R (name entries) zs) ∷ ‵ (finally u32 (name reads) rs) ∷ ‵ (Row .own r (u ∷ [])) ∷ ‵ (flft κ-query q-query) ∷ ‵ (flft κ-marks q-marks) ∷ ‵ (flft κ-codes q-codes) ∷ ‵ (flft κ-vectors q-vectors) ∷ ‵ (flft κ-entries q-entries) ∷ ‵ (flft κ-reads q-reads) ∷ [])) (Post u)
+  exits : (r : Searched) (u : Val) (zs : List Entry) (rs : List ℕ) → length rs ≡ length (now reads) → length zs ≡ length (now entries)
+      → Claim r zs rs
+      → ent 𝓤 (⋆ 𝓤 H A (‵ (finally R (name entries) zs) ∷ ‵ (finally u32 (name reads) rs) ∷ ‵ (Row .own r (u ∷ [])) ∷ ‵
+      (flft κ-query q-query) ∷ ‵ (flft κ-marks q-marks) ∷ ‵ (flft κ-codes q-codes) ∷ ‵ (flft κ-vectors q-vectors) ∷ ‵
+      (flft κ-entries q-entries) ∷ ‵ (flft κ-reads q-reads) ∷ [])) (Post u)
   exits r u zs rs size-reads size claim =
       qed W (‵ (finally R (name entries) zs) ∷ ‵ (finally u32 (name reads) rs) ∷ ‵ (Row .own r (u ∷ [])) ∷ ‵ (flft κ-query q-query) ∷ ‵ (flft κ-marks q-marks) ∷ ‵ (flft κ-codes q-codes) ∷ ‵ (flft κ-vectors q-vectors) ∷ ‵ (flft κ-entries q-entries) ∷ ‵ (flft κ-reads q-reads) ∷ []) ∵
-      suffices ! _ (ends-at 𝓤 H A face.ended stayed (face.clauses 𝓤 H A mem run) W bound u r (tt, (tt, (tt, (tt, (tt, (zs, (rs, tt))))))) (tt, (tt, (tt, (tt, (tt, (size, (size-reads, tt)))))))) $
-      says ! claim $ nothing ! $ move ! (4 ∷ 5 ∷ 6 ∷ 7 ∷ 8 ∷ 9 ∷ 0 ∷ []) $ group ! 7 $ frame ! $ nothing ! $ nothing ! $ nothing ! $ nothing ! $ nothing ! $ nothing ! $
+      suffices ! _ (ends-at 𝓤 H A face.ended stayed (face.clauses 𝓤 H A mem run) W bound u r (tt, (tt, (tt, (tt, (tt, (zs, (rs, tt)))))))
+      (tt, (tt, (tt, (tt, (tt, (size, (size-reads, tt)))))))) $
+      says ! claim $ nothing ! $ move ! (4 ∷ 5 ∷ 6 ∷ 7 ∷ 8 ∷ 9 ∷ 0 ∷ []) $ group ! 7 $ frame ! $ nothing ! $ nothing ! $ nothing ! $
+      nothing ! $ nothing ! $ nothing ! $
       move ! (5 ∷ 4 ∷ 3 ∷ 2 ∷ 1 ∷ 6 ∷ 7 ∷ 0 ∷ []) $ group ! 8 $ frame ! $ done !
 
   -- ---- what each callee is passed, and the tokens that come back
   abbrev Tokens : Item 𝓤
-  Tokens = ‵ (flft κ-query q-query) ⊛ (‵ (flft κ-marks q-marks) ⊛ (‵ (flft κ-codes q-codes) ⊛ (‵ (flft κ-vectors q-vectors) ⊛ (‵ (flft κ-reads q-reads) ⊛ ‵ ftrue))))
+  Tokens = ‵ (flft κ-query q-query) ⊛
+      (‵ (flft κ-marks q-marks) ⊛ (‵ (flft κ-codes q-codes) ⊛ (‵ (flft κ-vectors q-vectors) ⊛ (‵ (flft κ-reads q-reads) ⊛ ‵ ftrue))))
 
   abbrev lfts : Lfts (core.signature .lifetimes)
   lfts = (κ-query, (κ-marks, (κ-codes, (κ-vectors, (κ-reads, tt)))))
@@ -195,13 +235,21 @@ module _ {M : Type 1} (𝓤 : URA M) (H : Heap 𝓤) (A : Atoms 𝓤) (W : Given
   given = (terms, (query, (marks, (codes, (vectors, (length (now entries), (reads, tt)))))))
 
   abbrev passed : Vals core.signature lfts
-  passed = (terms-val terms ∷ [], (slice-vals query, (slice-vals marks, (slice-vals codes, (slice-vals vectors, (vint w64 (length (now entries)) ∷ [], (slice-vals reads, tt)))))))
+  passed = (
+    terms-val terms ∷ [],
+    (
+      slice-vals query,
+      (slice-vals marks, (slice-vals codes, (slice-vals vectors, (vint w64 (length (now entries)) ∷ [], (slice-vals reads, tt))))),
+    ),
+  )
 
   abbrev to : Core 𝓤 H A mem run .Ghost
   to = ((lfts, (q-query, (q-marks, (q-codes, (q-vectors, (q-reads, tt))))), tt, given, passed), tt)
 
-  asked : ent 𝓤 (onEntry 𝓤 H A core.signature lfts (q-query, (q-marks, (q-codes, (q-vectors, (q-reads, tt))))) given passed) (Core 𝓤 H A mem run .pre to)
-  asked = qed W (raw (onEntry 𝓤 H A core.signature lfts (q-query, (q-marks, (q-codes, (q-vectors, (q-reads, tt))))) given passed) ∷ []) ∵ frame ! $ done !
+  asked : ent 𝓤 (onEntry 𝓤 H A core.signature lfts (q-query, (q-marks, (q-codes, (q-vectors, (q-reads, tt))))) given passed)
+      (Core 𝓤 H A mem run .pre to)
+  asked = qed W (raw (onEntry 𝓤 H A core.signature lfts (q-query, (q-marks, (q-codes, (q-vectors, (q-reads, tt))))) given passed) ∷ []) ∵
+      frame ! $ done !
 
   module _ (f : Found) where
     abbrev given-count : Args count.signature tt
@@ -227,7 +275,8 @@ module _ {M : Type 1} (𝓤 : URA M) (H : Heap 𝓤) (A : Atoms 𝓤) (W : Given
       Filled = Lasts fill.ended (κ-entries, tt) (entries, (f .entries, (c, tt)))
 
       fill-asked : (c ≤ length (now entries)) × (c ≤ maxNeighbours)
-          → ent 𝓤 (onEntry 𝓤 H A fill.signature (κ-entries, tt) (q-entries, tt) (entries, (f .entries, (c, tt))) (slice-vals entries, (entries-val f ∷ [], (u ∷ [], tt)))) (Fill 𝓤 H A mem run .pre filling)
+          → ent 𝓤 (onEntry 𝓤 H A fill.signature (κ-entries, tt) (q-entries, tt) (entries, (f .entries, (c, tt)))
+          (slice-vals entries, (entries-val f ∷ [], (u ∷ [], tt)))) (Fill 𝓤 H A mem run .pre filling)
       fill-asked room = asked-fill κ-entries q-entries entries (f .entries) (entries-val f) c u 𝓤 H A mem run W room
 
   answer-made : Makes 𝓤 H A Row (Is Row)
@@ -239,9 +288,12 @@ module _ {M : Type 1} (𝓤 : URA M) (H : Heap 𝓤) (A : Atoms 𝓤) (W : Given
   answer-typed : (f : Found) (u : Val) → Is Held f (u ∷ []) → T (hasTy Ans′.mir (answer-val f)) × WT (answer-val f)
   answer-typed f u is = EL.lawful Ans.the-type Ans′.the-laws 𝓤 H A W tt .typed (f .answer) _ (answer-is f u is) .0
 
-  module _ (𝓣 : Tables 𝓤 H) (known-core : Triple 𝓤 (𝓣 .C #core) (Core 𝓤 H A mem run)) (known-count : Triple 𝓤 (𝓣 .C #count) (Count 𝓤 H A mem run))
+  module _ (𝓣 : Tables 𝓤 H) (known-core : Triple 𝓤 (𝓣 .C #core) (Core 𝓤 H A mem run))
+      (known-count : Triple 𝓤 (𝓣 .C #count) (Count 𝓤 H A mem run))
       (known-fill : Triple 𝓤 (𝓣 .C #fill) (Fill 𝓤 H A mem run)) (terms-is : Is Terms-row terms (terms-val terms ∷ []))
-      (room-query : Room i32 (length (now query))) (room-marks : Room i32 (length (now marks))) (room-codes : Room u8 (length (now codes))) (room-vectors : Room i32 (length (now vectors))) (room-entries : Room R (length (now entries))) (room-reads : Room u32 (length (now reads))) where
+      (room-query : Room i32 (length (now query))) (room-marks : Room i32 (length (now marks)))
+      (room-codes : Room u8 (length (now codes))) (room-vectors : Room i32 (length (now vectors)))
+      (room-entries : Room R (length (now entries))) (room-reads : Room u32 (length (now reads))) where
     fm : FmC 𝓤 H (W .laws) (𝓣 .C)
     fm = fmOf 𝓤 H (W .laws) 𝓣
 
@@ -251,11 +303,27 @@ module _ {M : Type 1} (𝓤 : URA M) (H : Heap 𝓤) (A : Atoms 𝓤) (W : Given
     terms-typed : T (hasTy Tm′.mir (terms-val terms)) × WT (terms-val terms)
     terms-typed = LL.lawful Tm.the-type Tm′.the-laws 𝓤 H A W .typed terms _ terms-is .0
 
-    walk : ent 𝓤 (onEntry 𝓤 H A face.signature (κ-query, (κ-marks, (κ-codes, (κ-vectors, (κ-entries, (κ-reads, tt)))))) (q-query, (q-marks, (q-codes, (q-vectors, (q-entries, (q-reads, tt)))))) (terms, (query, (marks, (codes, (vectors, (entries, (reads, tt))))))) at)
-        (WpFn 𝓤 H (𝓣 .C) (𝓣 .Λ) code.function (terms-val terms ∷ sliceVal (query .ptr) (length (now query)) ∷ sliceVal (marks .ptr) (length (now marks)) ∷ sliceVal (codes .ptr) (length (now codes)) ∷ sliceVal (vectors .ptr) (length (now vectors)) ∷ sliceVal (entries .ptr) (length (now entries)) ∷ sliceVal (reads .ptr) (length (now reads)) ∷ []) Post)
+    walk : ent 𝓤 (onEntry 𝓤 H A face.signature (κ-query, (κ-marks, (κ-codes, (κ-vectors, (κ-entries, (κ-reads, tt))))))
+        (q-query, (q-marks, (q-codes, (q-vectors, (q-entries, (q-reads, tt))))))
+        (terms, (query, (marks, (codes, (vectors, (entries, (reads, tt))))))) at)
+        (WpFn 𝓤 H (𝓣 .C) (𝓣 .Λ) code.function
+        (terms-val terms ∷ sliceVal (query .ptr) (length (now query)) ∷ sliceVal (marks .ptr) (length (now marks)) ∷ sliceVal (codes .ptr)
+        (length (now codes)) ∷ sliceVal (vectors .ptr) (length (now vectors)) ∷ sliceVal (entries .ptr) (length (now entries)) ∷ sliceVal
+        (reads .ptr) (length (now reads)) ∷ []) Post)
     walk =
-        qed W ((‵ (flft κ-query q-query) ⊛ (‵ (flft κ-marks q-marks) ⊛ (‵ (flft κ-codes q-codes) ⊛ (‵ (flft κ-vectors q-vectors) ⊛ (‵ (flft κ-entries q-entries) ⊛ (‵ (flft κ-reads q-reads) ⊛ ‵ ftrue)))))) ∷ ‵ (Terms-row .own terms (terms-val terms ∷ [])) ∷ ‵ (ShrSlice (named 0) κ-query i32 .own query (slice-vals query)) ∷ ‵ (ShrSlice (named 1) κ-marks i32 .own marks (slice-vals marks)) ∷ ‵ (ShrSlice (named 2) κ-codes u8 .own codes (slice-vals codes)) ∷ ‵ (ShrSlice (named 3) κ-vectors i32 .own vectors (slice-vals vectors)) ∷ ‵ (MutSlice (named 4) κ-entries R .own entries (slice-vals entries)) ∷ ‵ (MutSlice (named 5) κ-reads u32 .own reads (slice-vals reads)) ∷ ‵ ftrue ∷ []) ∵
-        enter ! (𝓣 .C) (𝓣 .Λ) code.function (terms-val terms ∷ sliceVal (query .ptr) (length (now query)) ∷ sliceVal (marks .ptr) (length (now marks)) ∷ sliceVal (codes .ptr) (length (now codes)) ∷ sliceVal (vectors .ptr) (length (now vectors)) ∷ sliceVal (entries .ptr) (length (now entries)) ∷ sliceVal (reads .ptr) (length (now reads)) ∷ []) _ $
+        qed W ((‵ (flft κ-query q-query) ⊛
+        (‵ (flft κ-marks q-marks) ⊛ (‵ (flft κ-codes q-codes) ⊛
+        (‵ (flft κ-vectors q-vectors) ⊛ (‵ (flft κ-entries q-entries) ⊛ (‵ (flft κ-reads q-reads) ⊛ ‵ ftrue)))))) ∷ ‵
+        (Terms-row .own terms (terms-val terms ∷ [])) ∷ ‵ (ShrSlice (named 0) κ-query i32 .own query (slice-vals query)) ∷ ‵
+        (ShrSlice (named 1) κ-marks i32 .own marks (slice-vals marks)) ∷ ‵
+        (ShrSlice (named 2) κ-codes u8 .own codes (slice-vals codes)) ∷ ‵
+        (ShrSlice (named 3) κ-vectors i32 .own vectors (slice-vals vectors)) ∷ ‵
+        (MutSlice (named 4) κ-entries R .own entries (slice-vals entries)) ∷ ‵
+        (MutSlice (named 5) κ-reads u32 .own reads (slice-vals reads)) ∷ ‵ ftrue ∷ []) ∵
+        enter ! (𝓣 .C) (𝓣 .Λ) code.function
+        (terms-val terms ∷ sliceVal (query .ptr) (length (now query)) ∷ sliceVal (marks .ptr) (length (now marks)) ∷ sliceVal (codes .ptr)
+        (length (now codes)) ∷ sliceVal (vectors .ptr) (length (now vectors)) ∷ sliceVal (entries .ptr) (length (now entries)) ∷ sliceVal
+        (reads .ptr) (length (now reads)) ∷ []) _ $
         alloc1 ! (λ l₀. alloc1 ! (λ l₁. alloc1 ! (λ l₂. alloc1 ! (λ l₃. alloc1 ! (λ l₄. alloc1 ! (λ l₅. alloc1 ! (λ l₆. alloc1 ! (λ l₇.
         alloc1 ! (λ l₈. alloc1 ! (λ l₉. alloc1 ! (λ l₁₀. alloc1 ! (λ l₁₁. alloc1 ! (λ l₁₂. alloc1 ! (λ l₁₃. alloc1 ! (λ l₁₄.
         alloc1 ! (λ l₁₅. alloc1 ! (λ l₁₆. alloc0 ! $ params1 ! $ pass1 ! (init ! 30 refl terms-typed) $
@@ -361,18 +429,53 @@ module _ {M : Type 1} (𝓤 : URA M) (H : Heap 𝓤) (A : Atoms 𝓤) (W : Given
         by ! (exits (f .answer) (answer-val f) (zs .0) (ws .1 .1 .1 .1 .1 .1 .0) size-reads size (told f (ws .1 .1 .1 .1 .1 .1 .0) c
         (zs .0) e e₂ e₃)))))))))))))))))))))))))))))))))))
 
-module _ {M : Type 1} (𝓤 : URA M) (H : Heap 𝓤) (A : Atoms 𝓤) (W : Given 𝓤 H A) (mem : Memory → SProp 𝓤) (run : Routine → Fun 𝓤) (𝓣 : Tables 𝓤 H)
+module _ {M : Type 1} (𝓤 : URA M) (H : Heap 𝓤) (A : Atoms 𝓤) (W : Given 𝓤 H A) (mem : Memory → SProp 𝓤) (run : Routine → Fun 𝓤)
+    (𝓣 : Tables 𝓤 H)
     (known-core : Triple 𝓤 (𝓣 .C #core) (Core 𝓤 H A mem run)) (known-count : Triple 𝓤 (𝓣 .C #count) (Count 𝓤 H A mem run))
     (known-fill : Triple 𝓤 (𝓣 .C #fill) (Fill 𝓤 H A mem run)) where
   walks : Walks 𝓤 H A face.ended stayed (WpFn 𝓤 H (𝓣 .C) (𝓣 .Λ) code.function) (face.clauses 𝓤 H A mem run)
   walks = walked 𝓤 H A face.ended stayed (face.clauses 𝓤 H A mem run) (WpFn 𝓤 H (𝓣 .C) (𝓣 .Λ) code.function)
       (λ κs. ((λ (t : Terms). terms-val t ∷ []), (slice-vals, (slice-vals, (slice-vals, (slice-vals, (slice-vals, (slice-vals, tt))))))))
-      (λ κs. (terms-tells, (shr-slice-tells (named 0) (κs .0) i32, (shr-slice-tells (named 1) (κs .1 .0) i32, (shr-slice-tells (named 2) (κs .1 .1 .0) u8, (shr-slice-tells (named 3) (κs .1 .1 .1 .0) i32, (mut-slice-tells (named 4) (κs .1 .1 .1 .1 .0) R, (mut-slice-tells (named 5) (κs .1 .1 .1 .1 .1 .0) u32, tt))))))))
-      (λ κs qs bounds a g are. via 𝓤 _ (fst∗ 𝓤 _ (emp 𝓤)) (walk 𝓤 H A W mem run (κs .0) (κs .1 .0) (κs .1 .1 .0) (κs .1 .1 .1 .0) (κs .1 .1 .1 .1 .0) (κs .1 .1 .1 .1 .1 .0) (qs .0) (qs .1 .0) (qs .1 .1 .0) (qs .1 .1 .1 .0) (qs .1 .1 .1 .1 .0) (qs .1 .1 .1 .1 .1 .0) (a .0) (a .1 .0) (a .1 .1 .0) (a .1 .1 .1 .0) (a .1 .1 .1 .1 .0) (a .1 .1 .1 .1 .1 .0) (a .1 .1 .1 .1 .1 .1 .0) 𝓣 known-core known-count known-fill (are .0) (are .1 .0 .0 .1) (are .1 .1 .0 .0 .1) (are .1 .1 .1 .0 .0 .1) (are .1 .1 .1 .1 .0 .0 .1) (are .1 .1 .1 .1 .1 .0 .0 .1) (are .1 .1 .1 .1 .1 .1 .0 .0 .1)))
+      (λ κs. (
+        terms-tells,
+        (
+          shr-slice-tells (named 0) (κs .0) i32,
+          (
+            shr-slice-tells (named 1) (κs .1 .0) i32,
+            (
+              shr-slice-tells (named 2) (κs .1 .1 .0) u8,
+              (
+                shr-slice-tells (named 3) (κs .1 .1 .1 .0) i32,
+                (mut-slice-tells (named 4) (κs .1 .1 .1 .1 .0) R, (mut-slice-tells (named 5) (κs .1 .1 .1 .1 .1 .0) u32, tt)),
+              ),
+            ),
+          ),
+        ),
+      ))
+      (λ κs qs bounds a g are. via 𝓤 _ (fst∗ 𝓤 _ (emp 𝓤))
+      (walk 𝓤 H A W mem run (κs .0) (κs .1 .0) (κs .1 .1 .0) (κs .1 .1 .1 .0) (κs .1 .1 .1 .1 .0) (κs .1 .1 .1 .1 .1 .0) (qs .0)
+      (qs .1 .0) (qs .1 .1 .0) (qs .1 .1 .1 .0) (qs .1 .1 .1 .1 .0) (qs .1 .1 .1 .1 .1 .0) (a .0) (a .1 .0) (a .1 .1 .0) (a .1 .1 .1 .0)
+      (a .1 .1 .1 .1 .0) (a .1 .1 .1 .1 .1 .0) (a .1 .1 .1 .1 .1 .1 .0) 𝓣 known-core known-count known-fill (are .0) (are .1 .0 .0 .1)
+      (are .1 .1 .0 .0 .1) (are .1 .1 .1 .0 .0 .1) (are .1 .1 .1 .1 .0 .0 .1) (are .1 .1 .1 .1 .1 .0 .0 .1)
+      (are .1 .1 .1 .1 .1 .1 .0 .0 .1)))
 
   meets : Meets 𝓤 H A face.signature (WpFn 𝓤 H (𝓣 .C) (𝓣 .Λ) code.function) (face.spec 𝓤 H A mem run)
-  meets = walk-meets 𝓤 H A face.ended stayed W
-      (goes-dropped 𝓤 H A W 6 (plain (λ _. Terms-row)) yes (λ κs y f. refl), (goes-dropped 𝓤 H A W 6 (shrSliceOf (0 ∷ []) tt (plain (λ _. i32))) yes (λ κs y f. refl), (goes-dropped 𝓤 H A W 6 (shrSliceOf (1 ∷ []) tt (plain (λ _. i32))) yes (λ κs y f. refl), (goes-dropped 𝓤 H A W 6 (shrSliceOf (2 ∷ []) tt (plain (λ _. u8))) yes (λ κs y f. refl), (goes-dropped 𝓤 H A W 6 (shrSliceOf (3 ∷ []) tt (plain (λ _. i32))) yes (λ κs y f. refl), (goes-gave-slice 𝓤 H A W 6 4 tt (plain (λ _. R)), (goes-gave-slice 𝓤 H A W 6 5 tt (plain (λ _. u32)), tt)))))))
+  meets = walk-meets 𝓤 H A face.ended stayed W (
+    goes-dropped 𝓤 H A W 6 (plain (λ _. Terms-row)) yes (λ κs y f. refl),
+    (
+      goes-dropped 𝓤 H A W 6 (shrSliceOf (0 ∷ []) tt (plain (λ _. i32))) yes (λ κs y f. refl),
+      (
+        goes-dropped 𝓤 H A W 6 (shrSliceOf (1 ∷ []) tt (plain (λ _. i32))) yes (λ κs y f. refl),
+        (
+          goes-dropped 𝓤 H A W 6 (shrSliceOf (2 ∷ []) tt (plain (λ _. u8))) yes (λ κs y f. refl),
+          (
+            goes-dropped 𝓤 H A W 6 (shrSliceOf (3 ∷ []) tt (plain (λ _. i32))) yes (λ κs y f. refl),
+            (goes-gave-slice 𝓤 H A W 6 4 tt (plain (λ _. R)), (goes-gave-slice 𝓤 H A W 6 5 tt (plain (λ _. u32)), tt)),
+          ),
+        ),
+      ),
+    ),
+  )
       (face.clauses 𝓤 H A mem run) (WpFn 𝓤 H (𝓣 .C) (𝓣 .Λ) code.function) (WpFn-mono 𝓤 H (W .laws) 𝓣 code.function) walks
 
 pub search-spec : {M : Type 1} → stated.statement M
@@ -381,6 +484,8 @@ search-spec 𝓤 H 𝓜 𝓖 𝓡 =
     entered 𝓤 H (tripleOf 𝓤 H (𝓖 .A) face.signature (face.spec 𝓤 H (𝓖 .A) (𝓜 .mem) (𝓡 .run)))
     (tables 𝓤 H 𝓜 𝓡 code.env .C) (tables 𝓤 H 𝓜 𝓡 code.env .Λ) #nearest·search code.function (code.unfolded 𝓤 H 𝓜 𝓡)
     (meets 𝓤 H (𝓖 .A) (givenOf 𝓤 H 𝓜 𝓖) (𝓜 .mem) (𝓡 .run) (tablesOf 𝓤 H 𝓜 (tables 𝓤 H 𝓜 𝓡 code.env))
-    (cited 𝓤 H (Core 𝓤 H (𝓖 .A) (𝓜 .mem) (𝓡 .run)) 𝓜 𝓡 code.env #core core-def.routine code.calls-least-reading·nearest-by-bounds (core-thm.met 𝓤 H 𝓜 𝓖 𝓡))
-    (cited 𝓤 H (Count 𝓤 H (𝓖 .A) (𝓜 .mem) (𝓡 .run)) 𝓜 𝓡 code.env #count count-def.routine code.calls-search·found-count (count-thm.met 𝓤 H 𝓜 𝓖 𝓡))
+    (cited 𝓤 H (Core 𝓤 H (𝓖 .A) (𝓜 .mem) (𝓡 .run)) 𝓜 𝓡 code.env #core core-def.routine code.calls-least-reading·nearest-by-bounds
+    (core-thm.met 𝓤 H 𝓜 𝓖 𝓡))
+    (cited 𝓤 H (Count 𝓤 H (𝓖 .A) (𝓜 .mem) (𝓡 .run)) 𝓜 𝓡 code.env #count count-def.routine code.calls-search·found-count
+    (count-thm.met 𝓤 H 𝓜 𝓖 𝓡))
     (cited 𝓤 H (Fill 𝓤 H (𝓖 .A) (𝓜 .mem) (𝓡 .run)) 𝓜 𝓡 code.env #fill fill-def.routine code.calls-nearest·fill·fill (fill-thm.met 𝓤 H 𝓜 𝓖 𝓡)))

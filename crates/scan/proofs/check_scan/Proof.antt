@@ -51,8 +51,10 @@ exact-lengths-requires c κs =
     let two = c .before .before in
     let one = two .before .before in
     let a = one .before .before .args in
-    let vectors = between 1 (a .terms .n) maxVectors (not-false (isVectorCount (a .terms .n)) (told (two .before .is-vector-count .ensures) (two .if2 .left))) in
-    let dimensions = between 1 (a .terms .d) maxDimensions (not-false (isDimensionCount (a .terms .d)) (told (one .before .is-dimension-count .ensures) (one .if1 .left))) in
+    let vectors = between 1 (a .terms .n) maxVectors
+    (not-false (isVectorCount (a .terms .n)) (told (two .before .is-vector-count .ensures) (two .if2 .left))) in
+    let dimensions = between 1 (a .terms .d) maxDimensions
+    (not-false (isDimensionCount (a .terms .d)) (told (one .before .is-dimension-count .ensures) (one .if1 .left))) in
     let small : a .terms .n * a .terms .d ≤ maxVectors * maxDimensions = mul-le-mul (vectors .below) (dimensions .below) in
     omega arith
 

@@ -37,7 +37,8 @@ least-hold : tie.Need-array-borrow-prefix-least
 least-hold c = c .before .before .before .before .before .before .before .pre .1 .few
 
 least-within : tie.Need-array-share-prefix-least
-least-within c = back-within _ _ (c .before .before .select .last .1 .1 .0) (least-hold (c .before .before .before .before)) (c .before .before .select .kept .1 .1 .0)
+least-within c = back-within _ _ (c .before .before .select .last .1 .1 .0) (least-hold (c .before .before .before .before))
+    (c .before .before .select .kept .1 .1 .0)
 
 numbers-within : tie.Need-array-share-prefix-numbers
 numbers-within c =
@@ -45,18 +46,21 @@ numbers-within c =
     back-within _ _ (chosen .select .last .1 .0) (numbers-hold (chosen .before .before .before)) (chosen .select .kept .1 .0)
 
 -- the least of n keys are selected, and their pairs are the scan's
-accepted : (m n numbers least : ℕ) → m ≡ n → n ≤ maxVectors → 1 ≤ numbers → numbers ≤ n → least ≡ numbers → first (leastCauses m numbers least) ≡ Accepted
+accepted : (m n numbers least : ℕ) → m ≡ n → n ≤ maxVectors → 1 ≤ numbers → numbers ≤ n → least ≡ numbers
+    → first (leastCauses m numbers least) ≡ Accepted
 unfolding first
 accepted m n numbers least all few some enough same =
     rw (all, le-leb 1 n (omega arith), le-leb n maxVectors few, le-leb 1 numbers some, le-leb numbers n enough, eq-eqb least numbers same)
 
-selected : (f : ℕ → ℕ) (n k : ℕ) (keys numbers least old-numbers old-least : List ℕ) (room more : ℕ) → n ≤ maxVectors → Neighbours n k → keys ≡ valuesFrom f 0 n
+selected : (f : ℕ → ℕ) (n k : ℕ) (keys numbers least old-numbers old-least : List ℕ) (room more : ℕ) → n ≤ maxVectors → Neighbours n k
+    → keys ≡ valuesFrom f 0 n
     → numbers ≡ outcome (first (leastCauses (length keys) room more)) (take room (ranking keys)) (λ _. old-numbers)
     → least ≡ outcome (first (leastCauses (length keys) room more)) (map (keyAt keys) (take room (ranking keys))) (λ _. old-least)
     → room ≡ k → more ≡ k → pairsOf least numbers ≡ scan k f (countFrom 0 n)
 selected f n k keys numbers least old-numbers old-least room more few among are numbers-are least-are of-numbers of-least =
     let none =
-    accepted (length keys) n room more (ap length are ∙ values-length f 0 n) few (omega (arith, of-numbers, among .some)) (omega (arith, of-numbers, among .enough))
+    accepted (length keys) n room more (ap length are ∙ values-length f 0 n) few (omega (arith, of-numbers, among .some))
+    (omega (arith, of-numbers, among .enough))
     (omega (arith, of-numbers, of-least)) in
     rw (numbers-are ∙ outcome-accepted _ _ none, least-are ∙ outcome-accepted _ _ none, of-numbers) (scan-pairs f n k keys are)
 
@@ -70,11 +74,15 @@ returns c =
     let of-numbers = numbers-hold (chosen .before .before .before) in
     let of-least = least-hold (chosen .before .before) in
     let pairs =
-    selected f (t .n) (t .k) _ _ _ _ _ _ _ (start .pre .0 .count) (start .pre .1) (measured .measure-all .ensures ∙ ap (valuesFrom f 0) (start .pre .2))
+    selected f (t .n) (t .k) _ _ _ _ _ _ _ (start .pre .0 .count) (start .pre .1)
+    (measured .measure-all .ensures ∙ ap (valuesFrom f 0) (start .pre .2))
     (chosen .select .ensures .1 .0) (chosen .select .ensures .1 .1) (length-take-le _ _ of-numbers) (length-take-le _ _ of-least) in
     c .entries-of .ensures
     ∙ ap (λ (ps : List Pair). inArray (entriesOf ps))
-    (rw (shared-is _ _ (chosen .select .last .1 .1 .0) of-least (chosen .select .kept .1 .1 .0), shared-is _ _ (chosen .select .last .1 .0) of-numbers (chosen .select .kept .1 .0)) pairs)
+    (rw (
+      shared-is _ _ (chosen .select .last .1 .1 .0) of-least (chosen .select .kept .1 .1 .0),
+      shared-is _ _ (chosen .select .last .1 .0) of-numbers (chosen .select .kept .1 .0),
+    ) pairs)
 
 pub scan-into-spec : {M : Type 1} → statement M
 scan-into-spec =

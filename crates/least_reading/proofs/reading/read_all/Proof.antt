@@ -55,8 +55,17 @@ read-rest-requires : tie.Need-read-rest-requires
 read-rest-requires c κs =
     let sort = c .before .before .before .before .before .before in
     let read = sort .before .before .before .before .before .before .before .before in
-    let pre = read .before .before .before .before .before .before .before .before .pre in
-    (pre .0 .0, (pre .1 .0, (pre .1 .1, sorted (read .read-first .ensures) (pre .0 .0) (not-false _ (sort .before .before .before .if1 .left)) (sort .sort .ensures .1 .0) (sort .sort .ensures .1 .1))))
+    let pre = read .before .before .before .before .before .before .before .before .pre in (
+      pre .0 .0,
+      (
+        pre .1 .0,
+        (
+          pre .1 .1,
+          sorted (read .read-first .ensures) (pre .0 .0) (not-false _ (sort .before .before .before .if1 .left)) (sort .sort .ensures .1 .0)
+              (sort .sort .ensures .1 .1),
+        ),
+      ),
+    )
 
 pub read-all-spec : {M : Type 1} → statement M
 read-all-spec =

@@ -65,7 +65,8 @@ module _ {l : Library} {query : List ℤ} {k : ℕ} (is : Ready l query k) {keys
                 (sym (ap (inOwnCell l) its) ∙ tells-outside (inOwnCell l number) (distanceIn l query number) told);
           }
 
-      turn : (distance : ℕ) → vectorRead l query number ≡ Distance distance → State l query k (done + 1) (set keys done distance) (set best done number)
+      turn : (distance : ℕ) → vectorRead l query number ≡ Distance distance
+          → State l query k (done + 1) (set keys done distance) (set best done number)
       turn distance told =
           let tells = tells-distance (inOwnCell l number) (distanceIn l query number) distance told in
           let order = readingOrder (lowIn l query) (numbersIn l) in
@@ -74,7 +75,8 @@ module _ {l : Library} {query : List ℤ} {k : ℕ} (is : Ready l query k) {keys
           rw add-one
           (record {
             within = omega arith;
-            gathers = rw (one, ← its) (gathers-next (at .gathers) number done distance (sym (length-take-le done order (omega arith))) more (tells .is));
+            gathers = rw (one, ← its) (gathers-next (at .gathers) number done distance
+                (sym (length-take-le done order (omega arith))) more (tells .is));
             inside = rw (one, ← its) (cells-snoc l (take done order) number (at .inside) (tells .in-cell));
           })
 
@@ -89,7 +91,8 @@ loop-holds c =
 
 order-length : (s : tie.Start Inv-loop μ-loop) → length (s .args .order .now) ≡ s .args .terms .n
 order-length s =
-    ap length (s .pre .1) ∙ ranked-count (lowIn (given s) (s .args .query .now)) (numbersIn (given s)) ∙ counted-length 0 (s .args .terms .n)
+    ap length (s .pre .1) ∙ ranked-count (lowIn (given s) (s .args .query .now)) (numbersIn (given s))
+    ∙ counted-length 0 (s .args .terms .n)
 
 -- where the next number is looked up
 abbrev entry : tie.After-shared-slice-known3 Inv-loop μ-loop → tie.Start Inv-loop μ-loop
@@ -100,7 +103,8 @@ its-number : (c : tie.After-shared-slice-known3 Inv-loop μ-loop) → let s = en
     getD (s .args .order .now) done 0 ≡ getD (readingOrder (lowIn (given s) (s .args .query .now)) (numbersIn (given s))) done 0
 its-number c = ap (λ (o : List ℕ). getD o (c .before .before .loop .done) 0) (entry c .pre .1)
 
-is-below : (c : tie.After-shared-slice-known3 Inv-loop μ-loop) → getD (entry c .args .order .now) (c .before .before .loop .done) 0 < entry c .args .terms .n
+is-below : (c : tie.After-shared-slice-known3 Inv-loop μ-loop)
+    → getD (entry c .args .order .now) (c .before .before .loop .done) 0 < entry c .args .terms .n
 is-below c = below (entry c .pre .0 .0) (c .before .before .loop .inv) (c .before .loop-test .taken) _ (its-number c)
 
 returns : tie.Need-returns Inv-loop μ-loop

@@ -71,7 +71,8 @@ module _ {l : Library} {query : List ℤ} {k : ℕ} (is : Ready l query k) {keys
     module _ (goes : goesOn k (afterReads l query k done .best) (pairOf (lowIn l query) (getD (readingOrder (lowIn l query) (numbersIn l)) done 0)) ≡ true) where
       outside : vectorRead l query number ≡ Outside → Reads l query k (Refused Cell) keys best
       outside told =
-          let some-out = next-outside l query k done more (at .reached) goes (sym (ap (inOwnCell l) its) ∙ tells-outside (inOwnCell l number) (distanceIn l query number) told) in
+          let some-out = next-outside l query k done more (at .reached) goes
+          (sym (ap (inOwnCell l) its) ∙ tells-outside (inOwnCell l number) (distanceIn l query number) told) in
           record {
             answer = rw some-out;
             keys-are = λ none. cc;
@@ -103,14 +104,16 @@ entry c = c .before .before .before .before .before .before .before .before
 
 order-length : (s : tie.Start Inv-loop μ-loop) → length (s .args .order .now) ≡ s .args .terms .n
 order-length s =
-    ap length (s .pre .1 .1 .0) ∙ ranked-count (lowIn (given s) (s .args .query .now)) (numbersIn (given s)) ∙ counted-length 0 (s .args .terms .n)
+    ap length (s .pre .1 .1 .0) ∙ ranked-count (lowIn (given s) (s .args .query .now)) (numbersIn (given s))
+    ∙ counted-length 0 (s .args .terms .n)
 
 -- the number that is read next
 its-number : (c : tie.After-shared-slice-known4 Inv-loop μ-loop) → let s = entry c in let done = c .before .before .loop .done in
     getD (s .args .order .now) done 0 ≡ getD (readingOrder (lowIn (given s) (s .args .query .now)) (numbersIn (given s))) done 0
 its-number c = ap (λ (o : List ℕ). getD o (c .before .before .loop .done) 0) (entry c .pre .1 .1 .0)
 
-is-below : (c : tie.After-shared-slice-known4 Inv-loop μ-loop) → getD (entry c .args .order .now) (c .before .before .loop .done) 0 < entry c .args .terms .n
+is-below : (c : tie.After-shared-slice-known4 Inv-loop μ-loop)
+    → getD (entry c .args .order .now) (c .before .before .loop .done) 0 < entry c .args .terms .n
 is-below c = below (entry c .pre .0) (c .before .before .loop .inv .1) (c .before .loop-test .taken) _ (its-number c)
 
 -- it has a low
@@ -121,7 +124,9 @@ has-low c =
 
 -- and whether it is read
 test : (c : tie.After-goes-on Inv-loop μ-loop) → let next = c .before .before .before .before in let s = entry next in let done = next .before .before .loop .done in
-    goesOn (s .args .terms .k) (afterReads (given s) (s .args .query .now) (s .args .terms .k) done .best) (pairOf (lowIn (given s) (s .args .query .now)) (getD (readingOrder (lowIn (given s) (s .args .query .now)) (numbersIn (given s))) done 0))
+    goesOn (s .args .terms .k) (afterReads (given s) (s .args .query .now) (s .args .terms .k) done .best)
+    (pairOf (lowIn (given s) (s .args .query .now))
+    (getD (readingOrder (lowIn (given s) (s .args .query .now)) (numbersIn (given s))) done 0))
     ≡ c .goes-on .result
 test c =
     let next = c .before .before .before .before in
@@ -151,7 +156,8 @@ loop-again c =
     let next = tested .before .before .before .before .before in
     let at = next .before .before .loop .inv in (
       omega arith,
-      turn (entry next .pre .0) (at .1) (next .before .loop-test .taken) _ (its-number next) (test (tested .before) ∙ not-false _ (tested .if1 .left)) (at .0)
+      turn (entry next .pre .0) (at .1) (next .before .loop-test .taken) _ (its-number next)
+          (test (tested .before) ∙ not-false _ (tested .if1 .left)) (at .0)
           _ (sym (read .read-vector .ensures) ∙ known .before .read .given .1) (kept .keep .ensures),
     )
 

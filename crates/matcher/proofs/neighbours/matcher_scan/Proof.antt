@@ -1,4 +1,5 @@
--- `matcher_scan` meets its contract: a walk of its MIR, by hand. The entries go on to `nearest::scan`, and the number is that of its verdict.
+-- `matcher_scan` meets its contract: a walk of its MIR, by hand. The entries go on to `nearest::scan`, and the number is that of its
+-- verdict.
 -- Of each callee the proof knows the contract alone. In the notes on the context, [x] is the token of x's lifetime. Assumes nothing.
 use mathlib.Core.Path.{_≡_, refl, ap, _∙_}
 use Prim.Native.Nat.{ℕ, _<_, _^_}
@@ -74,7 +75,19 @@ abbrev Terms-row : RattleType
 Terms-row = Tm.the-row
 
 abbrev stayed : Stays (face.ended .signature .params) (face.ended .kept)
-stayed = (stay-dropped (plain (λ _. usize)) yes, (stay-dropped (plain (λ _. usize)) yes, (stay-dropped (plain (λ _. usize)) yes, (stay-dropped (shrSliceOf (0 ∷ []) tt (plain (λ _. i32))) yes, (stay-dropped (shrSliceOf (1 ∷ []) tt (plain (λ _. i32))) yes, (gave-slice (2 ∷ []) tt (plain (λ _. R)), tt))))))
+stayed = (
+  stay-dropped (plain (λ _. usize)) yes,
+  (
+    stay-dropped (plain (λ _. usize)) yes,
+    (
+      stay-dropped (plain (λ _. usize)) yes,
+      (
+        stay-dropped (shrSliceOf (0 ∷ []) tt (plain (λ _. i32))) yes,
+        (stay-dropped (shrSliceOf (1 ∷ []) tt (plain (λ _. i32))) yes, (gave-slice (2 ∷ []) tt (plain (λ _. R)), tt)),
+      ),
+    ),
+  ),
+)
 
 module _ {M : Type 1} (𝓤 : URA M) (H : Heap 𝓤) (A : Atoms 𝓤) (mem : Memory → SProp 𝓤) (run : Routine → Fun 𝓤) where
   -- the contracts that the proof cites
@@ -84,7 +97,9 @@ module _ {M : Type 1} (𝓤 : URA M) (H : Heap 𝓤) (A : Atoms 𝓤) (mem : Mem
   abbrev Number : Contract 𝓤
   Number = tripleOf 𝓤 H A number.signature (number.spec 𝓤 H A mem run)
 
-module _ {M : Type 1} (𝓤 : URA M) (H : Heap 𝓤) (A : Atoms 𝓤) (W : Given 𝓤 H A) (mem : Memory → SProp 𝓤) (run : Routine → Fun 𝓤) (κ-query κ-vectors κ-entries : Lft) (q-query q-vectors q-entries : Share) (d : ℕ) (n : ℕ) (k : ℕ) (query : RefT (List ℤ)) (vectors : RefT (List ℤ)) (entries : RefT (List Entry)) where
+module _ {M : Type 1} (𝓤 : URA M) (H : Heap 𝓤) (A : Atoms 𝓤) (W : Given 𝓤 H A) (mem : Memory → SProp 𝓤) (run : Routine → Fun 𝓤)
+    (κ-query κ-vectors κ-entries : Lft) (q-query q-vectors q-entries : Share) (d : ℕ) (n : ℕ) (k : ℕ) (query : RefT (List ℤ))
+    (vectors : RefT (List ℤ)) (entries : RefT (List Entry)) where
   -- the lifetimes, the parameters and their machine values
   abbrev lfts : Lfts (face.signature .lifetimes)
   lfts = (κ-query, (κ-vectors, (κ-entries, tt)))
@@ -129,11 +144,14 @@ module _ {M : Type 1} (𝓤 : URA M) (H : Heap 𝓤) (A : Atoms 𝓤) (W : Given
   told : (r : Verdict) (m : ℕ) (zs : List Entry) → Told r zs → Numbered r m → Claim m zs
   told r m zs e e₂ = (e₂ ∙ ap verdictNumber (e .0), e .1)
 
-  exits : (m : ℕ) (u : Val) (zs : List Entry) → length zs ≡ length (now entries) → Claim m zs → ent 𝓤 (⋆ 𝓤 H A (‵ (finally R (name entries) zs) ∷ ‵ (u32 .own m (u ∷ [])) ∷ Tokens ∷ [])) (Post u)
+  exits : (m : ℕ) (u : Val) (zs : List Entry) → length zs ≡ length (now entries) → Claim m zs
+      → ent 𝓤 (⋆ 𝓤 H A (‵ (finally R (name entries) zs) ∷ ‵ (u32 .own m (u ∷ [])) ∷ Tokens ∷ [])) (Post u)
   exits m u zs size claim =
       qed W (‵ (finally R (name entries) zs) ∷ ‵ (u32 .own m (u ∷ [])) ∷ Tokens ∷ []) ∵
-      suffices ! _ (ends-at 𝓤 H A face.ended stayed (face.clauses 𝓤 H A mem run) W bound u m (tt, (tt, (tt, (tt, (tt, (zs, tt)))))) (tt, (tt, (tt, (tt, (tt, (size, tt))))))) $ says ! claim $
-      move ! (2 ∷ []) $ frame ! $ nothing ! $ nothing ! $ nothing ! $ nothing ! $ nothing ! $ nothing ! $ move ! (5 ∷ 4 ∷ 3 ∷ 2 ∷ 1 ∷ 6 ∷ 0 ∷ []) $ group ! 7 $ frame ! $ done !
+      suffices ! _ (ends-at 𝓤 H A face.ended stayed (face.clauses 𝓤 H A mem run) W bound u m (tt, (tt, (tt, (tt, (tt, (zs, tt))))))
+      (tt, (tt, (tt, (tt, (tt, (size, tt))))))) $ says ! claim $
+      move ! (2 ∷ []) $ frame ! $ nothing ! $ nothing ! $ nothing ! $ nothing ! $ nothing ! $ nothing ! $
+      move ! (5 ∷ 4 ∷ 3 ∷ 2 ∷ 1 ∷ 6 ∷ 0 ∷ []) $ group ! 7 $ frame ! $ done !
 
   -- ---- what each callee is passed
   abbrev passed-given : Args core.signature lfts
@@ -146,7 +164,8 @@ module _ {M : Type 1} (𝓤 : URA M) (H : Heap 𝓤) (A : Atoms 𝓤) (W : Given
   to = ((lfts, (q-query, (q-vectors, (q-entries, tt))), tt, passed-given, passed), tt)
 
   asked : ent 𝓤 (onEntry 𝓤 H A core.signature lfts (q-query, (q-vectors, (q-entries, tt))) passed-given passed) (Core 𝓤 H A mem run .pre to)
-  asked = qed W (raw (onEntry 𝓤 H A core.signature lfts (q-query, (q-vectors, (q-entries, tt))) passed-given passed) ∷ []) ∵ frame ! $ done !
+  asked = qed W (raw (onEntry 𝓤 H A core.signature lfts (q-query, (q-vectors, (q-entries, tt))) passed-given passed) ∷ []) ∵ frame ! $
+      done !
 
   abbrev lfts-number : Lfts (number.signature .lifetimes)
   lfts-number = tt
@@ -160,10 +179,14 @@ module _ {M : Type 1} (𝓤 : URA M) (H : Heap 𝓤) (A : Atoms 𝓤) (W : Given
   abbrev to-number : Verdict → Val → Number 𝓤 H A mem run .Ghost
   to-number r u = ((lfts-number, tt, tt, given-number r, passed-number u), tt)
 
-  asked-number : (r : Verdict) (u : Val) → ent 𝓤 (onEntry 𝓤 H A number.signature lfts-number tt (given-number r) (passed-number u)) (Number 𝓤 H A mem run .pre (to-number r u))
+  asked-number : (r : Verdict) (u : Val)
+      → ent 𝓤 (onEntry 𝓤 H A number.signature lfts-number tt (given-number r) (passed-number u)) (Number 𝓤 H A mem run .pre (to-number r u))
   asked-number r u = qed W (raw (onEntry 𝓤 H A number.signature lfts-number tt (given-number r) (passed-number u)) ∷ []) ∵ frame ! $ done !
 
-  module _ (𝓣 : Tables 𝓤 H) (known-core : Triple 𝓤 (𝓣 .C #core) (Core 𝓤 H A mem run)) (known-number : Triple 𝓤 (𝓣 .C #number) (Number 𝓤 H A mem run)) (fits-d : d < 2 ^ 64) (fits-n : n < 2 ^ 64) (fits-k : k < 2 ^ 64) (room-query : Room i32 (length (now query))) (room-vectors : Room i32 (length (now vectors))) (room-entries : Room R (length (now entries))) where
+  module _ (𝓣 : Tables 𝓤 H) (known-core : Triple 𝓤 (𝓣 .C #core) (Core 𝓤 H A mem run))
+      (known-number : Triple 𝓤 (𝓣 .C #number) (Number 𝓤 H A mem run)) (fits-d : d < 2 ^ 64) (fits-n : n < 2 ^ 64) (fits-k : k < 2 ^ 64)
+      (room-query : Room i32 (length (now query))) (room-vectors : Room i32 (length (now vectors)))
+      (room-entries : Room R (length (now entries))) where
     fm : FmC 𝓤 H (W .laws) (𝓣 .C)
     fm = fmOf 𝓤 H (W .laws) 𝓣
 
@@ -176,10 +199,19 @@ module _ {M : Type 1} (𝓤 : URA M) (H : Heap 𝓤) (A : Atoms 𝓤) (W : Given
     terms-typed : T (hasTy Tm′.mir terms-val) × WT terms-val
     terms-typed = LL.lawful Tm.the-type Tm′.the-laws 𝓤 H A W .typed terms _ terms-is .0
 
-    walk : ent 𝓤 (onEntry 𝓤 H A face.signature (κ-query, (κ-vectors, (κ-entries, tt))) (q-query, (q-vectors, (q-entries, tt))) (d, (n, (k, (query, (vectors, (entries, tt)))))) at) (WpFn 𝓤 H (𝓣 .C) (𝓣 .Λ) code.function (vint w64 d ∷ vint w64 n ∷ vint w64 k ∷ sliceVal (query .ptr) (length (now query)) ∷ sliceVal (vectors .ptr) (length (now vectors)) ∷ sliceVal (entries .ptr) (length (now entries)) ∷ []) Post)
+    walk : ent 𝓤 (onEntry 𝓤 H A face.signature (κ-query, (κ-vectors, (κ-entries, tt))) (q-query, (q-vectors, (q-entries, tt)))
+        (d, (n, (k, (query, (vectors, (entries, tt)))))) at)
+        (WpFn 𝓤 H (𝓣 .C) (𝓣 .Λ) code.function
+        (vint w64 d ∷ vint w64 n ∷ vint w64 k ∷ sliceVal (query .ptr) (length (now query)) ∷ sliceVal (vectors .ptr)
+        (length (now vectors)) ∷ sliceVal (entries .ptr) (length (now entries)) ∷ []) Post)
     walk =
-        qed W (Tokens ∷ ‵ (usize .own d (vint w64 d ∷ [])) ∷ ‵ (usize .own n (vint w64 n ∷ [])) ∷ ‵ (usize .own k (vint w64 k ∷ [])) ∷ ‵ (ShrSlice (named 0) κ-query i32 .own query (slice-vals query)) ∷ ‵ (ShrSlice (named 1) κ-vectors i32 .own vectors (slice-vals vectors)) ∷ ‵ (MutSlice (named 2) κ-entries R .own entries (slice-vals entries)) ∷ ‵ ftrue ∷ []) ∵
-        enter ! (𝓣 .C) (𝓣 .Λ) code.function (vint w64 d ∷ vint w64 n ∷ vint w64 k ∷ sliceVal (query .ptr) (length (now query)) ∷ sliceVal (vectors .ptr) (length (now vectors)) ∷ sliceVal (entries .ptr) (length (now entries)) ∷ []) _ $
+        qed W (Tokens ∷ ‵ (usize .own d (vint w64 d ∷ [])) ∷ ‵ (usize .own n (vint w64 n ∷ [])) ∷ ‵ (usize .own k (vint w64 k ∷ [])) ∷ ‵
+        (ShrSlice (named 0) κ-query i32 .own query (slice-vals query)) ∷ ‵
+        (ShrSlice (named 1) κ-vectors i32 .own vectors (slice-vals vectors)) ∷ ‵
+        (MutSlice (named 2) κ-entries R .own entries (slice-vals entries)) ∷ ‵ ftrue ∷ []) ∵
+        enter ! (𝓣 .C) (𝓣 .Λ) code.function
+        (vint w64 d ∷ vint w64 n ∷ vint w64 k ∷ sliceVal (query .ptr) (length (now query)) ∷ sliceVal (vectors .ptr)
+        (length (now vectors)) ∷ sliceVal (entries .ptr) (length (now entries)) ∷ []) _ $
         alloc1 ! (λ l₀. alloc1 ! (λ l₁. alloc1 ! (λ l₂. alloc1 ! (λ l₃. alloc1 ! (λ l₄. alloc1 ! (λ l₅. alloc1 ! (λ l₆. alloc1 ! (λ l₇.
         alloc1 ! (λ l₈. alloc1 ! (λ l₉. alloc1 ! (λ l₁₀. alloc0 ! $ params1 ! $ pass1 ! (init ! 18 refl (tt, record { fits = fits-d })) $
         pass1 ! (init ! 16 refl (tt, record { fits = fits-n })) $ pass1 ! (init ! 14 refl (tt, record { fits = fits-k })) $
@@ -238,16 +270,47 @@ module _ {M : Type 1} (𝓤 : URA M) (H : Heap 𝓤) (A : Atoms 𝓤) (W : Given
         nothing ! $ move ! (4 ∷ 3 ∷ 2 ∷ 0 ∷ []) $ group ! 4 $ keep ! (2 ∷ 1 ∷ 0 ∷ []) $
         by ! (exits m u₂ (ws .1 .1 .1 .0) size (told r m (ws .1 .1 .1 .0) e e₂))))))))))))))))))))))))
 
-module _ {M : Type 1} (𝓤 : URA M) (H : Heap 𝓤) (A : Atoms 𝓤) (W : Given 𝓤 H A) (mem : Memory → SProp 𝓤) (run : Routine → Fun 𝓤) (𝓣 : Tables 𝓤 H) (known-core : Triple 𝓤 (𝓣 .C #core) (Core 𝓤 H A mem run)) (known-number : Triple 𝓤 (𝓣 .C #number) (Number 𝓤 H A mem run)) where
+module _ {M : Type 1} (𝓤 : URA M) (H : Heap 𝓤) (A : Atoms 𝓤) (W : Given 𝓤 H A) (mem : Memory → SProp 𝓤) (run : Routine → Fun 𝓤)
+    (𝓣 : Tables 𝓤 H) (known-core : Triple 𝓤 (𝓣 .C #core) (Core 𝓤 H A mem run))
+    (known-number : Triple 𝓤 (𝓣 .C #number) (Number 𝓤 H A mem run)) where
   walks : Walks 𝓤 H A face.ended stayed (WpFn 𝓤 H (𝓣 .C) (𝓣 .Λ) code.function) (face.clauses 𝓤 H A mem run)
   walks = walked 𝓤 H A face.ended stayed (face.clauses 𝓤 H A mem run) (WpFn 𝓤 H (𝓣 .C) (𝓣 .Λ) code.function)
       (λ κs. (uint-vals w64, (uint-vals w64, (uint-vals w64, (slice-vals, (slice-vals, (slice-vals, tt)))))))
-      (λ κs. (uint-tells w64, (uint-tells w64, (uint-tells w64, (shr-slice-tells (named 0) (κs .0) i32, (shr-slice-tells (named 1) (κs .1 .0) i32, (mut-slice-tells (named 2) (κs .1 .1 .0) R, tt)))))))
-      (λ κs qs bounds a g are. via 𝓤 _ (fst∗ 𝓤 _ (emp 𝓤)) (walk 𝓤 H A W mem run (κs .0) (κs .1 .0) (κs .1 .1 .0) (qs .0) (qs .1 .0) (qs .1 .1 .0) (a .0) (a .1 .0) (a .1 .1 .0) (a .1 .1 .1 .0) (a .1 .1 .1 .1 .0) (a .1 .1 .1 .1 .1 .0) 𝓣 known-core known-number (are .0 .1) (are .1 .0 .1) (are .1 .1 .0 .1) (are .1 .1 .1 .0 .0 .1) (are .1 .1 .1 .1 .0 .0 .1) (are .1 .1 .1 .1 .1 .0 .0 .1)))
+      (λ κs. (
+        uint-tells w64,
+        (
+          uint-tells w64,
+          (
+            uint-tells w64,
+            (
+              shr-slice-tells (named 0) (κs .0) i32,
+              (shr-slice-tells (named 1) (κs .1 .0) i32, (mut-slice-tells (named 2) (κs .1 .1 .0) R, tt)),
+            ),
+          ),
+        ),
+      ))
+      (λ κs qs bounds a g are. via 𝓤 _ (fst∗ 𝓤 _ (emp 𝓤))
+      (walk 𝓤 H A W mem run (κs .0) (κs .1 .0) (κs .1 .1 .0) (qs .0) (qs .1 .0) (qs .1 .1 .0) (a .0) (a .1 .0) (a .1 .1 .0)
+      (a .1 .1 .1 .0) (a .1 .1 .1 .1 .0) (a .1 .1 .1 .1 .1 .0) 𝓣 known-core known-number (are .0 .1) (are .1 .0 .1) (are .1 .1 .0 .1)
+      (are .1 .1 .1 .0 .0 .1) (are .1 .1 .1 .1 .0 .0 .1) (are .1 .1 .1 .1 .1 .0 .0 .1)))
 
   meets : Meets 𝓤 H A face.signature (WpFn 𝓤 H (𝓣 .C) (𝓣 .Λ) code.function) (face.spec 𝓤 H A mem run)
-  meets = walk-meets 𝓤 H A face.ended stayed W
-      (goes-dropped 𝓤 H A W 3 (plain (λ _. usize)) yes (λ κs y f. refl), (goes-dropped 𝓤 H A W 3 (plain (λ _. usize)) yes (λ κs y f. refl), (goes-dropped 𝓤 H A W 3 (plain (λ _. usize)) yes (λ κs y f. refl), (goes-dropped 𝓤 H A W 3 (shrSliceOf (0 ∷ []) tt (plain (λ _. i32))) yes (λ κs y f. refl), (goes-dropped 𝓤 H A W 3 (shrSliceOf (1 ∷ []) tt (plain (λ _. i32))) yes (λ κs y f. refl), (goes-gave-slice 𝓤 H A W 3 2 tt (plain (λ _. R)), tt))))))
+  meets = walk-meets 𝓤 H A face.ended stayed W (
+    goes-dropped 𝓤 H A W 3 (plain (λ _. usize)) yes (λ κs y f. refl),
+    (
+      goes-dropped 𝓤 H A W 3 (plain (λ _. usize)) yes (λ κs y f. refl),
+      (
+        goes-dropped 𝓤 H A W 3 (plain (λ _. usize)) yes (λ κs y f. refl),
+        (
+          goes-dropped 𝓤 H A W 3 (shrSliceOf (0 ∷ []) tt (plain (λ _. i32))) yes (λ κs y f. refl),
+          (
+            goes-dropped 𝓤 H A W 3 (shrSliceOf (1 ∷ []) tt (plain (λ _. i32))) yes (λ κs y f. refl),
+            (goes-gave-slice 𝓤 H A W 3 2 tt (plain (λ _. R)), tt),
+          ),
+        ),
+      ),
+    ),
+  )
       (face.clauses 𝓤 H A mem run) (WpFn 𝓤 H (𝓣 .C) (𝓣 .Λ) code.function) (WpFn-mono 𝓤 H (W .laws) 𝓣 code.function) walks
 
 pub matcher-scan-spec : {M : Type 1} → stated.statement M
@@ -257,4 +320,5 @@ matcher-scan-spec 𝓤 H 𝓜 𝓖 𝓡 =
     (tables 𝓤 H 𝓜 𝓡 code.env .C) (tables 𝓤 H 𝓜 𝓡 code.env .Λ) #matcher-scan code.function (code.unfolded 𝓤 H 𝓜 𝓡)
     (meets 𝓤 H (𝓖 .A) (givenOf 𝓤 H 𝓜 𝓖) (𝓜 .mem) (𝓡 .run) (tablesOf 𝓤 H 𝓜 (tables 𝓤 H 𝓜 𝓡 code.env))
     (cited 𝓤 H (Core 𝓤 H (𝓖 .A) (𝓜 .mem) (𝓡 .run)) 𝓜 𝓡 code.env #core core-def.routine code.calls-nearest·scan (core-thm.met 𝓤 H 𝓜 𝓖 𝓡))
-    (cited 𝓤 H (Number 𝓤 H (𝓖 .A) (𝓜 .mem) (𝓡 .run)) 𝓜 𝓡 code.env #number number-def.routine code.calls-refusal·Verdict·number (number-thm.met 𝓤 H 𝓜 𝓖 𝓡)))
+    (cited 𝓤 H (Number 𝓤 H (𝓖 .A) (𝓜 .mem) (𝓡 .run)) 𝓜 𝓡 code.env #number number-def.routine code.calls-refusal·Verdict·number
+    (number-thm.met 𝓤 H 𝓜 𝓖 𝓡)))

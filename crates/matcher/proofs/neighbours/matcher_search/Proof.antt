@@ -1,4 +1,5 @@
--- `matcher_search` meets its contract: a walk of its MIR, by hand. The buffers go on to `nearest::search`, and `c_answers::put_read_count` puts the count in its place.
+-- `matcher_search` meets its contract: a walk of its MIR, by hand. The buffers go on to `nearest::search`, and
+-- `c_answers::put_read_count` puts the count in its place.
 -- Of each callee the proof knows the contract alone. In the notes on the context, [x] is the token of x's lifetime. Assumes nothing.
 use mathlib.Core.Path.{_≡_, refl, _∙_}
 use Prim.Native.Nat.{ℕ, _<_, _^_}
@@ -78,7 +79,34 @@ abbrev Terms-row : RattleType
 Terms-row = Tm.the-row
 
 abbrev stayed : Stays (face.ended .signature .params) (face.ended .kept)
-stayed = (stay-dropped (plain (λ _. usize)) yes, (stay-dropped (plain (λ _. usize)) yes, (stay-dropped (plain (λ _. usize)) yes, (stay-dropped (plain (λ _. usize)) yes, (stay-dropped (shrSliceOf (0 ∷ []) tt (plain (λ _. i32))) yes, (stay-dropped (shrSliceOf (1 ∷ []) tt (plain (λ _. i32))) yes, (stay-dropped (shrSliceOf (2 ∷ []) tt (plain (λ _. u8))) yes, (stay-dropped (shrSliceOf (3 ∷ []) tt (plain (λ _. i32))) yes, (gave-slice (4 ∷ []) tt (plain (λ _. R)), (gave-slice (5 ∷ []) tt (plain (λ _. u32)), (gave-ref (6 ∷ []) tt (plain (λ _. usize)), tt)))))))))))
+stayed = (
+  stay-dropped (plain (λ _. usize)) yes,
+  (
+    stay-dropped (plain (λ _. usize)) yes,
+    (
+      stay-dropped (plain (λ _. usize)) yes,
+      (
+        stay-dropped (plain (λ _. usize)) yes,
+        (
+          stay-dropped (shrSliceOf (0 ∷ []) tt (plain (λ _. i32))) yes,
+          (
+            stay-dropped (shrSliceOf (1 ∷ []) tt (plain (λ _. i32))) yes,
+            (
+              stay-dropped (shrSliceOf (2 ∷ []) tt (plain (λ _. u8))) yes,
+              (
+                stay-dropped (shrSliceOf (3 ∷ []) tt (plain (λ _. i32))) yes,
+                (
+                  gave-slice (4 ∷ []) tt (plain (λ _. R)),
+                  (gave-slice (5 ∷ []) tt (plain (λ _. u32)), (gave-ref (6 ∷ []) tt (plain (λ _. usize)), tt)),
+                ),
+              ),
+            ),
+          ),
+        ),
+      ),
+    ),
+  ),
+)
 
 module _ {M : Type 1} (𝓤 : URA M) (H : Heap 𝓤) (A : Atoms 𝓤) (mem : Memory → SProp 𝓤) (run : Routine → Fun 𝓤) where
   -- the contracts that the proof cites
@@ -88,14 +116,45 @@ module _ {M : Type 1} (𝓤 : URA M) (H : Heap 𝓤) (A : Atoms 𝓤) (mem : Mem
   abbrev Number : Contract 𝓤
   Number = tripleOf 𝓤 H A number.signature (number.spec 𝓤 H A mem run)
 
-module _ {M : Type 1} (𝓤 : URA M) (H : Heap 𝓤) (A : Atoms 𝓤) (W : Given 𝓤 H A) (mem : Memory → SProp 𝓤) (run : Routine → Fun 𝓤) (κ-query κ-marks κ-codes κ-vectors κ-entries κ-reads κ-count : Lft) (q-query q-marks q-codes q-vectors q-entries q-reads q-count : Share) (d : ℕ) (b : ℕ) (n : ℕ) (k : ℕ) (query : RefT (List ℤ)) (marks : RefT (List ℤ)) (codes : RefT (List ℕ)) (vectors : RefT (List ℤ)) (entries : RefT (List Entry)) (reads : RefT (List ℕ)) (count : RefT ℕ) where
+module _ {M : Type 1} (𝓤 : URA M) (H : Heap 𝓤) (A : Atoms 𝓤) (W : Given 𝓤 H A) (mem : Memory → SProp 𝓤) (run : Routine → Fun 𝓤)
+    (κ-query κ-marks κ-codes κ-vectors κ-entries κ-reads κ-count : Lft)
+    (q-query q-marks q-codes q-vectors q-entries q-reads q-count : Share) (d : ℕ) (b : ℕ) (n : ℕ) (k : ℕ) (query : RefT (List ℤ))
+    (marks : RefT (List ℤ)) (codes : RefT (List ℕ)) (vectors : RefT (List ℤ)) (entries : RefT (List Entry)) (reads : RefT (List ℕ))
+    (count : RefT ℕ) where
   -- the parameters' machine values
   abbrev at : Vals face.signature (κ-query, (κ-marks, (κ-codes, (κ-vectors, (κ-entries, (κ-reads, (κ-count, tt)))))))
-  at = (vint w64 d ∷ [], (vint w64 b ∷ [], (vint w64 n ∷ [], (vint w64 k ∷ [], (slice-vals query, (slice-vals marks, (slice-vals codes, (slice-vals vectors, (slice-vals entries, (slice-vals reads, (ptr-vals count, tt)))))))))))
+  at = (
+    vint w64 d ∷ [],
+    (
+      vint w64 b ∷ [],
+      (
+        vint w64 n ∷ [],
+        (
+          vint w64 k ∷ [],
+          (
+            slice-vals query,
+            (
+              slice-vals marks,
+              (slice-vals codes, (slice-vals vectors, (slice-vals entries, (slice-vals reads, (ptr-vals count, tt))))),
+            ),
+          ),
+        ),
+      ),
+    ),
+  )
 
   -- what the triple binds outside
   abbrev bound : walkOf 𝓤 H A face.ended stayed (face.clauses 𝓤 H A mem run) .Ghost
-  bound = (((κ-query, (κ-marks, (κ-codes, (κ-vectors, (κ-entries, (κ-reads, (κ-count, tt))))))), (q-query, (q-marks, (q-codes, (q-vectors, (q-entries, (q-reads, (q-count, tt))))))), tt, (d, (b, (n, (k, (query, (marks, (codes, (vectors, (entries, (reads, (count, tt))))))))))), at), tt)
+  bound = (
+    (
+      (κ-query, (κ-marks, (κ-codes, (κ-vectors, (κ-entries, (κ-reads, (κ-count, tt))))))),
+      (q-query, (q-marks, (q-codes, (q-vectors, (q-entries, (q-reads, (q-count, tt))))))),
+      tt,
+      (d, (b, (n, (k, (query, (marks, (codes, (vectors, (entries, (reads, (count, tt))))))))))),
+      at,
+    ),
+    tt,
+  )
 
   abbrev Post : Val → SProp 𝓤
   Post = walkOf 𝓤 H A face.ended stayed (face.clauses 𝓤 H A mem run) .post bound
@@ -129,17 +188,33 @@ module _ {M : Type 1} (𝓤 : URA M) (H : Heap 𝓤) (A : Atoms 𝓤) (W : Given
 
   -- the tokens that the core hands back
   abbrev Tokens : Item 𝓤
-  Tokens = ‵ (flft κ-query q-query) ⊛ (‵ (flft κ-marks q-marks) ⊛ (‵ (flft κ-codes q-codes) ⊛ (‵ (flft κ-vectors q-vectors) ⊛ (‵ (flft κ-entries q-entries) ⊛ (‵ (flft κ-reads q-reads) ⊛ ‵ ftrue)))))
+  Tokens = ‵ (flft κ-query q-query) ⊛
+      (‵ (flft κ-marks q-marks) ⊛ (‵ (flft κ-codes q-codes) ⊛
+      (‵ (flft κ-vectors q-vectors) ⊛ (‵ (flft κ-entries q-entries) ⊛ (‵ (flft κ-reads q-reads) ⊛ ‵ ftrue)))))
 
   told : (r : Searched) (m : ℕ) (zs : List Entry) (rs : List ℕ) (w : ℕ) → Told r zs rs → Numbered r m w → Claim m zs rs w
-  told r m zs rs w e e₂ =
-      (e₂ .0 ∙ outcome-number searchedNumber _ _ refl (λ cause. refl) verdict (e .0), e₂ .1 ∙ outcome-value searchedCount _ _ verdict (e .0), e .1, e .2)
+  told r m zs rs w e e₂ = (
+    e₂ .0 ∙ outcome-number searchedNumber _ _ refl (λ cause. refl) verdict (e .0),
+    e₂ .1 ∙ outcome-value searchedCount _ _ verdict (e .0),
+    e .1,
+    e .2,
+  )
 
-  exits : (m : ℕ) (u : Val) (zs : List Entry) (rs : List ℕ) (w : ℕ) (size-reads : length rs ≡ length (now reads)) → length zs ≡ length (now entries) → Claim m zs rs w → ent 𝓤 (⋆ 𝓤 H A (‵ (finally R (name entries) zs) ∷ ‵ (finally u32 (name reads) rs) ∷ ‵ (fres (name count) (usize .coded .code w)) ∷ ‵ (u32 .own m (u ∷ [])) ∷ ‵ (flft κ-query q-query) ∷ ‵ (flft κ-marks q-marks) ∷ ‵ (flft κ-codes q-codes) ∷ ‵ (flft κ-vectors q-vectors) ∷ ‵ (flft κ-entries q-entries) ∷ ‵ (flft κ-reads q-reads) ∷ ‵ (flft κ-count q-count) ∷ [])) (Post u)
+  exits : (m : ℕ) (u : Val) (zs : List Entry) (rs : List ℕ) (w : ℕ) (size-reads : length rs ≡ length (now reads))
+      → length zs ≡ length (now entries) → Claim m zs rs w
+      → ent 𝓤 (⋆ 𝓤 H A (‵ (finally R (name entries) zs) ∷ ‵ (finally u32 (name reads) rs) ∷ ‵
+      (fres (name count) (usize .coded .code w)) ∷ ‵ (u32 .own m (u ∷ [])) ∷ ‵ (flft κ-query q-query) ∷ ‵ (flft κ-marks q-marks) ∷ ‵
+      (flft κ-codes q-codes) ∷ ‵ (flft κ-vectors q-vectors) ∷ ‵ (flft κ-entries q-entries) ∷ ‵ (flft κ-reads q-reads) ∷ ‵
+      (flft κ-count q-count) ∷ [])) (Post u)
   exits m u zs rs w size-reads size claim =
-      qed W (‵ (finally R (name entries) zs) ∷ ‵ (finally u32 (name reads) rs) ∷ ‵ (fres (name count) (usize .coded .code w)) ∷ ‵ (u32 .own m (u ∷ [])) ∷ ‵ (flft κ-query q-query) ∷ ‵ (flft κ-marks q-marks) ∷ ‵ (flft κ-codes q-codes) ∷ ‵ (flft κ-vectors q-vectors) ∷ ‵ (flft κ-entries q-entries) ∷ ‵ (flft κ-reads q-reads) ∷ ‵ (flft κ-count q-count) ∷ []) ∵
-      suffices ! _ (ends-at 𝓤 H A face.ended stayed (face.clauses 𝓤 H A mem run) W bound u m (tt, (tt, (tt, (tt, (tt, (tt, (tt, (tt, (zs, (rs, (w, tt))))))))))) (tt, (tt, (tt, (tt, (tt, (tt, (tt, (tt, (size, (size-reads, (tt, tt)))))))))))) $ says ! claim $
-      nothing ! $ move ! (5 ∷ 6 ∷ 7 ∷ 8 ∷ 9 ∷ 10 ∷ 11 ∷ 0 ∷ []) $ group ! 8 $ frame ! $ nothing ! $ nothing ! $ nothing ! $ nothing ! $ nothing ! $ nothing ! $ nothing ! $
+      qed W (‵ (finally R (name entries) zs) ∷ ‵ (finally u32 (name reads) rs) ∷ ‵ (fres (name count) (usize .coded .code w)) ∷ ‵
+      (u32 .own m (u ∷ [])) ∷ ‵ (flft κ-query q-query) ∷ ‵ (flft κ-marks q-marks) ∷ ‵ (flft κ-codes q-codes) ∷ ‵
+      (flft κ-vectors q-vectors) ∷ ‵ (flft κ-entries q-entries) ∷ ‵ (flft κ-reads q-reads) ∷ ‵ (flft κ-count q-count) ∷ []) ∵
+      suffices ! _ (ends-at 𝓤 H A face.ended stayed (face.clauses 𝓤 H A mem run) W bound u m
+      (tt, (tt, (tt, (tt, (tt, (tt, (tt, (tt, (zs, (rs, (w, tt)))))))))))
+      (tt, (tt, (tt, (tt, (tt, (tt, (tt, (tt, (size, (size-reads, (tt, tt)))))))))))) $ says ! claim $
+      nothing ! $ move ! (5 ∷ 6 ∷ 7 ∷ 8 ∷ 9 ∷ 10 ∷ 11 ∷ 0 ∷ []) $ group ! 8 $ frame ! $ nothing ! $ nothing ! $ nothing ! $ nothing ! $
+      nothing ! $ nothing ! $ nothing ! $
       nothing ! $ nothing ! $ move ! (8 ∷ 7 ∷ 6 ∷ 5 ∷ 4 ∷ 3 ∷ 2 ∷ 1 ∷ 9 ∷ 10 ∷ 11 ∷ 0 ∷ []) $ group ! 12 $ frame ! $ done !
 
   abbrev lfts : Lfts (core.signature .lifetimes)
@@ -150,13 +225,21 @@ module _ {M : Type 1} (𝓤 : URA M) (H : Heap 𝓤) (A : Atoms 𝓤) (W : Given
   passed-given = (terms, (query, (marks, (codes, (vectors, (entries, (reads, tt)))))))
 
   abbrev passed : Vals core.signature lfts
-  passed = (terms-val ∷ [], (slice-vals query, (slice-vals marks, (slice-vals codes, (slice-vals vectors, (slice-vals entries, (slice-vals reads, tt)))))))
+  passed = (
+    terms-val ∷ [],
+    (
+      slice-vals query,
+      (slice-vals marks, (slice-vals codes, (slice-vals vectors, (slice-vals entries, (slice-vals reads, tt))))),
+    ),
+  )
 
   abbrev to : Core 𝓤 H A mem run .Ghost
   to = ((lfts, (q-query, (q-marks, (q-codes, (q-vectors, (q-entries, (q-reads, tt)))))), tt, passed-given, passed), tt)
 
-  asked : ent 𝓤 (onEntry 𝓤 H A core.signature lfts (q-query, (q-marks, (q-codes, (q-vectors, (q-entries, (q-reads, tt)))))) passed-given passed) (Core 𝓤 H A mem run .pre to)
-  asked = qed W (raw (onEntry 𝓤 H A core.signature lfts (q-query, (q-marks, (q-codes, (q-vectors, (q-entries, (q-reads, tt)))))) passed-given passed) ∷ []) ∵ frame ! $ done !
+  asked : ent 𝓤 (onEntry 𝓤 H A core.signature lfts
+      (q-query, (q-marks, (q-codes, (q-vectors, (q-entries, (q-reads, tt)))))) passed-given passed) (Core 𝓤 H A mem run .pre to)
+  asked = qed W (raw (onEntry 𝓤 H A core.signature lfts
+      (q-query, (q-marks, (q-codes, (q-vectors, (q-entries, (q-reads, tt)))))) passed-given passed) ∷ []) ∵ frame ! $ done !
 
   abbrev lfts-number : Lfts (number.signature .lifetimes)
   lfts-number = (κ-count, tt)
@@ -170,10 +253,17 @@ module _ {M : Type 1} (𝓤 : URA M) (H : Heap 𝓤) (A : Atoms 𝓤) (W : Given
   abbrev to-number : Searched → Val → Number 𝓤 H A mem run .Ghost
   to-number r u = ((lfts-number, (q-count, tt), tt, given-number r, passed-number u), tt)
 
-  asked-number : (r : Searched) (u : Val) → ent 𝓤 (onEntry 𝓤 H A number.signature lfts-number (q-count, tt) (given-number r) (passed-number u)) (Number 𝓤 H A mem run .pre (to-number r u))
-  asked-number r u = qed W (raw (onEntry 𝓤 H A number.signature lfts-number (q-count, tt) (given-number r) (passed-number u)) ∷ []) ∵ frame ! $ done !
+  asked-number : (r : Searched) (u : Val)
+      → ent 𝓤 (onEntry 𝓤 H A number.signature lfts-number (q-count, tt) (given-number r) (passed-number u))
+      (Number 𝓤 H A mem run .pre (to-number r u))
+  asked-number r u = qed W (raw (onEntry 𝓤 H A number.signature lfts-number (q-count, tt) (given-number r) (passed-number u)) ∷ []) ∵
+      frame ! $ done !
 
-  module _ (𝓣 : Tables 𝓤 H) (known-core : Triple 𝓤 (𝓣 .C #core) (Core 𝓤 H A mem run)) (known-number : Triple 𝓤 (𝓣 .C #number) (Number 𝓤 H A mem run)) (fits-d : d < 2 ^ 64) (fits-b : b < 2 ^ 64) (fits-n : n < 2 ^ 64) (fits-k : k < 2 ^ 64) (room-query : Room i32 (length (now query))) (room-marks : Room i32 (length (now marks))) (room-codes : Room u8 (length (now codes))) (room-vectors : Room i32 (length (now vectors))) (room-entries : Room R (length (now entries))) (room-reads : Room u32 (length (now reads))) where
+  module _ (𝓣 : Tables 𝓤 H) (known-core : Triple 𝓤 (𝓣 .C #core) (Core 𝓤 H A mem run))
+      (known-number : Triple 𝓤 (𝓣 .C #number) (Number 𝓤 H A mem run)) (fits-d : d < 2 ^ 64) (fits-b : b < 2 ^ 64) (fits-n : n < 2 ^ 64)
+      (fits-k : k < 2 ^ 64) (room-query : Room i32 (length (now query))) (room-marks : Room i32 (length (now marks)))
+      (room-codes : Room u8 (length (now codes))) (room-vectors : Room i32 (length (now vectors)))
+      (room-entries : Room R (length (now entries))) (room-reads : Room u32 (length (now reads))) where
     fm : FmC 𝓤 H (W .laws) (𝓣 .C)
     fm = fmOf 𝓤 H (W .laws) 𝓣
 
@@ -186,10 +276,31 @@ module _ {M : Type 1} (𝓤 : URA M) (H : Heap 𝓤) (A : Atoms 𝓤) (W : Given
     terms-typed : T (hasTy Tm′.mir terms-val) × WT terms-val
     terms-typed = LL.lawful Tm.the-type Tm′.the-laws 𝓤 H A W .typed terms _ terms-is .0
 
-    walk : ent 𝓤 (onEntry 𝓤 H A face.signature (κ-query, (κ-marks, (κ-codes, (κ-vectors, (κ-entries, (κ-reads, (κ-count, tt))))))) (q-query, (q-marks, (q-codes, (q-vectors, (q-entries, (q-reads, (q-count, tt))))))) (d, (b, (n, (k, (query, (marks, (codes, (vectors, (entries, (reads, (count, tt))))))))))) at) (WpFn 𝓤 H (𝓣 .C) (𝓣 .Λ) code.function (vint w64 d ∷ vint w64 b ∷ vint w64 n ∷ vint w64 k ∷ sliceVal (query .ptr) (length (now query)) ∷ sliceVal (marks .ptr) (length (now marks)) ∷ sliceVal (codes .ptr) (length (now codes)) ∷ sliceVal (vectors .ptr) (length (now vectors)) ∷ sliceVal (entries .ptr) (length (now entries)) ∷ sliceVal (reads .ptr) (length (now reads)) ∷ vptr (count .ptr .0) (count .ptr .1) ∷ []) Post)
+    walk : ent 𝓤 (onEntry 𝓤 H A face.signature (κ-query, (κ-marks, (κ-codes, (κ-vectors, (κ-entries, (κ-reads, (κ-count, tt)))))))
+        (q-query, (q-marks, (q-codes, (q-vectors, (q-entries, (q-reads, (q-count, tt)))))))
+        (d, (b, (n, (k, (query, (marks, (codes, (vectors, (entries, (reads, (count, tt))))))))))) at)
+        (WpFn 𝓤 H (𝓣 .C) (𝓣 .Λ) code.function
+        (vint w64 d ∷ vint w64 b ∷ vint w64 n ∷ vint w64 k ∷ sliceVal (query .ptr) (length (now query)) ∷ sliceVal (marks .ptr)
+        (length (now marks)) ∷ sliceVal (codes .ptr) (length (now codes)) ∷ sliceVal (vectors .ptr) (length (now vectors)) ∷ sliceVal
+        (entries .ptr) (length (now entries)) ∷ sliceVal (reads .ptr) (length (now reads)) ∷ vptr (count .ptr .0) (count .ptr .1) ∷ [])
+        Post)
     walk =
-        qed W ((‵ (flft κ-query q-query) ⊛ (‵ (flft κ-marks q-marks) ⊛ (‵ (flft κ-codes q-codes) ⊛ (‵ (flft κ-vectors q-vectors) ⊛ (‵ (flft κ-entries q-entries) ⊛ (‵ (flft κ-reads q-reads) ⊛ (‵ (flft κ-count q-count) ⊛ ‵ ftrue))))))) ∷ ‵ (usize .own d (vint w64 d ∷ [])) ∷ ‵ (usize .own b (vint w64 b ∷ [])) ∷ ‵ (usize .own n (vint w64 n ∷ [])) ∷ ‵ (usize .own k (vint w64 k ∷ [])) ∷ ‵ (ShrSlice (named 0) κ-query i32 .own query (slice-vals query)) ∷ ‵ (ShrSlice (named 1) κ-marks i32 .own marks (slice-vals marks)) ∷ ‵ (ShrSlice (named 2) κ-codes u8 .own codes (slice-vals codes)) ∷ ‵ (ShrSlice (named 3) κ-vectors i32 .own vectors (slice-vals vectors)) ∷ ‵ (MutSlice (named 4) κ-entries R .own entries (slice-vals entries)) ∷ ‵ (MutSlice (named 5) κ-reads u32 .own reads (slice-vals reads)) ∷ ‵ (MutRef (named 6) κ-count usize .own count (ptr-vals count)) ∷ ‵ ftrue ∷ []) ∵
-        enter ! (𝓣 .C) (𝓣 .Λ) code.function (vint w64 d ∷ vint w64 b ∷ vint w64 n ∷ vint w64 k ∷ sliceVal (query .ptr) (length (now query)) ∷ sliceVal (marks .ptr) (length (now marks)) ∷ sliceVal (codes .ptr) (length (now codes)) ∷ sliceVal (vectors .ptr) (length (now vectors)) ∷ sliceVal (entries .ptr) (length (now entries)) ∷ sliceVal (reads .ptr) (length (now reads)) ∷ vptr (count .ptr .0) (count .ptr .1) ∷ []) _ $
+        qed W ((‵ (flft κ-query q-query) ⊛
+        (‵ (flft κ-marks q-marks) ⊛ (‵ (flft κ-codes q-codes) ⊛
+        (‵ (flft κ-vectors q-vectors) ⊛
+        (‵ (flft κ-entries q-entries) ⊛ (‵ (flft κ-reads q-reads) ⊛ (‵ (flft κ-count q-count) ⊛ ‵ ftrue))))))) ∷ ‵
+        (usize .own d (vint w64 d ∷ [])) ∷ ‵ (usize .own b (vint w64 b ∷ [])) ∷ ‵ (usize .own n (vint w64 n ∷ [])) ∷ ‵
+        (usize .own k (vint w64 k ∷ [])) ∷ ‵ (ShrSlice (named 0) κ-query i32 .own query (slice-vals query)) ∷ ‵
+        (ShrSlice (named 1) κ-marks i32 .own marks (slice-vals marks)) ∷ ‵
+        (ShrSlice (named 2) κ-codes u8 .own codes (slice-vals codes)) ∷ ‵
+        (ShrSlice (named 3) κ-vectors i32 .own vectors (slice-vals vectors)) ∷ ‵
+        (MutSlice (named 4) κ-entries R .own entries (slice-vals entries)) ∷ ‵
+        (MutSlice (named 5) κ-reads u32 .own reads (slice-vals reads)) ∷ ‵
+        (MutRef (named 6) κ-count usize .own count (ptr-vals count)) ∷ ‵ ftrue ∷ []) ∵
+        enter ! (𝓣 .C) (𝓣 .Λ) code.function
+        (vint w64 d ∷ vint w64 b ∷ vint w64 n ∷ vint w64 k ∷ sliceVal (query .ptr) (length (now query)) ∷ sliceVal (marks .ptr)
+        (length (now marks)) ∷ sliceVal (codes .ptr) (length (now codes)) ∷ sliceVal (vectors .ptr) (length (now vectors)) ∷ sliceVal
+        (entries .ptr) (length (now entries)) ∷ sliceVal (reads .ptr) (length (now reads)) ∷ vptr (count .ptr .0) (count .ptr .1) ∷ []) _ $
         alloc1 ! (λ l₀. alloc1 ! (λ l₁. alloc1 ! (λ l₂. alloc1 ! (λ l₃. alloc1 ! (λ l₄. alloc1 ! (λ l₅. alloc1 ! (λ l₆. alloc1 ! (λ l₇.
         alloc1 ! (λ l₈. alloc1 ! (λ l₉. alloc1 ! (λ l₁₀. alloc1 ! (λ l₁₁. alloc1 ! (λ l₁₂. alloc1 ! (λ l₁₃. alloc1 ! (λ l₁₄.
         alloc1 ! (λ l₁₅. alloc1 ! (λ l₁₆. alloc1 ! (λ l₁₇. alloc1 ! (λ l₁₈. alloc0 ! $ params1 ! $
@@ -283,16 +394,90 @@ module _ {M : Type 1} (𝓤 : URA M) (H : Heap 𝓤) (A : Atoms 𝓤) (W : Given
         by ! (exits m u₂ (ws .1 .1 .1 .1 .1 .0) (ws .1 .1 .1 .1 .1 .1 .0) (vs .1 .0) size-reads size (told r m (ws .1 .1 .1 .1 .1 .0)
         (ws .1 .1 .1 .1 .1 .1 .0) (vs .1 .0) e e₂)))))))))))))))))))))))))))))))))
 
-module _ {M : Type 1} (𝓤 : URA M) (H : Heap 𝓤) (A : Atoms 𝓤) (W : Given 𝓤 H A) (mem : Memory → SProp 𝓤) (run : Routine → Fun 𝓤) (𝓣 : Tables 𝓤 H) (known-core : Triple 𝓤 (𝓣 .C #core) (Core 𝓤 H A mem run)) (known-number : Triple 𝓤 (𝓣 .C #number) (Number 𝓤 H A mem run)) where
+module _ {M : Type 1} (𝓤 : URA M) (H : Heap 𝓤) (A : Atoms 𝓤) (W : Given 𝓤 H A) (mem : Memory → SProp 𝓤) (run : Routine → Fun 𝓤)
+    (𝓣 : Tables 𝓤 H) (known-core : Triple 𝓤 (𝓣 .C #core) (Core 𝓤 H A mem run))
+    (known-number : Triple 𝓤 (𝓣 .C #number) (Number 𝓤 H A mem run)) where
   walks : Walks 𝓤 H A face.ended stayed (WpFn 𝓤 H (𝓣 .C) (𝓣 .Λ) code.function) (face.clauses 𝓤 H A mem run)
   walks = walked 𝓤 H A face.ended stayed (face.clauses 𝓤 H A mem run) (WpFn 𝓤 H (𝓣 .C) (𝓣 .Λ) code.function)
-      (λ κs. (uint-vals w64, (uint-vals w64, (uint-vals w64, (uint-vals w64, (slice-vals, (slice-vals, (slice-vals, (slice-vals, (slice-vals, (slice-vals, (ptr-vals, tt))))))))))))
-      (λ κs. (uint-tells w64, (uint-tells w64, (uint-tells w64, (uint-tells w64, (shr-slice-tells (named 0) (κs .0) i32, (shr-slice-tells (named 1) (κs .1 .0) i32, (shr-slice-tells (named 2) (κs .1 .1 .0) u8, (shr-slice-tells (named 3) (κs .1 .1 .1 .0) i32, (mut-slice-tells (named 4) (κs .1 .1 .1 .1 .0) R, (mut-slice-tells (named 5) (κs .1 .1 .1 .1 .1 .0) u32, (mut-tells (named 6) (κs .1 .1 .1 .1 .1 .1 .0) usize, tt))))))))))))
-      (λ κs qs bounds a g are. via 𝓤 _ (fst∗ 𝓤 _ (emp 𝓤)) (walk 𝓤 H A W mem run (κs .0) (κs .1 .0) (κs .1 .1 .0) (κs .1 .1 .1 .0) (κs .1 .1 .1 .1 .0) (κs .1 .1 .1 .1 .1 .0) (κs .1 .1 .1 .1 .1 .1 .0) (qs .0) (qs .1 .0) (qs .1 .1 .0) (qs .1 .1 .1 .0) (qs .1 .1 .1 .1 .0) (qs .1 .1 .1 .1 .1 .0) (qs .1 .1 .1 .1 .1 .1 .0) (a .0) (a .1 .0) (a .1 .1 .0) (a .1 .1 .1 .0) (a .1 .1 .1 .1 .0) (a .1 .1 .1 .1 .1 .0) (a .1 .1 .1 .1 .1 .1 .0) (a .1 .1 .1 .1 .1 .1 .1 .0) (a .1 .1 .1 .1 .1 .1 .1 .1 .0) (a .1 .1 .1 .1 .1 .1 .1 .1 .1 .0) (a .1 .1 .1 .1 .1 .1 .1 .1 .1 .1 .0) 𝓣 known-core known-number (are .0 .1) (are .1 .0 .1) (are .1 .1 .0 .1) (are .1 .1 .1 .0 .1) (are .1 .1 .1 .1 .0 .0 .1) (are .1 .1 .1 .1 .1 .0 .0 .1) (are .1 .1 .1 .1 .1 .1 .0 .0 .1) (are .1 .1 .1 .1 .1 .1 .1 .0 .0 .1) (are .1 .1 .1 .1 .1 .1 .1 .1 .0 .0 .1) (are .1 .1 .1 .1 .1 .1 .1 .1 .1 .0 .0 .1)))
+      (λ κs. (
+        uint-vals w64,
+        (
+          uint-vals w64,
+          (
+            uint-vals w64,
+            (
+              uint-vals w64,
+              (slice-vals, (slice-vals, (slice-vals, (slice-vals, (slice-vals, (slice-vals, (ptr-vals, tt))))))),
+            ),
+          ),
+        ),
+      ))
+      (λ κs. (
+        uint-tells w64,
+        (
+          uint-tells w64,
+          (
+            uint-tells w64,
+            (
+              uint-tells w64,
+              (
+                shr-slice-tells (named 0) (κs .0) i32,
+                (
+                  shr-slice-tells (named 1) (κs .1 .0) i32,
+                  (
+                    shr-slice-tells (named 2) (κs .1 .1 .0) u8,
+                    (
+                      shr-slice-tells (named 3) (κs .1 .1 .1 .0) i32,
+                      (
+                        mut-slice-tells (named 4) (κs .1 .1 .1 .1 .0) R,
+                        (mut-slice-tells (named 5) (κs .1 .1 .1 .1 .1 .0) u32, (mut-tells (named 6) (κs .1 .1 .1 .1 .1 .1 .0) usize, tt)),
+                      ),
+                    ),
+                  ),
+                ),
+              ),
+            ),
+          ),
+        ),
+      ))
+      (λ κs qs bounds a g are. via 𝓤 _ (fst∗ 𝓤 _ (emp 𝓤))
+      (walk 𝓤 H A W mem run (κs .0) (κs .1 .0) (κs .1 .1 .0) (κs .1 .1 .1 .0) (κs .1 .1 .1 .1 .0) (κs .1 .1 .1 .1 .1 .0)
+      (κs .1 .1 .1 .1 .1 .1 .0) (qs .0) (qs .1 .0) (qs .1 .1 .0) (qs .1 .1 .1 .0) (qs .1 .1 .1 .1 .0) (qs .1 .1 .1 .1 .1 .0)
+      (qs .1 .1 .1 .1 .1 .1 .0) (a .0) (a .1 .0) (a .1 .1 .0) (a .1 .1 .1 .0) (a .1 .1 .1 .1 .0) (a .1 .1 .1 .1 .1 .0)
+      (a .1 .1 .1 .1 .1 .1 .0) (a .1 .1 .1 .1 .1 .1 .1 .0) (a .1 .1 .1 .1 .1 .1 .1 .1 .0) (a .1 .1 .1 .1 .1 .1 .1 .1 .1 .0)
+      (a .1 .1 .1 .1 .1 .1 .1 .1 .1 .1 .0) 𝓣 known-core known-number (are .0 .1) (are .1 .0 .1) (are .1 .1 .0 .1) (are .1 .1 .1 .0 .1)
+      (are .1 .1 .1 .1 .0 .0 .1) (are .1 .1 .1 .1 .1 .0 .0 .1) (are .1 .1 .1 .1 .1 .1 .0 .0 .1) (are .1 .1 .1 .1 .1 .1 .1 .0 .0 .1)
+      (are .1 .1 .1 .1 .1 .1 .1 .1 .0 .0 .1) (are .1 .1 .1 .1 .1 .1 .1 .1 .1 .0 .0 .1)))
 
   meets : Meets 𝓤 H A face.signature (WpFn 𝓤 H (𝓣 .C) (𝓣 .Λ) code.function) (face.spec 𝓤 H A mem run)
-  meets = walk-meets 𝓤 H A face.ended stayed W
-      (goes-dropped 𝓤 H A W 7 (plain (λ _. usize)) yes (λ κs y f. refl), (goes-dropped 𝓤 H A W 7 (plain (λ _. usize)) yes (λ κs y f. refl), (goes-dropped 𝓤 H A W 7 (plain (λ _. usize)) yes (λ κs y f. refl), (goes-dropped 𝓤 H A W 7 (plain (λ _. usize)) yes (λ κs y f. refl), (goes-dropped 𝓤 H A W 7 (shrSliceOf (0 ∷ []) tt (plain (λ _. i32))) yes (λ κs y f. refl), (goes-dropped 𝓤 H A W 7 (shrSliceOf (1 ∷ []) tt (plain (λ _. i32))) yes (λ κs y f. refl), (goes-dropped 𝓤 H A W 7 (shrSliceOf (2 ∷ []) tt (plain (λ _. u8))) yes (λ κs y f. refl), (goes-dropped 𝓤 H A W 7 (shrSliceOf (3 ∷ []) tt (plain (λ _. i32))) yes (λ κs y f. refl), (goes-gave-slice 𝓤 H A W 7 4 tt (plain (λ _. R)), (goes-gave-slice 𝓤 H A W 7 5 tt (plain (λ _. u32)), (goes-gave-ref 𝓤 H A W 7 6 tt (plain (λ _. usize)), tt)))))))))))
+  meets = walk-meets 𝓤 H A face.ended stayed W (
+    goes-dropped 𝓤 H A W 7 (plain (λ _. usize)) yes (λ κs y f. refl),
+    (
+      goes-dropped 𝓤 H A W 7 (plain (λ _. usize)) yes (λ κs y f. refl),
+      (
+        goes-dropped 𝓤 H A W 7 (plain (λ _. usize)) yes (λ κs y f. refl),
+        (
+          goes-dropped 𝓤 H A W 7 (plain (λ _. usize)) yes (λ κs y f. refl),
+          (
+            goes-dropped 𝓤 H A W 7 (shrSliceOf (0 ∷ []) tt (plain (λ _. i32))) yes (λ κs y f. refl),
+            (
+              goes-dropped 𝓤 H A W 7 (shrSliceOf (1 ∷ []) tt (plain (λ _. i32))) yes (λ κs y f. refl),
+              (
+                goes-dropped 𝓤 H A W 7 (shrSliceOf (2 ∷ []) tt (plain (λ _. u8))) yes (λ κs y f. refl),
+                (
+                  goes-dropped 𝓤 H A W 7 (shrSliceOf (3 ∷ []) tt (plain (λ _. i32))) yes (λ κs y f. refl),
+                  (
+                    goes-gave-slice 𝓤 H A W 7 4 tt (plain (λ _. R)),
+                    (goes-gave-slice 𝓤 H A W 7 5 tt (plain (λ _. u32)), (goes-gave-ref 𝓤 H A W 7 6 tt (plain (λ _. usize)), tt)),
+                  ),
+                ),
+              ),
+            ),
+          ),
+        ),
+      ),
+    ),
+  )
       (face.clauses 𝓤 H A mem run) (WpFn 𝓤 H (𝓣 .C) (𝓣 .Λ) code.function) (WpFn-mono 𝓤 H (W .laws) 𝓣 code.function) walks
 
 pub matcher-search-spec : {M : Type 1} → stated.statement M
@@ -302,4 +487,5 @@ matcher-search-spec 𝓤 H 𝓜 𝓖 𝓡 =
     (tables 𝓤 H 𝓜 𝓡 code.env .C) (tables 𝓤 H 𝓜 𝓡 code.env .Λ) #matcher-search code.function (code.unfolded 𝓤 H 𝓜 𝓡)
     (meets 𝓤 H (𝓖 .A) (givenOf 𝓤 H 𝓜 𝓖) (𝓜 .mem) (𝓡 .run) (tablesOf 𝓤 H 𝓜 (tables 𝓤 H 𝓜 𝓡 code.env))
     (cited 𝓤 H (Core 𝓤 H (𝓖 .A) (𝓜 .mem) (𝓡 .run)) 𝓜 𝓡 code.env #core core-def.routine code.calls-nearest·search (core-thm.met 𝓤 H 𝓜 𝓖 𝓡))
-    (cited 𝓤 H (Number 𝓤 H (𝓖 .A) (𝓜 .mem) (𝓡 .run)) 𝓜 𝓡 code.env #number number-def.routine code.calls-c-answers·put-read-count (number-thm.met 𝓤 H 𝓜 𝓖 𝓡)))
+    (cited 𝓤 H (Number 𝓤 H (𝓖 .A) (𝓜 .mem) (𝓡 .run)) 𝓜 𝓡 code.env #number number-def.routine
+    code.calls-c-answers·put-read-count (number-thm.met 𝓤 H 𝓜 𝓖 𝓡)))

@@ -112,7 +112,8 @@ module _ {M : Type 1} (𝓤 : URA M) (H : Heap 𝓤) (A : Atoms 𝓤) (W : Given
   size i = filled-length array xs i
 
   exits : Room R (length xs) → (i : ℕ) → i ≡ count
-      → ent 𝓤 (⋆ 𝓤 H A (‵ (fobs γ (codedHoleys R .code (heres R (ys i)))) ∷ ‵ (fbor κ₀ (Held R (length (ys i)) b o γ)) ∷ ‵ (flft κ₀ q₀) ∷ []))
+      → ent 𝓤 (⋆ 𝓤 H A (‵ (fobs γ (codedHoleys R .code (heres R (ys i)))) ∷ ‵ (fbor κ₀ (Held R (length (ys i)) b o γ)) ∷ ‵
+      (flft κ₀ q₀) ∷ []))
       (Post vunit)
   exits room i e =
       qed W (‵ (fobs γ (codedHoleys R .code (heres R (ys i)))) ∷ ‵ (fbor κ₀ (Held R (length (ys i)) b o γ)) ∷ ‵ (flft κ₀ q₀) ∷ []) ∵
@@ -295,7 +296,8 @@ module _ {M : Type 1} (𝓤 : URA M) (H : Heap 𝓤) (A : Atoms 𝓤) (W : Given
       (λ κs. (slice-vals, (array-vals entry-vals, (uint-vals w64, tt))))
       (λ κs. (mut-slice-tells (named 0) (κs .0) R, (array-tells R entry-vals entry-tells maxNeighbours, (uint-tells w64, tt))))
       (λ κs qs bounds a g are. needs 𝓤 ((a .1 .1 .0 ≤ length (now (a .0))) × (a .1 .1 .0 ≤ maxNeighbours)) _ (λ asks.
-      walk 𝓤 H A W mem run (κs .0) (qs .0) (a .0) (a .1 .0) (arrayVal (map (LL.val S.the-type S′.the-laws) (a .1 .0))) (are .1 .0) (a .1 .1 .0)
+      walk 𝓤 H A W mem run (κs .0) (qs .0) (a .0) (a .1 .0) (arrayVal (map (LL.val S.the-type S′.the-laws) (a .1 .0))) (are .1 .0)
+      (a .1 .1 .0)
       𝓣 (are .0 .0 .1) (are .1 .1 .0 .1) asks))
 
   fill-meets : Meets 𝓤 H A fill.signature (WpFn 𝓤 H (𝓣 .C) (𝓣 .Λ) code.function) (fill.spec 𝓤 H A mem run)

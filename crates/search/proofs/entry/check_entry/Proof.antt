@@ -12,13 +12,17 @@ returns : tie.Need-returns
 returns c =
     let a = c .before .before .before .before .before .args in
     c .check-shaped .ensures
-    ∙ sym (first-append (shapeCauses (a .terms .d) (a .terms .b)) (shapedCauses (library (a .terms) (a .marks .now) (a .codes .now) (a .vectors .now)) (a .query .now) (a .terms .k) (roomOf (a .entries) (a .reads)))
+    ∙ sym (first-append (shapeCauses (a .terms .d) (a .terms .b))
+    (shapedCauses (library (a .terms) (a .marks .now) (a .codes .now) (a .vectors .now)) (a .query .now) (a .terms .k)
+    (roomOf (a .entries) (a .reads)))
     ∙ outcome-accepted _ _ (sym (c .before .before .before .check-shape .ensures) ∙ c .before .enum-told .given .1))
 
 returns-2 : tie.Need-returns-2
 returns-2 c =
     let a = c .before .before .before .before .before .args in
-    sym (first-append (shapeCauses (a .terms .d) (a .terms .b)) (shapedCauses (library (a .terms) (a .marks .now) (a .codes .now) (a .vectors .now)) (a .query .now) (a .terms .k) (roomOf (a .entries) (a .reads)))
+    sym (first-append (shapeCauses (a .terms .d) (a .terms .b))
+    (shapedCauses (library (a .terms) (a .marks .now) (a .codes .now) (a .vectors .now)) (a .query .now) (a .terms .k)
+    (roomOf (a .entries) (a .reads)))
     ∙ outcome-refused _ _ (sym (c .before .before .before .check-shape .ensures) ∙ c .before .cause .given .1))
 
 pub check-entry-spec : {M : Type 1} → statement M

@@ -29,7 +29,8 @@ enough : (c : tie.Else2) → let a = c .before .before .before .before .before .
 enough c = sym (c .before .is-neighbour-count .ensures) ∙ not-false (c .before .is-neighbour-count .result) (c .if2 .left)
 
 measured : (c : tie.Else3) → let a = c .before .before .before .before .before .before .before .args in
-    exactLengths (library (a .terms) (a .marks .now) (a .codes .now) (a .vectors .now)) (a .query .now) (a .terms .k) (roomOf (a .entries) (a .reads)) ≡ true
+    exactLengths (library (a .terms) (a .marks .now) (a .codes .now) (a .vectors .now)) (a .query .now) (a .terms .k)
+    (roomOf (a .entries) (a .reads)) ≡ true
 measured c = sym (c .before .exact-lengths .ensures) ∙ not-false (c .before .exact-lengths .result) (c .if3 .left)
 
 queried : (c : tie.Else4) → areComponents (c .before .before .before .before .before .before .before .before .before .args .query .now) ≡ true
@@ -41,7 +42,11 @@ returns c = rw (← c .before .is-vector-count .ensures, not-true (c .before .is
 
 returns-2 : tie.Need-returns-2
 unfolding first
-returns-2 c = rw (counted (c .before .before), ← c .before .is-neighbour-count .ensures, not-true (c .before .is-neighbour-count .result) (c .if2 .taken))
+returns-2 c = rw (
+  counted (c .before .before),
+  ← c .before .is-neighbour-count .ensures,
+  not-true (c .before .is-neighbour-count .result) (c .if2 .taken),
+)
 
 returns-3 : tie.Need-returns-3
 unfolding first
@@ -67,9 +72,11 @@ returns-5 c =
     let behind = and-eq-true-iff (eqb (length (a .query .now)) (a .terms .d)) _ .0 (measured three) .1 in
     let marks-and = and-eq-true-iff (eqb (length (a .marks .now)) (firstMarks (a .terms .d) (a .terms .b) (a .terms .d))) _ .0 behind in
     let of-marks : eqb (length (a .marks .now)) (firstMarks (a .terms .d) (a .terms .b) (a .terms .d)) ≡ true = marks-and .0 in
-    let of-codes : eqb (length (a .codes .now)) (codeLength (a .terms .b) (a .terms .n)) ≡ true = and-eq-true-iff (eqb (length (a .codes .now)) (codeLength (a .terms .b) (a .terms .n))) _ .0 (marks-and .1) .0 in
+    let of-codes : eqb (length (a .codes .now)) (codeLength (a .terms .b) (a .terms .n)) ≡ true = and-eq-true-iff
+    (eqb (length (a .codes .now)) (codeLength (a .terms .b) (a .terms .n))) _ .0 (marks-and .1) .0 in
     c .check-codes .ensures
-    ∙ first-append (shapeCauses (a .terms .d) (a .terms .b)) (shapedCodeCauses (a .terms .d) (a .terms .b) (a .terms .n) (a .marks .now) (a .codes .now))
+    ∙ first-append (shapeCauses (a .terms .d) (a .terms .b))
+    (shapedCodeCauses (a .terms .d) (a .terms .b) (a .terms .n) (a .marks .now) (a .codes .now))
     ∙ outcome-accepted _ _ (start .pre)
     ∙ rw (measured three, counted (two .before .before), enough two, queried four, of-marks, of-codes)
 

@@ -35,7 +35,8 @@ wanted c = c .marks-length .ensures ∙ marks-length-is _ _ (from-1 (c .before) 
 of-query : (c : tie.Else1) → let a = from-1 c .args in eqb (length (a .query .now)) (a .terms .d) ≡ true
 of-query c = eq-eqb _ _ (c .if1 .left)
 
-of-marks : (c : tie.Else2) → let a = from-2 c .args in eqb (length (a .marks .now)) (firstMarks (a .terms .d) (a .terms .b) (a .terms .d)) ≡ true
+of-marks : (c : tie.Else2) → let a = from-2 c .args in eqb (length (a .marks .now))
+    (firstMarks (a .terms .d) (a .terms .b) (a .terms .d)) ≡ true
 of-marks c = eq-eqb _ _ (c .if2 .left ∙ wanted (c .before))
 
 wanted-codes : (c : tie.After-codes-length) → let t = from-2 (c .before) .args .terms in c .codes-length .result ≡ codeLength (t .b) (t .n)
