@@ -13,7 +13,7 @@ use lib.Seq.{getD-take, getD-drop, length-take-le}
 use Rattle.layout.specs.Layout.{regionCount}
 use Rattle.region.specs.Region.{inRegion, regionOf, inMarks}
 use Rattle.region.specs.Within.{within, within-apart}
-use Rattle.region.specs.Regions.{Holds, region-of-holds}
+use Rattle.region.specs.Regions.{RegionHolds, region-of-holds}
 use Rattle.partition.specs.Marks.{dimensionMarks}
 use Rattle.codes.specs.Codes.{nextColumn, regionsFit, packed, codeRegion}
 use Rattle.codes.specs.PackLaws.{next-column, packed-spare, unpacked-packed, code-region}
@@ -28,7 +28,7 @@ length-regions d b marks t [] = refl
 length-regions d b marks t (z ∷ zs) = ap suc (length-regions d b marks (nextColumn d t) zs)
 
 -- A region that holds a value is one of its dimension's.
-holds-fit : (d b : ℕ) (marks : List ℤ) (t r : ℕ) (z : ℤ) → Holds (dimensionMarks d b marks (suc t)) r z → r < regionCount d b (suc t)
+holds-fit : (d b : ℕ) (marks : List ℤ) (t r : ℕ) (z : ℤ) → RegionHolds (dimensionMarks d b marks (suc t)) r z → r < regionCount d b (suc t)
 unfolding dimensionMarks
 holds-fit d b marks t r z holds =
     let exists = simp length-take at (holds .exists) in
@@ -55,7 +55,7 @@ regions-fit d b marks vectors inside = inside-fit d b marks 0 vectors inside
 -- Component q, the first of them in column p % d, lies in its region.
 from-holds : (d b : ℕ) → 0 < d → (marks : List ℤ) (p q : ℕ) (vectors : List ℤ) → q < length vectors
     → insideFrom d b marks (p % d) vectors ≡ true
-    → Holds (dimensionMarks d b marks (suc ((p + q) % d))) (getD (regionsFrom d b marks (p % d) vectors) q 0) (getD vectors q (pos 0))
+    → RegionHolds (dimensionMarks d b marks (suc ((p + q) % d))) (getD (regionsFrom d b marks (p % d) vectors) q 0) (getD vectors q (pos 0))
 unfolding regionsFrom insideFrom
 from-holds d b some marks p q [] more inside = absurd (omega arith)
 from-holds d b some marks p zero (z ∷ zs) more inside =
@@ -75,7 +75,7 @@ module _ (d b n : ℕ) (some : 0 < d) (marks vectors : List ℤ) (rows : length 
 
   -- Component t of vector i lies in the region that code i names for dimension t + 1.
   code-holds : (i t : ℕ) → i < n → t < d
-      → Holds (dimensionMarks d b marks (suc t)) (codeRegion d b (vectorCodes d b n marks vectors) i t)
+      → RegionHolds (dimensionMarks d b marks (suc t)) (codeRegion d b (vectorCodes d b n marks vectors) i t)
       (getD (vectorAt d vectors i) t (pos 0))
   code-holds i t row column =
       let regions = vectorRegions d b marks vectors in

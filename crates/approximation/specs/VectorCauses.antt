@@ -12,7 +12,7 @@ use Rattle.refusal.specs.declared.Refusal.the-variants.{Count, Length, Componen
 use Rattle.refusal.specs.declared.Verdict.the-variants.{Accepted}
 use Rattle.refusal.specs.First.{Row, _⇒_, first, passed, accepted-behind}
 use Rattle.limits.specs.Limits.{isVectorCount}
-use Rattle.whole.specs.Components.{areComponents}
+use Rattle.signed.specs.Components.{areComponents}
 use Rattle.layout.specs.Layout.{firstMarks}
 use Rattle.layout.specs.Stretch.{shapeCauses, Shape, shape}
 use Rattle.partition.specs.Marks.{goodMarks}

@@ -104,7 +104,7 @@ fn check_located(d: usize, b: usize, vectors: &[i32], marks: &[i32]) -> Verdict
     if marks.len() != layout::marks_length(d, b) {
         return Verdict::Refused(Refusal::Length);
     }
-    if !whole::components::are_components(vectors) {
+    if !signed::components::are_components(vectors) {
         return Verdict::Refused(Refusal::Component);
     }
     match partition::check_marks(d, b, marks) {

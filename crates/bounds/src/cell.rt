@@ -98,7 +98,7 @@ fn check_shaped(
     if uppers != n {
         return Verdict::Refused(Refusal::Length);
     }
-    if !whole::components::are_components(query) {
+    if !signed::components::are_components(query) {
         return Verdict::Refused(Refusal::Component);
     }
     cells::check_codes(d, b, n, marks, codes)
@@ -156,7 +156,7 @@ fn fill_table(bound: Bound, d: usize, b: usize, marks: &[i32], query: &[i32], ta
         let end = start + (1usize << stretch.bits) + 1;
         fill_steps(
             bound,
-            whole::at(query, t),
+            signed::at(query, t),
             &marks[start..end],
             &mut table[start..end],
         );

@@ -12,8 +12,8 @@ use Rattle.reading.specs.declared.Reading.the-variants.{Fresh, Held}
 use Rattle.reading.specs.declared.Intake.the-variants.{Component}
 use Rattle.reading.specs.Component.{rounded}
 use Rattle.reading.specs.Intake.{valueIntake, intakeOf, intakeNumber}
-use Rattle.whole.specs.Keys.{keyOf}
-use Rattle.whole.specs.Components.{areComponents}
+use Rattle.signed.specs.Keys.{keyOf}
+use Rattle.signed.specs.Components.{areComponents}
 use Rattle.order.specs.Pair.{Pair, below, insert, sort, keyed, ranked, numbersOf, countFrom}
 use Rattle.order.specs.Rank.{ranking}
 use Rattle.selection.specs.Reading.{scan, unread, leastPair, goesOn, readNext, reading, read}
@@ -31,7 +31,7 @@ use Rattle.approximation.specs.VectorCauses.{packVectorsCauses}
 use Rattle.step.specs.Step.{shortest}
 use Rattle.distance.specs.Distance.{firstDistance}
 use Rattle.distance.specs.Bounds.{firstBound}
-use Rattle.search.specs.Search.{Library, searched, searchCauses, inOwnCells}
+use Rattle.search.specs.Search.{Index, searched, searchCauses, inOwnCells}
 use Rattle.search.specs.Ready.{roomOf}
 
 -- one case: what is asked, and what document 01 says
@@ -41,11 +41,11 @@ pub data Case : Type 0 where
   -- the intake of a reading refuses with this number
   refuses : Reading → ℕ → Case
   -- the codes of a library's vectors under its marks are its codes
-  codes : Library → Case
+  codes : Index → Case
   -- the marks made from a library's vectors
-  makes : Library → List ℤ → Case
+  makes : Index → List ℤ → Case
   -- the search of a library for the k nearest gives these pairs (distance, number) and this read list
-  finds : Library → List ℤ → ℕ → List Pair → List ℕ → Case
+  finds : Index → List ℤ → ℕ → List Pair → List ℕ → Case
 
 -- a case holds: the call that it speaks of is not refused where it gives something, and gives what document 01 says
 abbrev pub Holds : Case → Type 0
@@ -72,7 +72,7 @@ abbrev pub at : ℕ → ℕ → Pair
 at distance number = record { key = distance; number = number }
 
 -- document 01's library A
-abbrev pub libraryA : Library
+abbrev pub libraryA : Index
 libraryA = record {
   d = 2;
   b = 3;
@@ -83,7 +83,7 @@ libraryA = record {
 }
 
 -- the library of P12, whose codes are those of its vectors: regions 0 and 1
-abbrev pub libraryP12 : Library
+abbrev pub libraryP12 : Index
 libraryP12 = record { d = 1; b = 1; n = 2; marks = pos 0 ∷ pos 4 ∷ pos 10 ∷ []; codes = 0x40 ∷ []; vectors = pos 3 ∷ pos 7 ∷ [] }
 
 abbrev pub table : List Case

@@ -8,7 +8,7 @@ use codes::bits::bits_at;
 use limits::MAX_DIMENSIONS;
 use refusal::Refusal;
 use refusal::Verdict;
-use whole::compare::is_below;
+use signed::compare::is_below;
 ghost use mathlib.Core.Path.{_≡_};
 ghost use mathlib.Core.Bool.{_&&_};
 ghost use Prim.Native.Nat.{_≤_, _<_};

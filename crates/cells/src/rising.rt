@@ -1,5 +1,5 @@
 // Marks that rise, so that no region is empty.
-use whole::compare::is_below;
+use signed::compare::is_below;
 ghost use mathlib.Core.Path.{_≡_};
 ghost use Prim.Native.Nat.{_+_, _≤_};
 ghost use Rattle.refusal.specs.declared.Verdict.the-variants.{Accepted};

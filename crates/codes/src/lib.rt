@@ -156,7 +156,7 @@ fn take_all(d: usize, b: usize, codes: &[u8], regions: &mut [u8])
 }
 
 // The bits of a column's dimension, where each has the fewest and the first ones have one more. More than the most are left as they are.
-pub fn column_bits(fewest: usize, more: usize, column: usize) -> usize
+fn column_bits(fewest: usize, more: usize, column: usize) -> usize
     ensures { λ r. ⌜ r ≡ fewest + cond (leb fewest maxDimensionBits && leb (suc column) more) 1 0 ⌝ }
 {
     if MAX_DIMENSION_BITS < fewest {
@@ -166,7 +166,7 @@ pub fn column_bits(fewest: usize, more: usize, column: usize) -> usize
 }
 
 // The column behind one of d columns, the first behind the last; the first where there is no such column.
-pub fn next_column(d: usize, column: usize) -> usize
+fn next_column(d: usize, column: usize) -> usize
     ensures { λ r. ⌜ r ≡ cond (ltb column d) (nextColumn d column) 0 ⌝ }
 {
     if d <= column {

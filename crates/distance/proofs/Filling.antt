@@ -16,7 +16,8 @@ pub record Filling (whole out : List ℕ) (i : ℕ) : Type 0 where
 pub filling-start : (whole out : List ℕ) → length out ≡ length whole → Filling whole out 0
 filling-start whole out room = record { room = room; so-far = refl }
 
-pub filling-next : (whole out : List ℕ) (i x default : ℕ) → i < length whole → x ≡ getD whole i default → Filling whole out i → Filling whole (set out i x) (i + 1)
+pub filling-next : (whole out : List ℕ) (i x default : ℕ) → i < length whole → x ≡ getD whole i default → Filling whole out i
+    → Filling whole (set out i x) (i + 1)
 filling-next whole out i x default below is at =
     let within : i < length out = omega (arith, at .room) in
     record {

@@ -95,7 +95,9 @@ module _ (d b : ℕ) (marks : List ℤ) (codes : List ℕ) (query : List ℤ) (i
         record {
           vector = before .vector ++ (here .v ∷ []);
           components = simp length-append (omega (arith, before .components));
-          inside = rw (front-inside (before .vector) (here .v ∷ []) d b marks codes i t within, before .inside, at) (region-in ms r (here .v) (here .inside));
+          inside =
+              rw (front-inside (before .vector) (here .v ∷ []) d b marks codes i t within, before .inside, at)
+              (region-in ms r (here .v) (here .inside));
           is = rw (front-distance (before .vector) (here .v ∷ []) query t within, before .is, at, here .is);
         }
 

@@ -10,7 +10,7 @@ use lib.Signed.{leZ}
 use lib.ListN.{length, getD}
 use Rattle.limits.specs.Limits.{isComponent, isMark, greatestComponent, leastMark, greatestMark}
 use Rattle.limits.specs.Tests.{All, all-fails}
-use Rattle.whole.specs.Components.{areComponents, all-components}
+use Rattle.signed.specs.Components.{areComponents, all-components}
 use Rattle.region.specs.Dimension.{notAbove, goodDimension}
 use Rattle.region.specs.Region.{inRegion}
 use Rattle.partition.specs.Marks.{dimensionMarks, goodMarks, good-marks-each}
@@ -64,4 +64,5 @@ module _ (d b : ℕ) (marks : List ℤ) (good : goodMarks d b marks ≡ true) wh
           let h : t < d = omega (arith, cell .components) in
           let r = codeRegion d b codes i t in
           let inside = each (inside-all d b marks codes i vector) d t h (cell .inside) in
-          inside-component (good-mark t r h) (good-mark t (suc r) h) (in-region (dimensionMarks d b marks (suc t)) r (getD vector t (pos 0)) inside)
+          inside-component (good-mark t r h) (good-mark t (suc r) h)
+          (in-region (dimensionMarks d b marks (suc t)) r (getD vector t (pos 0)) inside)

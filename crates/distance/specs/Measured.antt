@@ -9,7 +9,7 @@ use Rattle.refusal.specs.declared.Refusal.the-variants.{Dimension, Length, Comp
 use Rattle.refusal.specs.Refusal.{numberOf}
 use Rattle.refusal.specs.First.{Row, _⇒_}
 use Rattle.limits.specs.Limits.{isDimensionCount}
-use Rattle.whole.specs.Components.{areComponents}
+use Rattle.signed.specs.Components.{areComponents}
 use Rattle.distance.specs.declared.Distance.{Distance}
 use Rattle.distance.specs.declared.Distance.the-variants.{Squared, Refused}
 

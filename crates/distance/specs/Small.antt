@@ -9,7 +9,7 @@ use lib.IntN.{ℤ, pos, negsuc, predℤ}
 use lib.Signed.{mag, leZ}
 use lib.ListN.{getD}
 use Rattle.limits.specs.Limits.{maxDimensions, leastComponent, greatestComponent, isComponent, leastMark, greatestMark, isMark}
-use Rattle.whole.specs.Components.{areComponents, component-at}
+use Rattle.signed.specs.Components.{areComponents, component-at}
 use Rattle.partition.specs.Marks.{dimensionMarks, goodMarks}
 use Rattle.codes.specs.Codes.{codeRegion}
 use Rattle.step.specs.Step.{gap, squared, shortest, longest, squared-le}
@@ -45,7 +45,8 @@ shortest-size q low high hq hl hh = omega (arith, shortest-le-longest q low high
 
 -- ---- sums of squares of small steps
 
-squares-small : (sum step : ℕ → ℕ) → sum 0 ≡ 0 → ((t : ℕ) → sum (suc t) ≡ sum t + squared (step t)) → (n : ℕ) → ((t : ℕ) → t < n → step t ≤ 2 ^ 17) → sum n ≤ n * 2 ^ 34
+squares-small : (sum step : ℕ → ℕ) → sum 0 ≡ 0 → ((t : ℕ) → sum (suc t) ≡ sum t + squared (step t)) → (n : ℕ)
+    → ((t : ℕ) → t < n → step t ≤ 2 ^ 17) → sum n ≤ n * 2 ^ 34
 squares-small sum step none more zero small = omega (arith, none)
 squares-small sum step none more (suc n) small =
     let before = squares-small sum step none more n (λ t h. small t (omega arith)) in
@@ -76,7 +77,8 @@ module _ (query : List ℤ) (known : areComponents query ≡ true) where
           )
 
   module _ (d b : ℕ) (marks : List ℤ) (good : goodMarks d b marks ≡ true) (few : d ≤ maxDimensions) (codes : List ℕ) (i : ℕ) where
-    bound-small : (step : ℤ → ℤ → ℤ → ℕ) → ((q low high : ℤ) → mag q ≤ 32768 → mag low ≤ 32768 → mag high ≤ 32768 → step q low high ≤ 2 ^ 17)
+    bound-small : (step : ℤ → ℤ → ℤ → ℕ)
+        → ((q low high : ℤ) → mag q ≤ 32768 → mag low ≤ 32768 → mag high ≤ 32768 → step q low high ≤ 2 ^ 17)
         → firstBound step d b marks codes query i d < 2 ^ 64
     bound-small step small =
         omega (
@@ -86,7 +88,9 @@ module _ (query : List ℤ) (known : areComponents query ≡ true) where
         )
       where
         here : ℕ → ℕ → ℕ
-        here t r = step (getD query t (pos 0)) (getD (dimensionMarks d b marks (suc t)) r (pos 0)) (getD (dimensionMarks d b marks (suc t)) (suc r) (pos 0))
+        here t r =
+            step (getD query t (pos 0)) (getD (dimensionMarks d b marks (suc t)) r (pos 0))
+            (getD (dimensionMarks d b marks (suc t)) (suc r) (pos 0))
 
         mark : (t r : ℕ) → t < d → mag (getD (dimensionMarks d b marks (suc t)) r (pos 0)) ≤ 32768
         mark t r h = mark-size (getD (dimensionMarks d b marks (suc t)) r (pos 0)) (good-mark d b marks good t r h)

@@ -25,10 +25,10 @@ pub fn measure(query: &[i32], vector: &[i32]) -> Distance
     if vector.len() != d {
         return Distance::Refused(Refusal::Length);
     }
-    if !whole::components::are_components(query) {
+    if !signed::components::are_components(query) {
         return Distance::Refused(Refusal::Component);
     }
-    if !whole::components::are_components(vector) {
+    if !signed::components::are_components(vector) {
         return Distance::Refused(Refusal::Component);
     }
     Distance::Squared(squared_distance(d, query, vector))
@@ -41,7 +41,7 @@ pub fn squared_distance(d: usize, query: &[i32], vector: &[i32]) -> u64
     let mut sum = 0;
     let mut t = 0;
     while t < d {
-        let squared = step::squared_gap(whole::at(query, t), whole::at(vector, t));
+        let squared = step::squared_gap(signed::at(query, t), signed::at(vector, t));
         sum = std::num::wrapping_add_u64(sum, squared);
         t += 1;
     }

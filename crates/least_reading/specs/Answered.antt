@@ -15,50 +15,50 @@ use Rattle.selection.specs.Reading.{Reading, readNext, goesOn, readingOrder}
 use Rattle.selection.specs.Loop.{Reached, after, after-next, reached-next}
 use Rattle.selection.specs.Steps.{next-read}
 use Rattle.best_pairs.specs.Gathered.{Gathers}
-use Rattle.best_pairs.specs.Holds.{Holds}
+use Rattle.best_pairs.specs.Holds.{HoldsBest}
 use Rattle.search.specs.declared.Searched.{Searched}
 use Rattle.search.specs.declared.Searched.the-variants.{Read, Refused}
-use Rattle.search.specs.Search.{Library, numbersIn, distanceIn, lowIn, inOwnCell, inOwnCells, searched}
+use Rattle.search.specs.Search.{Index, numbersIn, distanceIn, lowIn, inOwnCell, inOwnCells, searched}
 
 -- the outcome of reading: the answer, and the keys and numbers of the best
-pub record Reads (l : Library) (query : List ℤ) (k : ℕ) (r : Searched) (keys numbers : List ℕ) : Type 0 where
+pub record Reads (l : Index) (query : List ℤ) (k : ℕ) (r : Searched) (keys numbers : List ℕ) : Type 0 where
   pub answer : r ≡ cond (inOwnCells l ((searched l query k) .reads)) (Read (length ((searched l query k) .reads))) (Refused Cell)
   pub keys-are : inOwnCells l ((searched l query k) .reads) ≡ true → keys ≡ keysOf ((searched l query k) .best)
   pub numbers-are : inOwnCells l ((searched l query k) .reads) ≡ true → numbers ≡ numbersOf ((searched l query k) .best)
 
 -- the outcome of reading the first k: where each lies in its cell, they stand in the two lists with their distances
-pub record FirstReads (l : Library) (query : List ℤ) (k : ℕ) (r : Bool) (keys numbers : List ℕ) : Type 0 where
+pub record FirstReads (l : Index) (query : List ℤ) (k : ℕ) (r : Bool) (keys numbers : List ℕ) : Type 0 where
   pub inside : r ≡ true → inOwnCells l (take k (readingOrder (lowIn l query) (numbersIn l))) ≡ true
   pub gathered : r ≡ true → Gathers k (distanceIn l query) (take k (readingOrder (lowIn l query) (numbersIn l))) keys numbers
   pub outside : r ≡ false → inOwnCells l ((searched l query k) .reads) ≡ false
 
 -- after the first `done` reads
-abbrev pub afterReads : Library → List ℤ → ℕ → ℕ → Reading
+abbrev pub afterReads : Index → List ℤ → ℕ → ℕ → Reading
 afterReads l query k done = after k (lowIn l query) (distanceIn l query) (numbersIn l) done
 
 -- so many were read, each lies in its cell, and the two lists hold the k best
-pub record HasRead (l : Library) (query : List ℤ) (k done : ℕ) (keys numbers : List ℕ) : Type 0 where
+pub record HasRead (l : Index) (query : List ℤ) (k done : ℕ) (keys numbers : List ℕ) : Type 0 where
   pub within : done ≤ l .n
   pub reached : Reached k (lowIn l query) (distanceIn l query) (numbersIn l) done
-  pub holds : Holds k keys numbers k (afterReads l query k done .best)
+  pub holds : HoldsBest k keys numbers k (afterReads l query k done .best)
   pub inside : inOwnCells l (afterReads l query k done .reads) ≡ true
 
 -- ---- cells of several vectors
 
-pub cells-snoc : (l : Library) (is : List ℕ) (i : ℕ) → inOwnCells l is ≡ true → inOwnCell l i ≡ true → inOwnCells l (is ++ (i ∷ [])) ≡ true
+pub cells-snoc : (l : Index) (is : List ℕ) (i : ℕ) → inOwnCells l is ≡ true → inOwnCell l i ≡ true → inOwnCells l (is ++ (i ∷ [])) ≡ true
 unfolding inOwnCells
 cells-snoc l [] i all one = rw one
 cells-snoc l (j ∷ is) i all one =
     let both = and-eq-true-iff (inOwnCell l j) (inOwnCells l is) .0 all in
     rw (both .0, cells-snoc l is i (both .1) one)
 
-cells-member : (l : Library) (is : List ℕ) {i : ℕ} → inOwnCells l is ≡ true → i ∈ is → inOwnCell l i ≡ true
+cells-member : (l : Index) (is : List ℕ) {i : ℕ} → inOwnCells l is ≡ true → i ∈ is → inOwnCell l i ≡ true
 unfolding inOwnCells
 cells-member l (j ∷ is) all (List·Memᴰ·head e) = rw e (and-eq-true-iff (inOwnCell l j) (inOwnCells l is) .0 all .0)
 cells-member l (j ∷ is) all (List·Memᴰ·tail m) = cells-member l is (and-eq-true-iff (inOwnCell l j) (inOwnCells l is) .0 all .1) m
 
 -- one that is not in its cell
-pub cells-fail : (l : Library) (is : List ℕ) {i : ℕ} → inOwnCell l i ≡ false → i ∈ is → inOwnCells l is ≡ false
+pub cells-fail : (l : Index) (is : List ℕ) {i : ℕ} → inOwnCell l i ≡ false → i ∈ is → inOwnCells l is ≡ false
 cells-fail l is {i} out m = go (inOwnCells l is) refl
   where
     go : (b : Bool) → inOwnCells l is ≡ b → b ≡ false
@@ -67,7 +67,7 @@ cells-fail l is {i} out m = go (inOwnCells l is) refl
 
 -- ---- the loop
 
-module _ (l : Library) (query : List ℤ) (k done : ℕ) (more : done < l .n) where
+module _ (l : Index) (query : List ℤ) (k done : ℕ) (more : done < l .n) where
   within : done < length (numbersIn l)
   within = omega (arith, counted-length 0 (l .n))
 

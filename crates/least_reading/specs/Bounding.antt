@@ -10,10 +10,10 @@ use Rattle.limits.specs.Limits.{maxVectors}
 use Rattle.codes.specs.Codes.{spareZero}
 use Rattle.cells.specs.Cells.{noEmptyCodes}
 use Rattle.bounds.specs.Bounded.{Bounding}
-use Rattle.search.specs.Search.{Library}
+use Rattle.search.specs.Search.{Index}
 use Rattle.search.specs.Ready.{Ready}
 
-pub bounding : {l : Library} {query : List ℤ} {k : ℕ} → Ready l query k → (n : ℕ) → n ≡ l .n
+pub bounding : {l : Index} {query : List ℤ} {k : ℕ} → Ready l query k → (n : ℕ) → n ≡ l .n
     → Bounding (l .d) (l .b) n query (l .marks) (l .codes)
 bounding {l} is n same = record {
   shaped = is .shaped;

@@ -11,13 +11,13 @@ use Rattle.cells.specs.Cells.{vectorAt, InCell}
 use Rattle.distance.specs.Small.{distance-small}
 use Rattle.distance.specs.CellComponents.{cell-components}
 use Rattle.bounds.specs.Inside.{namesCell, names-cell}
-use Rattle.search.specs.Search.{Library, distanceIn, inOwnCell}
+use Rattle.search.specs.Search.{Index, distanceIn, inOwnCell}
 use Rattle.search.specs.Ready.{Ready, place}
 use Rattle.least_reading.specs.declared.reading.VectorRead.{VectorRead}
 use Rattle.least_reading.specs.declared.reading.VectorRead.the-variants.{Distance, Outside}
 
 -- "the search reads a pattern that is not in its code's cell", or its distance
-abbrev pub vectorRead : Library → List ℤ → ℕ → VectorRead
+abbrev pub vectorRead : Index → List ℤ → ℕ → VectorRead
 vectorRead l query i = cond (inOwnCell l i) (Distance (distanceIn l query i)) Outside
 
 -- what the answer tells
@@ -34,7 +34,7 @@ pub tells-outside : (inside : Bool) (m : ℕ) → cond inside (Distance m) Outsi
 tells-outside true m e = cc
 tells-outside false m e = refl
 
-module _ {l : Library} {query : List ℤ} {k : ℕ} (is : Ready l query k) (i : ℕ) (below : i < l .n) where
+module _ {l : Index} {query : List ℤ} {k : ℕ} (is : Ready l query k) (i : ℕ) (below : i < l .n) where
   -- its code names a cell
   pub celled : namesCell (l .d) (l .b) i (length (l .marks)) (length (l .codes)) ≡ true
   celled =

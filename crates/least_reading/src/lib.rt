@@ -32,7 +32,7 @@ ghost use Rattle.step.specs.Step.{stepOf};
 ghost use Rattle.table.specs.Table.{tableOf};
 ghost use Rattle.bounds.specs.Bounded.{Bounding};
 ghost use Rattle.search.specs.Search.{numbersIn, lowIn, searchCauses};
-ghost use Rattle.search.specs.Ready.{library, roomOf, Ready};
+ghost use Rattle.search.specs.Ready.{indexOf, roomOf, Ready};
 ghost use Rattle.least_reading.specs.Searching.{Searches, cellCauses};
 
 // The k nearest of n vectors, and the numbers of the vectors that were read, in reading order; the answer is how many those are. What is
@@ -46,7 +46,7 @@ pub fn nearest_by_bounds(
     entries: usize,
     reads: &mut [u32],
 ) -> Found
-    ensures { λ r. let l = library terms (now (marks .entry)) (now (codes .entry)) (now (vectors .entry)) in
+    ensures { λ r. let l = indexOf terms (now (marks .entry)) (now (codes .entry)) (now (vectors .entry)) in
         let room = roomOf entries (length (now (reads .entry))) in
         ⌜ Searches (first (searchCauses l (now (query .entry)) (terms .k) room)) l (now (query .entry)) (terms .k) r
         (now (reads .entry)) (now (reads .exit)) ⌝ }
@@ -70,8 +70,8 @@ fn search_ready(
     vectors: &[i32],
     reads: &mut [u32],
 ) -> Found
-    requires { ⌜ (Ready (library terms (now marks) (now codes) (now vectors)) (now query) (terms .k)) × (length (now reads) ≡ terms .n) ⌝ }
-    ensures { λ r. let l = library terms (now (marks .entry)) (now (codes .entry)) (now (vectors .entry)) in
+    requires { ⌜ (Ready (indexOf terms (now marks) (now codes) (now vectors)) (now query) (terms .k)) × (length (now reads) ≡ terms .n) ⌝ }
+    ensures { λ r. let l = indexOf terms (now (marks .entry)) (now (codes .entry)) (now (vectors .entry)) in
         ⌜ Searches (first (cellCauses l (now (query .entry)) (terms .k))) l (now (query .entry)) (terms .k) r
         (now (reads .entry)) (now (reads .exit)) ⌝ }
 {
@@ -103,11 +103,11 @@ fn search_ranked(
     order: &[u32],
     reads: &mut [u32],
 ) -> Found
-    requires { ⌜ (Ready (library terms (now marks) (now codes) (now vectors)) (now query) (terms .k)) × (length (now reads) ≡ terms .n) ⌝ }
-    requires { ⌜ now lows ≡ valuesFrom (lowIn (library terms (now marks) (now codes) (now vectors)) (now query)) 0 (terms .n) ⌝ }
-    requires { let l = library terms (now marks) (now codes) (now vectors) in
+    requires { ⌜ (Ready (indexOf terms (now marks) (now codes) (now vectors)) (now query) (terms .k)) × (length (now reads) ≡ terms .n) ⌝ }
+    requires { ⌜ now lows ≡ valuesFrom (lowIn (indexOf terms (now marks) (now codes) (now vectors)) (now query)) 0 (terms .n) ⌝ }
+    requires { let l = indexOf terms (now marks) (now codes) (now vectors) in
         ⌜ now order ≡ readingOrder (lowIn l (now query)) (numbersIn l) ⌝ }
-    ensures { λ r. let l = library terms (now (marks .entry)) (now (codes .entry)) (now (vectors .entry)) in
+    ensures { λ r. let l = indexOf terms (now (marks .entry)) (now (codes .entry)) (now (vectors .entry)) in
         ⌜ Searches (first (cellCauses l (now (query .entry)) (terms .k))) l (now (query .entry)) (terms .k) r
         (now (reads .entry)) (now (reads .exit)) ⌝ }
 {
@@ -158,7 +158,7 @@ fn fill_table(bound: Bound, d: usize, b: usize, marks: &[i32], query: &[i32], ta
         let end = start + (1usize << stretch.bits) + 1;
         fill_steps(
             bound,
-            whole::at(query, t),
+            signed::at(query, t),
             &marks[start..end],
             &mut table[start..end],
         );

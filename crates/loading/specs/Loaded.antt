@@ -19,7 +19,7 @@ use Rattle.refusal.specs.declared.Verdict.the-variants.{Accepted}
 use Rattle.refusal.specs.First.{_⇒_, first, passed}
 use Rattle.limits.specs.Limits.{isVectorCount, isMark, isComponent}
 use Rattle.limits.specs.Tests.{leZ-not}
-use Rattle.whole.specs.Components.{areComponents, all-components}
+use Rattle.signed.specs.Components.{areComponents, all-components}
 use Rattle.layout.specs.Layout.{markCount, firstMarks}
 use Rattle.layout.specs.Laws.{marks-within}
 use Rattle.layout.specs.Stretch.{shapeCauses, Shape, shape}

@@ -129,10 +129,10 @@ fn is_mark_wrong(bytes: &[u8], p: usize, i: usize) -> bool
     ensures { λ r. ⌜ r ≡ markWrong (now (bytes .entry)) p i ⌝ }
 {
     let key = mark_key(bytes, p);
-    if key < whole::key(LEAST_MARK) {
+    if key < signed::key(LEAST_MARK) {
         return true;
     }
-    if whole::key(GREATEST_MARK) < key {
+    if signed::key(GREATEST_MARK) < key {
         return true;
     }
     if i == 0 {

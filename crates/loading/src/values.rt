@@ -8,7 +8,7 @@ ghost use mathlib.Core.Path.{_≡_};
 ghost use Prim.Native.Nat.{suc, _+_, _*_, _^_, _≤_, _<_};
 ghost use lib.ListN.{length, drop};
 ghost use Rattle.limits.specs.Limits.{maxDimensions, maxDimensionBits};
-ghost use Rattle.whole.specs.Keys.{keyOf};
+ghost use Rattle.signed.specs.Keys.{keyOf};
 ghost use Rattle.records.specs.Records.{vectorKind, recordLength, valueOf};
 ghost use Rattle.library.specs.Library.{headValue, markAt, storedAt};
 ghost use Rattle.loading.specs.ReadLaws.{twosComplement};
@@ -45,7 +45,7 @@ pub(crate) fn mark_key(bytes: &[u8], i: usize) -> u64
     requires { ⌜ i < 2 ^ 32 ⌝ }
     ensures { λ r. ⌜ r ≡ keyOf (markAt (now (bytes .entry)) i) ⌝ }
 {
-    whole::key(mark_at(bytes, i))
+    signed::key(mark_at(bytes, i))
 }
 
 // The number of regions of a dimension with w bits.

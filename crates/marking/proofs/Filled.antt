@@ -6,7 +6,8 @@ use native.Mathlib.Numerals.{add-one}
 use lib.ListN.{length, take, getD, set}
 use lib.Seq.{take-all, take-suc, take-suc-set}
 
-pub filled-one : {A : Type 0} (out whole : List A) (i : ℕ) (x d : A) → i < length out → i < length whole → take i out ≡ take i whole → x ≡ getD whole i d
+pub filled-one : {A : Type 0} (out whole : List A) (i : ℕ) (x d : A) → i < length out → i < length whole → take i out ≡ take i whole
+    → x ≡ getD whole i d
     → take (i + 1) (set out i x) ≡ take (i + 1) whole
 filled-one out whole i x d room more so-far next = rw (add-one, take-suc-set out i x room, so-far, next, take-suc whole i d more)
 

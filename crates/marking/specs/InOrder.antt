@@ -8,8 +8,8 @@ use native.Mathlib.Omega.{arith}
 use lib.IntN.{ℤ, pos}
 use lib.ListN.{length, length-map, getD}
 use Rattle.limits.specs.Limits.{isComponent}
-use Rattle.whole.specs.Keys.{keyOf}
-use Rattle.whole.specs.Components.{areComponents, component-at}
+use Rattle.signed.specs.Keys.{keyOf}
+use Rattle.signed.specs.Components.{areComponents, component-at}
 use Rattle.order.specs.Pair.{countFrom}
 use Rattle.order.specs.Rank.{ranking}
 use Rattle.order.specs.Counted.{counted-length, counted-at}
@@ -62,20 +62,25 @@ module _ (components : List ℤ) where
   keys-length = length-map components keyOf
 
   -- which of the components stands at a place
-  in-order-at : (p : ℕ) → p < length components → getD (inOrder components) p (pos 0) ≡ getD components (getD (ranking (map keyOf components)) p 0) (pos 0)
+  in-order-at : (p : ℕ) → p < length components
+      → getD (inOrder components) p (pos 0) ≡ getD components (getD (ranking (map keyOf components)) p 0) (pos 0)
   unfolding inOrder
   in-order-at p within =
-      map-at (λ i. getD components i (pos 0)) (ranking (map keyOf components)) p 0 (pos 0) (rw (ranking-length (map keyOf components), keys-length) within)
+      map-at (λ i. getD components i (pos 0)) (ranking (map keyOf components)) p 0 (pos 0)
+      (rw (ranking-length (map keyOf components), keys-length) within)
 
   pub number-below : (p : ℕ) → p < length components → getD (ranking (map keyOf components)) p 0 < length components
   number-below p within = rw keys-length at (ranking-below (map keyOf components) p (rw keys-length within))
 
-  key-at : (p : ℕ) → p < length components → keyOf (getD (inOrder components) p (pos 0)) ≡ getD (map keyOf components) (getD (ranking (map keyOf components)) p 0) 0
+  key-at : (p : ℕ) → p < length components
+      → keyOf (getD (inOrder components) p (pos 0)) ≡ getD (map keyOf components) (getD (ranking (map keyOf components)) p 0) 0
   key-at p within =
       ap keyOf (in-order-at p within) ∙ sym (map-at keyOf components (getD (ranking (map keyOf components)) p 0) (pos 0) 0 (number-below p within))
 
-  key-rises : (i j : ℕ) → i ≤ j → j < length components → keyOf (getD (inOrder components) i (pos 0)) ≤ keyOf (getD (inOrder components) j (pos 0))
-  key-rises i j le within = rw (key-at i (omega arith), key-at j within) (ranking-rises (map keyOf components) i j le (rw keys-length within))
+  key-rises : (i j : ℕ) → i ≤ j → j < length components
+      → keyOf (getD (inOrder components) i (pos 0)) ≤ keyOf (getD (inOrder components) j (pos 0))
+  key-rises i j le within =
+      rw (key-at i (omega arith), key-at j within) (ranking-rises (map keyOf components) i j le (rw keys-length within))
 
 -- n components, none above one behind it
 pub record Ordered (n : ℕ) (ordered : List ℤ) : Type 0 where

@@ -8,7 +8,7 @@ use lib.IntN.{ℤ, pos, _-ℤ_, +ℤ-negℤ-cancel}
 use lib.ListN.{length, length-map, getD}
 use Rattle.limits.specs.Limits.{isComponent}
 use Rattle.limits.specs.Tests.{Between}
-use Rattle.whole.specs.Keys.{keyOf, key-sum, component-small}
+use Rattle.signed.specs.Keys.{keyOf, key-sum, component-small}
 use Rattle.order.specs.Rank.{keyAt, ranking}
 use Rattle.order.specs.Places.{ranking-length}
 use Rattle.order.specs.Words.{inOrder as wordsInOrder}
@@ -47,16 +47,19 @@ module _ {key : ℕ} (of : ComponentKey key) where
   key-between = rw (of .same) (key-range (of .component) (of .is))
 
 -- two ways to map a list that agree at each of its places
-map-back : (f : ℕ → ℕ) (g : ℕ → ℤ) (is : List ℕ) → ((p : ℕ) → p < length is → wholeOf (f (getD is p 0)) ≡ g (getD is p 0)) → map wholeOf (map f is) ≡ map g is
+map-back : (f : ℕ → ℕ) (g : ℕ → ℤ) (is : List ℕ) → ((p : ℕ) → p < length is → wholeOf (f (getD is p 0)) ≡ g (getD is p 0))
+    → map wholeOf (map f is) ≡ map g is
 map-back f g [] same = refl
-map-back f g (i ∷ is) same = ap₂ {C = List ℤ} (λ z zs. z ∷ zs) (same 0 (omega arith)) (map-back f g is (λ p within. same (suc p) (omega arith)))
+map-back f g (i ∷ is) same =
+    ap₂ {C = List ℤ} (λ z zs. z ∷ zs) (same 0 (omega arith)) (map-back f g is (λ p within. same (suc p) (omega arith)))
 
 module _ (components : List ℤ) (each : (i : ℕ) → isComponent (getD components i (pos 0)) ≡ true) where
   abbrev keys : List ℕ
   keys = map keyOf components
 
   -- the key at a place of the ranking
-  key-there : (p : ℕ) → p < length (ranking keys) → keyAt keys (getD (ranking keys) p 0) ≡ keyOf (getD components (getD (ranking keys) p 0) (pos 0))
+  key-there : (p : ℕ) → p < length (ranking keys)
+      → keyAt keys (getD (ranking keys) p 0) ≡ keyOf (getD components (getD (ranking keys) p 0) (pos 0))
   key-there p within =
       let among : p < length components = omega (arith, ranking-length keys, keys-length components) in
       map-at keyOf components (getD (ranking keys) p 0) (pos 0) 0 (number-below components p among)

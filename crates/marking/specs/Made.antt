@@ -6,7 +6,7 @@ use Prim.Native.Nat.{ℕ, zero, suc, _+_, _-_, _*_, _/_, _^_}
 use lib.Dec.{ltb}
 use lib.IntN.{ℤ, pos, sucℤ}
 use lib.ListN.{getD}
-use Rattle.whole.specs.Keys.{keyOf}
+use Rattle.signed.specs.Keys.{keyOf}
 use Rattle.order.specs.Pair.{countFrom}
 use Rattle.order.specs.Rank.{ranking}
 use Rattle.layout.specs.Layout.{bitsOf}

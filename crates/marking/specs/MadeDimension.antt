@@ -15,7 +15,7 @@ use lib.Seq.{getD-at}
 use lib.Pow.{pow-pos, shr-mono}
 use Rattle.limits.specs.Limits.{isComponent, isMark}
 use Rattle.limits.specs.Tests.{Between, between}
-use Rattle.whole.specs.Keys.{keyOf, key-le, key-lt, key-component, key-mark, component-small, mark-small}
+use Rattle.signed.specs.Keys.{keyOf, key-le, key-lt, key-component, key-mark, component-small, mark-small}
 use Rattle.order.specs.Pair.{countFrom}
 use Rattle.region.specs.Dimension.{notAbove, goodDimension}
 use Rattle.region.specs.Region.{firstMark, lastMark, inMarks}
@@ -86,7 +86,8 @@ module _ (n w : ℕ) (ordered : List ℤ) where
 
   pub made-length : length (madeDimension n w ordered) ≡ 2 ^ w + 1
   unfolding madeDimension
-  made-length = length-append (map lower (countFrom 0 (2 ^ w))) (sucℤ greatest ∷ []) ∙ ap (λ (k : ℕ). k + 1) (counted-map-length lower (2 ^ w))
+  made-length =
+      length-append (map lower (countFrom 0 (2 ^ w))) (sucℤ greatest ∷ []) ∙ ap (λ (k : ℕ). k + 1) (counted-map-length lower (2 ^ w))
 
   pub made-at : (i : ℕ) → i < 2 ^ w → getD (madeDimension n w ordered) i (pos 0) ≡ lower i
   unfolding madeDimension
@@ -129,7 +130,8 @@ module _ {n : ℕ} (w : ℕ) {ordered : List ℤ} (some : 0 < n) (is : Ordered n
         | inr below ↦ rw (made-at n w ordered i below) (lower-mark i)
       ]
 
-  rise : (i : ℕ) → suc i < length (madeDimension n w ordered) → leZ (getD (madeDimension n w ordered) i (pos 0)) (getD (madeDimension n w ordered) (suc i) (pos 0)) ≡ true
+  rise : (i : ℕ) → suc i < length (madeDimension n w ordered)
+      → leZ (getD (madeDimension n w ordered) i (pos 0)) (getD (madeDimension n w ordered) (suc i) (pos 0)) ≡ true
   rise i within =
       let within : suc (suc i) ≤ suc (2 ^ w) = omega (arith, made-length n w ordered) in
       elim (eq-or-lt-of-le (le-of-suc-le-suc within)) [

@@ -10,7 +10,7 @@ use native.Mathlib.Omega.{arith}
 use lib.IntN.{ℤ, pos}
 use lib.ListN.{length, take, drop, getD, length-append, length-drop}
 use lib.Seq.{take-all, drop-at, take-append-le, drop-append-le}
-use Rattle.whole.specs.Components.{areComponents}
+use Rattle.signed.specs.Components.{areComponents}
 use Rattle.layout.specs.Layout.{bitsOf, firstMarks, markCount}
 use Rattle.layout.specs.Laws.{marks-within}
 use Rattle.region.specs.Region.{inMarks}
@@ -51,7 +51,8 @@ module _ (d b n : ℕ) (vectors : List ℤ) where
       (at-end (firstMarks d b m) (markCount d b (suc m)) (madeFirst d b n vectors m) (madeFor d b n vectors m) (first-length m)
       (made-length n (bitsOf d b (suc m)) (inOrder (column d n vectors m))))
 
-  earlier-part : (m t : ℕ) → t < m → dimensionMarks d b (madeFirst d b n vectors (suc m)) (suc t) ≡ dimensionMarks d b (madeFirst d b n vectors m) (suc t)
+  earlier-part : (m t : ℕ) → t < m
+      → dimensionMarks d b (madeFirst d b n vectors (suc m)) (suc t) ≡ dimensionMarks d b (madeFirst d b n vectors m) (suc t)
   unfolding madeFirst dimensionMarks firstMarks
   earlier-part m t below =
       let offset : suc t - 1 ≡ t = omega arith in
@@ -83,7 +84,8 @@ module _ (d b n : ℕ) (vectors : List ℤ) where
     made-passes = good-first d (omega arith)
 
     -- every vector lies inside them, each of its components in its dimension's marks
-    pub made-inside : (i t : ℕ) → i < n → t < d → inMarks (dimensionMarks d b (madeMarks d b n vectors) (suc t)) (getD vectors (i * d + t) (pos 0)) ≡ true
+    pub made-inside : (i t : ℕ) → i < n → t < d
+        → inMarks (dimensionMarks d b (madeMarks d b n vectors) (suc t)) (getD vectors (i * d + t) (pos 0)) ≡ true
     made-inside i t vector dimension =
         let at = column-placed d n vectors t i vector in
         rw (made-part t dimension, ← at .there) (made-in (bitsOf d b (suc t)) some (column-ordered d n vectors t are) (at .place) (at .within))

@@ -12,7 +12,7 @@ use Rattle.refusal.specs.declared.Verdict.the-variants.{Accepted}
 use Rattle.refusal.specs.First.{Row, _⇒_, first, passed}
 use Rattle.limits.specs.Limits.{maxDimensions, maxDimensionBits, maxVectors, isDimensionCount, isBits, isVectorCount}
 use Rattle.limits.specs.Tests.{Between, between}
-use Rattle.whole.specs.Components.{areComponents}
+use Rattle.signed.specs.Components.{areComponents}
 use Rattle.layout.specs.Layout.{firstMarks}
 use Rattle.layout.specs.Stretch.{shapeCauses}
 
@@ -46,7 +46,9 @@ given d b n vectors room accepted =
     let vector-count = passed (not (isVectorCount n)) Count _ (bits .rest) in
     let lengths = passed (not (eqb (length vectors) (n * d) && eqb room (firstMarks d b d))) Length _ (vector-count .rest) in
     let range = passed (not (areComponents vectors)) Component [] (lengths .rest) in
-    let both = and-eq-true-iff (eqb (length vectors) (n * d)) (eqb room (firstMarks d b d)) .0 (not-false (eqb (length vectors) (n * d) && eqb room (firstMarks d b d)) (lengths .fails)) in
+    let both =
+    and-eq-true-iff (eqb (length vectors) (n * d)) (eqb room (firstMarks d b d)) .0
+    (not-false (eqb (length vectors) (n * d) && eqb room (firstMarks d b d)) (lengths .fails)) in
     record {
       shaped = shape-accepted d b (dimensions .fails) (bits .fails);
       count = between 1 n maxVectors (not-false (isVectorCount n) (vector-count .fails));

@@ -11,7 +11,7 @@ ghost use lib.ListN.{length, drop};
 ghost use Rattle.refusal.specs.First.{first, outcome};
 ghost use Rattle.refusal.specs.declared.Verdict.the-variants.{Accepted};
 ghost use Rattle.limits.specs.Limits.{isComponent};
-ghost use Rattle.whole.specs.Keys.{keyOf};
+ghost use Rattle.signed.specs.Keys.{keyOf};
 ghost use Rattle.marking.specs.Made.{column, inOrder, madeDimension, markAt, madeMarks};
 ghost use Rattle.marking.specs.Making.{makeCauses, ColumnOf, MarksOf, Shares};
 ghost use Rattle.marking.specs.KeysInOrder.{wholeOf, ComponentKey, ComponentKeys};
@@ -52,7 +52,7 @@ fn check_making(d: usize, b: usize, n: usize, vectors: &[i32], room: usize) -> V
     if room != layout::marks_length(d, b) {
         return Verdict::Refused(Refusal::Length);
     }
-    if !whole::components::are_components(vectors) {
+    if !signed::components::are_components(vectors) {
         return Verdict::Refused(Refusal::Component);
     }
     Verdict::Accepted
@@ -91,7 +91,7 @@ fn column_keys(d: usize, t: usize, vectors: &[i32], keys: &mut [u64])
 {
     let mut i = 0;
     while i < keys.len() {
-        keys[i] = whole::key_at(vectors, i * d + t);
+        keys[i] = signed::key_at(vectors, i * d + t);
         i += 1;
     }
 }

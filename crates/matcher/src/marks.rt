@@ -69,7 +69,7 @@ pub extern "C" fn matcher_part_length(d: usize, b: usize, marks: &[i32], j: usiz
 pub extern "C" fn matcher_part_at(d: usize, b: usize, marks: &[i32], j: usize, i: usize) -> i32
     ensures { λ r. ⌜ r ≡ getD (seenMarks d b (now (marks .entry)) j) i (pos 0) ⌝ }
 {
-    whole::at(view::dimension_marks(d, b, marks, j), i)
+    signed::at(view::dimension_marks(d, b, marks, j), i)
 }
 
 // The region of a value in dimension j's marks.

@@ -9,7 +9,7 @@ ghost use Rattle.refusal.specs.First.{first, outcome};
 ghost use Rattle.scan.specs.Scanning.{scanTerms, scanCauses, scannedEntries};
 ghost use Rattle.search.specs.Search.{searched, searchCauses};
 ghost use Rattle.search.specs.Answer.{searchEntries, searchReads};
-ghost use Rattle.search.specs.Ready.{library, termsOf, roomOf};
+ghost use Rattle.search.specs.Ready.{indexOf, termsOf, roomOf};
 
 // The k of n vectors that are nearest to a query, by all their distances.
 #[no_mangle]
@@ -46,7 +46,7 @@ pub extern "C" fn matcher_search(
     reads: &mut [u32],
     count: &mut usize,
 ) -> u32
-    ensures { λ r. let l = library (termsOf d b n k) (now (marks .entry)) (now (codes .entry)) (now (vectors .entry)) in
+    ensures { λ r. let l = indexOf (termsOf d b n k) (now (marks .entry)) (now (codes .entry)) (now (vectors .entry)) in
         let v = first (searchCauses l (now (query .entry)) k (roomOf (length (now (entries .entry))) (length (now (reads .entry))))) in
         ⌜ (r ≡ verdictNumber v)
         × (now (count .exit) ≡ outcome v (length (searched l (now (query .entry)) k .reads)) (λ _. 0))

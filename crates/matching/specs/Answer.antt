@@ -8,7 +8,7 @@ use Rattle.refusal.specs.Refusal.{numberOf}
 use Rattle.order.specs.Pair.{Pair}
 use Rattle.selection.specs.Reading.{Reading}
 use Rattle.approximation.specs.Vectors.{vectorCodes}
-use Rattle.search.specs.Search.{Library as Searchable, searched}
+use Rattle.search.specs.Search.{Index as Searchable, searched}
 use Rattle.library.specs.Library.{Library}
 use Rattle.text.specs.Text.{line, refusedLine}
 

@@ -13,7 +13,7 @@ use Rattle.refusal.specs.declared.Refusal.the-variants.{NotANumber, OutOfRange,
 use Rattle.refusal.specs.declared.Verdict.the-variants.{Accepted}
 use Rattle.refusal.specs.First.{first, outcome-accepted, passed}
 use Rattle.limits.specs.Limits.{isDimensionCount, isBits, isComponent}
-use Rattle.whole.specs.Components.{areComponents}
+use Rattle.signed.specs.Components.{areComponents}
 use Rattle.order.specs.Pair.{Pair}
 use Rattle.order.specs.Members.{_∈_}
 use Rattle.layout.specs.Layout.{firstMarks}
@@ -22,7 +22,7 @@ use Rattle.codes.specs.PackLaws.{length-packed}
 use Rattle.approximation.specs.VectorCauses.{packVectorsCauses}
 use Rattle.approximation.specs.OwnCodes.{own-good}
 use Rattle.search.specs.Search.{inOwnCells, scanned, searched, searchCauses}
-use Rattle.search.specs.Search.{Library as Searchable}
+use Rattle.search.specs.Search.{Index as Searchable}
 use Rattle.search.specs.Ready.{roomOf}
 use Rattle.search.specs.Accepted.{accepts, lengths-exact}
 use Rattle.search.specs.Settled.{OwnCodes}

@@ -13,7 +13,7 @@ use Rattle.order.specs.Pairs.{pair}
 use Rattle.order.specs.Members.{_∈_}
 use Rattle.order.specs.Counted.{counted}
 use Rattle.selection.specs.Theorems.{reads-among, best-entries}
-use Rattle.search.specs.Search.{Library as Searchable, numbersIn, distanceIn, lowIn, searched}
+use Rattle.search.specs.Search.{Index as Searchable, numbersIn, distanceIn, lowIn, searched}
 use Rattle.entries.specs.declared.Entry.{Entry}
 use Rattle.entries.specs.Entries.{entriesOf}
 use Rattle.matching.specs.Answer.{entryLine, entryLines}

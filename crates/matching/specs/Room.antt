@@ -21,7 +21,7 @@ use Rattle.refusal.specs.Refusal.{numberOf}
 use Rattle.refusal.specs.First.{first, outcome, passed}
 use Rattle.limits.specs.Limits.{maxDimensions, maxVectors, leastComponent, isComponent}
 use Rattle.limits.specs.Tests.{between}
-use Rattle.whole.specs.Components.{areComponents, component-at}
+use Rattle.signed.specs.Components.{areComponents, component-at}
 use Rattle.order.specs.Pair.{Pair}
 use Rattle.order.specs.Members.{_∈_}
 use Rattle.order.specs.Counted.{counted-length}
@@ -30,7 +30,7 @@ use Rattle.cells.specs.Cells.{vectorAt}
 use Rattle.step.specs.Step.{gap, squared, squared-le}
 use Rattle.step.specs.Places.{gap-size}
 use Rattle.distance.specs.Distance.{firstDistance, distanceOf}
-use Rattle.search.specs.Search.{Library as Searchable, numbersIn, distanceIn, lowIn, searched}
+use Rattle.search.specs.Search.{Index as Searchable, numbersIn, distanceIn, lowIn, searched}
 use Rattle.records.specs.Bytes.{AreBytes}
 use Rattle.records.specs.ByteLaws.{bytes-drop}
 use Rattle.records.specs.Records.{vectorKind}

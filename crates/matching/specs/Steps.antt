@@ -17,7 +17,7 @@ use Rattle.refusal.specs.declared.Verdict.the-variants.{Accepted, Refused}
 use Rattle.refusal.specs.First.{_⇒_, first, outcome, outcome-refused, first-here, first-next, passed}
 use Rattle.limits.specs.Limits.{maxDimensions, maxVectors, isDimensionCount}
 use Rattle.limits.specs.Tests.{between}
-use Rattle.whole.specs.Components.{areComponents}
+use Rattle.signed.specs.Components.{areComponents}
 use Rattle.layout.specs.Stretch.{shapeCauses}
 use Rattle.codes.specs.Codes.{codeLength}
 use Rattle.approximation.specs.VectorCauses.{packVectorsCauses}
@@ -121,7 +121,7 @@ pub begins-within : {A : Type 0} (front buffer : List A) → Begins front buffer
 begins-within front buffer begins = omega (arith, sym (length-take (length front) buffer) ∙ ap length begins)
 
 -- what loading leaves of an input whose library passes
-pub record Holds (input : List ℕ) (d b n used : ℕ) (marks : List ℤ) (settings : List ℕ) (components : List ℤ) : Type 0 where
+pub record HoldsLibrary (input : List ℕ) (d b n used : ℕ) (marks : List ℤ) (settings : List ℕ) (components : List ℤ) : Type 0 where
   pub passes : first (libraryCauses (readLibrary input) input) ≡ Accepted
   pub d-is : d ≡ readLibrary input .d
   pub b-is : b ≡ readLibrary input .b
@@ -146,7 +146,7 @@ pub filled-begins : {A : Type 0} (v : Verdict) (new old : List A) → v ≡ Acce
 filled-begins v new old accepted = rw accepted (take-at new (drop (length new) old) (length new) refl)
 
 module _ {input : List ℕ} {d b n used : ℕ} {marks : List ℤ} {settings : List ℕ} {components : List ℤ}
-    (is : Holds input d b n used marks settings components) where
+    (is : HoldsLibrary input d b n used marks settings components) where
   abbrev l : Library
   l = readLibrary input
 
@@ -207,7 +207,7 @@ module _ (input : List ℕ) {room-marks room-settings room-components : ℕ} (of
       → {marks : List ℤ} {settings : List ℕ} {components : List ℤ} (marks₀ : List ℤ) (settings₀ : List ℕ) (components₀ : List ℤ)
       → marks ≡ filled v (readLibrary input .marks) marks₀ → settings ≡ filled v (readLibrary input .settings) settings₀
       → components ≡ filled v (readLibrary input .components) components₀
-      → Holds input (r .d) (r .b) (r .n) (r .used) marks settings components
+      → HoldsLibrary input (r .d) (r .b) (r .n) (r .used) marks settings components
   loaded-holds accepted marks₀ settings₀ components₀ marks-are settings-are components-are =
       let passes = sym verdict-is ∙ accepted in
       let same = is ∙ ap (λ (v : Verdict). counts v (readLibrary input)) passes in

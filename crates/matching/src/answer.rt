@@ -14,7 +14,7 @@ ghost use Rattle.refusal.specs.First.{first};
 ghost use Rattle.codes.specs.Codes.{codeLength};
 ghost use Rattle.approximation.specs.VectorCauses.{packVectorsCauses};
 ghost use Rattle.search.specs.Search.{searched, searchCauses};
-ghost use Rattle.search.specs.Ready.{library, roomOf};
+ghost use Rattle.search.specs.Ready.{indexOf, roomOf};
 ghost use Rattle.library.specs.Library.{libraryWith};
 ghost use Rattle.text.specs.Puts.{Puts};
 ghost use Rattle.matching.specs.Answer.{searchable, answerLines, answerText};
@@ -66,13 +66,13 @@ fn answer_coded(
     components: &[i32],
     text: &mut [u8],
 ) -> usize
-    requires { ⌜ first (searchCauses (library terms (now marks) (now codes) (now components)) (now query) (terms .k)
+    requires { ⌜ first (searchCauses (indexOf terms (now marks) (now codes) (now components)) (now query) (terms .k)
         (roomOf (terms .k) (terms .n))) ≡ Accepted ⌝ }
     requires { ⌜ length (now settings) ≡ terms .n ⌝ }
     requires { ⌜ length (answerLines (now settings) (terms .k)
-        (searched (library terms (now marks) (now codes) (now components)) (now query) (terms .k))) ≤ length (now text) ⌝ }
+        (searched (indexOf terms (now marks) (now codes) (now components)) (now query) (terms .k))) ≤ length (now text) ⌝ }
     ensures { λ r. ⌜ Puts (answerLines (now (settings .entry)) (terms .k)
-        (searched (library terms (now (marks .entry)) (now (codes .entry)) (now (components .entry))) (now (query .entry)) (terms .k))) 0
+        (searched (indexOf terms (now (marks .entry)) (now (codes .entry)) (now (components .entry))) (now (query .entry)) (terms .k))) 0
         (now (text .entry)) (now (text .exit)) r ⌝ }
 {
     let n = terms.n;

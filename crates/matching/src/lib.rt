@@ -19,7 +19,7 @@ ghost use Rattle.refusal.specs.First.{first};
 ghost use Rattle.loading.specs.Load.{marksRoom, settingsRoom, componentsRoom, filled};
 ghost use Rattle.text.specs.Puts.{Puts};
 ghost use Rattle.matching.specs.Match.{matchText, roomCauses, printed};
-ghost use Rattle.matching.specs.Steps.{Holds};
+ghost use Rattle.matching.specs.Steps.{HoldsLibrary};
 
 // How many bytes k has.
 pub const K_LENGTH: usize = 2;
@@ -98,7 +98,7 @@ fn match_loaded(
     components: &[i32],
     text: &mut [u8],
 ) -> usize
-    requires { ⌜ Holds (now input) d b n used (now marks) (now settings) (now components) ⌝ }
+    requires { ⌜ HoldsLibrary (now input) d b n used (now marks) (now settings) (now components) ⌝ }
     requires { ⌜ length (matchText (now input)) ≤ length (now text) ⌝ }
     ensures { λ r. ⌜ Puts (matchText (now (input .entry))) 0 (now (text .entry)) (now (text .exit)) r ⌝ }
 {

@@ -24,7 +24,7 @@ use Rattle.scan.specs.declared.ScanTerms.{ScanTerms}
 use Rattle.scan.specs.Scanning.{distancesOf, scanAnswer, scanCauses}
 use Rattle.scan.specs.Scanned.{scannable}
 use Rattle.search.specs.Answer.{foundCount, searchAnswer}
-use Rattle.search.specs.Search.{Library, searched}
+use Rattle.search.specs.Search.{Index, searched}
 use Rattle.search.specs.Ready.{roomOf}
 use Rattle.search.specs.Accepted.{Accepts, passes, lengths-told, best-few, best-size}
 
@@ -108,7 +108,7 @@ scan-fits t query vectors entries accepted =
       few = is .among .few;
     }
 
-pub search-fits : (l : Library) (query : List ℤ) (k entries reads : ℕ) → Accepts l query k (roomOf entries reads)
+pub search-fits : (l : Index) (query : List ℤ) (k entries reads : ℕ) → Accepts l query k (roomOf entries reads)
     → Fits (entriesOf (searched l query k .best)) k entries
 search-fits l query k entries reads held =
     let room = roomOf entries reads in
@@ -119,6 +119,6 @@ search-fits l query k entries reads held =
     }
 
 -- the answer of a verdict on a search leaves as many to fill as the verdict
-pub found-outcome : (v : Verdict) (l : Library) (query : List ℤ) (k : ℕ) → foundCount (searchAnswer v l query k) k ≡ outcome v k (λ _. 0)
+pub found-outcome : (v : Verdict) (l : Index) (query : List ℤ) (k : ℕ) → foundCount (searchAnswer v l query k) k ≡ outcome v k (λ _. 0)
 found-outcome Accepted l query k = refl
 found-outcome (Refused cause) l query k = refl

@@ -12,7 +12,7 @@ ghost use Rattle.refusal.specs.First.{first};
 ghost use Rattle.scan.specs.Scanning.{scanCauses, scannedEntries};
 ghost use Rattle.search.specs.Search.{searchCauses};
 ghost use Rattle.search.specs.Answer.{searchAnswer, searchEntries, searchReads};
-ghost use Rattle.search.specs.Ready.{library, roomOf};
+ghost use Rattle.search.specs.Ready.{indexOf, roomOf};
 
 // The k of n vectors that are nearest to a query of d components, nearest first, ties by lower number. The vectors stand in a row.
 pub fn scan(terms: ScanTerms, query: &[i32], vectors: &[i32], entries: &mut [Entry]) -> Verdict
@@ -37,7 +37,7 @@ pub fn search(
     entries: &mut [Entry],
     reads: &mut [u32],
 ) -> Searched
-    ensures { λ r. let l = library terms (now (marks .entry)) (now (codes .entry)) (now (vectors .entry)) in
+    ensures { λ r. let l = indexOf terms (now (marks .entry)) (now (codes .entry)) (now (vectors .entry)) in
         let v = first (searchCauses l (now (query .entry)) (terms .k)
         (roomOf (length (now (entries .entry))) (length (now (reads .entry))))) in
         ⌜ (r ≡ searchAnswer v l (now (query .entry)) (terms .k))

@@ -14,7 +14,7 @@ use Rattle.limits.specs.Tests.{leZ-not}
 use Rattle.region.specs.Dimension.{goodDimension}
 use Rattle.region.specs.Region.{regionOf, inMarks}
 use Rattle.region.specs.Within.{Within, ltZ-leZ}
-use Rattle.region.specs.Regions.{Holds, within-holds, marks-within, last-mark, marks-rise, region-of-holds, region-of-is}
+use Rattle.region.specs.Regions.{RegionHolds, within-holds, marks-within, last-mark, marks-rise, region-of-holds, region-of-is}
 
 -- A halving takes this many marks off a stretch of count marks, and none where at most two are left.
 abbrev pub halfOf : ℕ → ℕ
@@ -125,7 +125,7 @@ module _ (marks : List ℤ) (v : ℤ) (good : goodDimension marks ≡ true) wher
           record { lower = leZ-not v (getD marks middle (pos 0)) ∙ ap not above; upper = rw same (is .upper) }
 
   halvings-hold : (more start count : ℕ) → 2 ≤ count → count ≤ more + 2 → start + count ≤ length marks → Between marks v start count
-      → Holds marks (halvings more marks v start count) v
+      → RegionHolds marks (halvings more marks v start count) v
   unfolding halvings
   halvings-hold zero start count some few fits is =
       let next : start + (count - 1) ≡ suc start = omega arith in

@@ -15,16 +15,16 @@ use Rattle.region.specs.Region.{inRegion, regionOf, firstMark, lastMark,
 use Rattle.region.specs.Within.{leZ-trans, leZ-refl, ltZ-clash, ltZ-leZ, Within, within, within-test, within-apart}
 
 -- Region r is one of the marks' regions and holds v.
-pub record Holds (marks : List ℤ) (r : ℕ) (v : ℤ) : Type 0 where
+pub record RegionHolds (marks : List ℤ) (r : ℕ) (v : ℤ) : Type 0 where
   pub exists : suc r < length marks
   pub inside : inRegion marks r v ≡ true
 
-pub holds-within : {marks : List ℤ} {r : ℕ} {v : ℤ} → Holds marks r v → Within (getD marks r (pos 0)) v (getD marks (suc r) (pos 0))
+pub holds-within : {marks : List ℤ} {r : ℕ} {v : ℤ} → RegionHolds marks r v → Within (getD marks r (pos 0)) v (getD marks (suc r) (pos 0))
 unfolding inRegion
 holds-within {marks} {r} {v} h = within (getD marks r (pos 0)) v (getD marks (suc r) (pos 0)) (h .inside)
 
 pub within-holds : {marks : List ℤ} {r : ℕ} {v : ℤ} → suc r < length marks → Within (getD marks r (pos 0)) v (getD marks (suc r) (pos 0))
-    → Holds marks r v
+    → RegionHolds marks r v
 unfolding inRegion
 within-holds exists is = record { exists = exists; inside = within-test is }
 
@@ -37,7 +37,7 @@ unfolding inMarks
 within-marks marks v is = within-test is
 
 -- A region that holds a value is not empty.
-pub holds-not-empty : {marks : List ℤ} {r : ℕ} {v : ℤ} → Holds marks r v → ltZ (getD marks r (pos 0)) (getD marks (suc r) (pos 0)) ≡ true
+pub holds-not-empty : {marks : List ℤ} {r : ℕ} {v : ℤ} → RegionHolds marks r v → ltZ (getD marks r (pos 0)) (getD marks (suc r) (pos 0)) ≡ true
 holds-not-empty h = within-apart (holds-within h)
 
 -- The last mark is the mark at the last place.
@@ -48,7 +48,7 @@ last-mark (m ∷ ms) last e =
     rw same
 
 -- A value that lies inside the marks is in regionOf's region, whether the marks fall or not.
-pub region-of-holds : (marks : List ℤ) (v : ℤ) → inMarks marks v ≡ true → Holds marks (regionOf marks v) v
+pub region-of-holds : (marks : List ℤ) (v : ℤ) → inMarks marks v ≡ true → RegionHolds marks (regionOf marks v) v
 unfolding inRegion regionOf
 region-of-holds [] v h =
     let is = marks-within [] v h in
@@ -58,8 +58,8 @@ region-of-holds (m ∷ []) v h =
     absurd (ltZ-clash v m (is .upper) (is .lower))
 region-of-holds (m ∷ next ∷ ms) v h = go (leZ m v && ltZ v next) refl (region-of-holds (next ∷ ms) v)
   where
-    go : (t : Bool) → leZ m v && ltZ v next ≡ t → (inMarks (next ∷ ms) v ≡ true → Holds (next ∷ ms) (regionOf (next ∷ ms) v) v)
-        → Holds (m ∷ next ∷ ms) (cond t 0 (suc (regionOf (next ∷ ms) v))) v
+    go : (t : Bool) → leZ m v && ltZ v next ≡ t → (inMarks (next ∷ ms) v ≡ true → RegionHolds (next ∷ ms) (regionOf (next ∷ ms) v) v)
+        → RegionHolds (m ∷ next ∷ ms) (cond t 0 (suc (regionOf (next ∷ ms) v))) v
     go true e later = record { exists = omega arith; inside = e }
     go false e later =
         let is = marks-within (m ∷ next ∷ ms) v h in
@@ -99,21 +99,21 @@ marks-rise (m ∷ ms) good (suc i) zero le lt = absurd (omega arith)
 marks-rise (m ∷ ms) good (suc i) (suc j) le lt = marks-rise ms (good-first m ms good .rest) i j (omega arith) (omega arith)
 
 module _ {marks : List ℤ} (good : goodDimension marks ≡ true) {v : ℤ} where
-  later-clash : {r s : ℕ} → Holds marks r v → Holds marks s v → r < s → ⊥
+  later-clash : {r s : ℕ} → RegionHolds marks r v → RegionHolds marks s v → r < s → ⊥
   later-clash {r} {s} hr hs lt =
       let above = marks-rise marks good (suc r) s lt (omega (arith, hs .exists)) in
       ltZ-clash v (getD marks (suc r) (pos 0)) (holds-within hr .upper)
       (leZ-trans (getD marks (suc r) (pos 0)) (getD marks s (pos 0)) v above (holds-within hs .lower))
 
   -- At most one region holds a value.
-  pub holds-one : {r s : ℕ} → Holds marks r v → Holds marks s v → r ≡ s
+  pub holds-one : {r s : ℕ} → RegionHolds marks r v → RegionHolds marks s v → r ≡ s
   holds-one {r} {s} hr hs =
       let not-later : ¬ (r < s) = later-clash hr hs in
       let not-earlier : ¬ (s < r) = later-clash hs hr in
       omega arith
 
   -- A value that a region holds lies inside the marks.
-  pub holds-in-marks : {r : ℕ} → Holds marks r v → inMarks marks v ≡ true
+  pub holds-in-marks : {r : ℕ} → RegionHolds marks r v → inMarks marks v ≡ true
   holds-in-marks {r} h =
       let is = holds-within h in
       let last = length marks - 1 in
@@ -124,5 +124,5 @@ module _ {marks : List ℤ} (good : goodDimension marks ≡ true) {v : ℤ} wher
       within-marks marks v (record { lower = lower; upper = rw (last-mark marks last (omega (arith, h .exists))) upper })
 
   -- The one region that holds a value is regionOf's.
-  pub region-of-is : {r : ℕ} → Holds marks r v → r ≡ regionOf marks v
+  pub region-of-is : {r : ℕ} → RegionHolds marks r v → r ≡ regionOf marks v
   region-of-is h = holds-one h (region-of-holds marks v (holds-in-marks h))

@@ -15,8 +15,8 @@ use Rattle.refusal.specs.declared.Verdict.the-variants.{Accepted}
 use Rattle.refusal.specs.declared.Refusal.the-variants.{Count, Length}
 use Rattle.refusal.specs.First.{Row, _⇒_, first, first-next}
 use Rattle.limits.specs.Limits.{maxDimensions, isVectorCount}
-use Rattle.whole.specs.Keys.{mark-small}
-use Rattle.whole.specs.Components.{component-at}
+use Rattle.signed.specs.Keys.{mark-small}
+use Rattle.signed.specs.Components.{component-at}
 use Rattle.layout.specs.Layout.{markCount, firstMarks}
 use Rattle.layout.specs.Laws.{marks-within}
 use Rattle.layout.specs.Stretch.{shapeCauses}

@@ -27,7 +27,8 @@ scan-agree k distance other is agree = rw (ranked-agree distance other is agree)
 
 -- so ranking the values ranks the numbers by the function
 pub values-ranked : (f : ℕ → ℕ) (n : ℕ) → ranked (keyAt (valuesFrom f 0 n)) (countFrom 0 n) ≡ ranked f (countFrom 0 n)
-values-ranked f n = ranked-agree f (keyAt (valuesFrom f 0 n)) (countFrom 0 n) (λ i m. value-at f n i (omega (arith, (counted 0 n m) .below)))
+values-ranked f n =
+    ranked-agree f (keyAt (valuesFrom f 0 n)) (countFrom 0 n) (λ i m. value-at f n i (omega (arith, (counted 0 n m) .below)))
 
 pub values-ranking : (f : ℕ → ℕ) (n : ℕ) → ranking (valuesFrom f 0 n) ≡ numbersOf (ranked f (countFrom 0 n))
 unfolding ranking

@@ -13,7 +13,7 @@ use Rattle.refusal.specs.declared.Verdict.the-variants.{Accepted}
 use Rattle.refusal.specs.First.{first, passed}
 use Rattle.limits.specs.Limits.{maxDimensions, maxVectors, isDimensionCount, isVectorCount, isNeighbourCount}
 use Rattle.limits.specs.Tests.{between, Neighbours, neighbours}
-use Rattle.whole.specs.Components.{areComponents, component-at, all-components}
+use Rattle.signed.specs.Components.{areComponents, component-at, all-components}
 use Rattle.order.specs.Pair.{Pair, keyed, ranked, numbersOf, countFrom}
 use Rattle.order.specs.Rank.{keyAt, ranking}
 use Rattle.order.specs.Pairs.{pair, pairsOf}
@@ -53,7 +53,9 @@ scannable t query vectors entries accepted =
     and-eq-true-iff (eqb (length query) (t .d)) _ .0
     (not-false (eqb (length query) (t .d) && (eqb (length vectors) (t .n * t .d) && eqb entries (t .k))) (lengths .fails)) in
     let vectors-and = and-eq-true-iff (eqb (length vectors) (t .n * t .d)) _ .0 (query-and .1) in
-    let both = and-eq-true-iff (areComponents query) (areComponents vectors) .0 (not-false (areComponents query && areComponents vectors) (components .fails)) in
+    let both =
+    and-eq-true-iff (areComponents query) (areComponents vectors) .0
+    (not-false (areComponents query && areComponents vectors) (components .fails)) in
     record {
       vectors-are = record {
         few = between 1 (t .d) maxDimensions (not-false (isDimensionCount (t .d)) (dimensions .fails)) .below;

@@ -9,7 +9,7 @@ use Rattle.refusal.specs.declared.Refusal.the-variants.{Dimension, Count, Neigh
 use Rattle.refusal.specs.declared.Verdict.{Verdict}
 use Rattle.refusal.specs.First.{Row, _⇒_, outcome}
 use Rattle.limits.specs.Limits.{isDimensionCount, isVectorCount, isNeighbourCount}
-use Rattle.whole.specs.Components.{areComponents}
+use Rattle.signed.specs.Components.{areComponents}
 use Rattle.order.specs.Pair.{Pair, countFrom}
 use Rattle.selection.specs.Reading.{scan}
 use Rattle.cells.specs.Cells.{vectorAt}

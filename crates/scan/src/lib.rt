@@ -14,7 +14,7 @@ ghost use lib.Dec.{eqb};
 ghost use lib.ListN.{length};
 ghost use Rattle.refusal.specs.First.{first, outcome};
 ghost use Rattle.limits.specs.Tests.{Neighbours};
-ghost use Rattle.whole.specs.Components.{areComponents};
+ghost use Rattle.signed.specs.Components.{areComponents};
 ghost use Rattle.distance.specs.Values.{valuesFrom};
 ghost use Rattle.entries.specs.Entries.{entriesOf, inArray};
 ghost use Rattle.scan.specs.Scanning.{distancesOf, scanAnswer, scanCauses, scannedEntries};
@@ -99,7 +99,7 @@ fn exact_lengths(terms: ScanTerms, query: usize, vectors: usize, entries: usize)
 fn all_components(query: &[i32], vectors: &[i32]) -> bool
     ensures { λ r. ⌜ r ≡ areComponents (now (query .entry)) && areComponents (now (vectors .entry)) ⌝ }
 {
-    whole::components::are_components(query) && whole::components::are_components(vectors)
+    signed::components::are_components(query) && signed::components::are_components(vectors)
 }
 
 // The answer where nothing refuses, in arrays for the most vectors of a library.

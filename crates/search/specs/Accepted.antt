@@ -11,20 +11,20 @@ use Rattle.refusal.specs.declared.Verdict.the-variants.{Accepted}
 use Rattle.refusal.specs.First.{first, passed}
 use Rattle.limits.specs.Limits.{maxNeighbours, isDimensionCount, isBits, isVectorCount, isNeighbourCount}
 use Rattle.limits.specs.Tests.{neighbours}
-use Rattle.whole.specs.Components.{areComponents}
+use Rattle.signed.specs.Components.{areComponents}
 use Rattle.order.specs.Counted.{counted-length}
 use Rattle.selection.specs.Theorems.{best-length}
 use Rattle.layout.specs.Layout.{firstMarks}
 use Rattle.partition.specs.Marks.{goodMarks}
 use Rattle.codes.specs.Codes.{codeLength}
 use Rattle.cells.specs.Cells.{goodCodes}
-use Rattle.search.specs.Search.{Library, Room, numbersIn, distanceIn, lowIn, searched, inOwnCells, exactLengths, searchCauses}
+use Rattle.search.specs.Search.{Index, Room, numbersIn, distanceIn, lowIn, searched, inOwnCells, exactLengths, searchCauses}
 
 -- the search is not refused
-abbrev pub Accepts : Library → List ℤ → ℕ → Room → Type 0
+abbrev pub Accepts : Index → List ℤ → ℕ → Room → Type 0
 Accepts l query k room = first (searchCauses l query k room) ≡ Accepted
 
-pub record Passes (l : Library) (query : List ℤ) (k : ℕ) (room : Room) : Type 0 where
+pub record Passes (l : Index) (query : List ℤ) (k : ℕ) (room : Room) : Type 0 where
   pub dimensions : isDimensionCount (l .d) ≡ true
   pub bits : isBits (l .d) (l .b) ≡ true
   pub count : isVectorCount (l .n) ≡ true
@@ -35,7 +35,7 @@ pub record Passes (l : Library) (query : List ℤ) (k : ℕ) (room : Room) : Typ
   pub codes : goodCodes (l .d) (l .b) (l .n) (l .marks) (l .codes) ≡ true
   pub cells : inOwnCells l ((searched l query k) .reads) ≡ true
 
-pub passes : (l : Library) (query : List ℤ) (k : ℕ) (room : Room) → Accepts l query k room → Passes l query k room
+pub passes : (l : Index) (query : List ℤ) (k : ℕ) (room : Room) → Accepts l query k room → Passes l query k room
 passes l query k room accepts =
     let dimensions = passed _ _ _ accepts in
     let bits = passed _ _ _ (dimensions .rest) in
@@ -58,18 +58,18 @@ passes l query k room accepts =
       cells = not-false (inOwnCells l ((searched l query k) .reads)) (cells .fails);
     }
 
-pub accepts : (l : Library) (query : List ℤ) (k : ℕ) (room : Room) → Passes l query k room → Accepts l query k room
+pub accepts : (l : Index) (query : List ℤ) (k : ℕ) (room : Room) → Passes l query k room → Accepts l query k room
 unfolding first
 accepts l query k room p =
     rw (p .dimensions, p .bits, p .count, p .neighbours, p .lengths, p .components, p .marks, p .codes, p .cells) refl
 
 -- then the search finds k vectors, no more than an array of entries holds
-pub best-few : (l : Library) (query : List ℤ) (k : ℕ) (room : Room) → Accepts l query k room → k ≤ maxNeighbours
+pub best-few : (l : Index) (query : List ℤ) (k : ℕ) (room : Room) → Accepts l query k room → k ≤ maxNeighbours
 best-few l query k room held =
     let p = passes l query k room held in
     neighbours (l .n) k (p .count) (p .neighbours) .few
 
-pub best-size : (l : Library) (query : List ℤ) (k : ℕ) (room : Room) → Accepts l query k room → length (searched l query k .best) ≡ k
+pub best-size : (l : Index) (query : List ℤ) (k : ℕ) (room : Room) → Accepts l query k room → length (searched l query k .best) ≡ k
 best-size l query k room held =
     let p = passes l query k room held in
     let among = neighbours (l .n) k (p .count) (p .neighbours) in
@@ -77,7 +77,7 @@ best-size l query k room held =
 
 -- ---- the lengths
 
-pub record Lengths (l : Library) (query : List ℤ) (k : ℕ) (room : Room) : Type 0 where
+pub record Lengths (l : Index) (query : List ℤ) (k : ℕ) (room : Room) : Type 0 where
   pub of-query : length query ≡ l .d
   pub of-marks : length (l .marks) ≡ firstMarks (l .d) (l .b) (l .d)
   pub of-codes : length (l .codes) ≡ codeLength (l .b) (l .n)
@@ -85,7 +85,7 @@ pub record Lengths (l : Library) (query : List ℤ) (k : ℕ) (room : Room) : Ty
   pub of-entries : room .entries ≡ k
   pub of-reads : room .reads ≡ l .n
 
-pub lengths-told : (l : Library) (query : List ℤ) (k : ℕ) (room : Room) → exactLengths l query k room ≡ true → Lengths l query k room
+pub lengths-told : (l : Index) (query : List ℤ) (k : ℕ) (room : Room) → exactLengths l query k room ≡ true → Lengths l query k room
 lengths-told l query k room exact =
     let query-and = and-eq-true-iff _ _ .0 exact in
     let marks-and = and-eq-true-iff _ _ .0 (query-and .1) in
@@ -101,7 +101,7 @@ lengths-told l query k room exact =
       of-reads = eqb-true _ _ (room-and .1);
     }
 
-pub lengths-exact : (l : Library) (query : List ℤ) (k : ℕ) (room : Room) → Lengths l query k room → exactLengths l query k room ≡ true
+pub lengths-exact : (l : Index) (query : List ℤ) (k : ℕ) (room : Room) → Lengths l query k room → exactLengths l query k room ≡ true
 lengths-exact l query k room n =
     rw (
       eq-eqb _ _ (n .of-query),

@@ -22,31 +22,32 @@ use Rattle.cells.specs.Cells.{vectorAt, noneEmpty, noEmptyCodes, goodCodes}
 use Rattle.distance.specs.Distance.{distanceOf}
 use Rattle.distance.specs.Bounds.{firstBound}
 use Rattle.distance.specs.CellBounds.{lower-le, CellReached, lower-reached, upper-reached}
-use Rattle.search.specs.Search.{Library, numbersIn, distanceIn, lowIn, highIn, scanned}
+use Rattle.search.specs.Search.{Index, numbersIn, distanceIn, lowIn, highIn, scanned}
 use Rattle.search.specs.Settled.{withVectors, CellOf, OwnCodes, SettlesAnswer}
 use Rattle.scan.specs.Ranked.{scan-agree}
 use Rattle.search.specs.Rows.{Row, in-a-row}
 
 -- v is the distance of a vector of code i's cell
-pub record Possible (l : Library) (query : List ℤ) (i v : ℕ) : Type 0 where
+pub record Possible (l : Index) (query : List ℤ) (i v : ℕ) : Type 0 where
   pub vector : List ℤ
   pub cell : CellOf l i vector
   pub is : distanceOf (l .d) query vector ≡ v
 
-in-library : (l : Library) {i : ℕ} → i ∈ numbersIn l → i < l .n
+in-library : (l : Index) {i : ℕ} → i ∈ numbersIn l → i < l .n
 in-library l m = omega (arith, (counted 0 (l .n) m) .below)
 
 -- ---- own codes
 
-pub own-lower : (l : Library) (query : List ℤ) → OwnCodes l → LowerBound (lowIn l query) (distanceIn l query) (numbersIn l)
+pub own-lower : (l : Index) (query : List ℤ) → OwnCodes l → LowerBound (lowIn l query) (distanceIn l query) (numbersIn l)
 own-lower l query own i m = lower-le (l .d) (l .b) (l .marks) (l .codes) query i (own .cells i (in-library l m))
 
-pub own-possible : (l : Library) (query : List ℤ) → OwnCodes l → Within (Possible l query) (distanceIn l query) (numbersIn l)
+pub own-possible : (l : Index) (query : List ℤ) → OwnCodes l → Within (Possible l query) (distanceIn l query) (numbersIn l)
 own-possible l query own i m = record { vector = vectorAt (l .d) (l .vectors) i; cell = own .cells i (in-library l m); is = refl }
 
 -- ---- bounds
 
-none-empty : (d b : ℕ) (marks : List ℤ) (codes : List ℕ) (n i : ℕ) → noEmptyCodes d b marks codes n ≡ true → i < n → noneEmpty d b marks codes i d ≡ true
+none-empty : (d b : ℕ) (marks : List ℤ) (codes : List ℕ) (n i : ℕ) → noEmptyCodes d b marks codes n ≡ true → i < n
+    → noneEmpty d b marks codes i d ≡ true
 unfolding noEmptyCodes
 none-empty d b marks codes zero i good below = absurd (omega arith)
 none-empty d b marks codes (suc n) i good below =
@@ -56,7 +57,7 @@ none-empty d b marks codes (suc n) i good below =
       | inr l ↦ none-empty d b marks codes n i (both .0) l
     ]
 
-pub cell-bounds : (l : Library) (query : List ℤ) → goodCodes (l .d) (l .b) (l .n) (l .marks) (l .codes) ≡ true
+pub cell-bounds : (l : Index) (query : List ℤ) → goodCodes (l .d) (l .b) (l .n) (l .marks) (l .codes) ≡ true
     → Bounds (Possible l query) (lowIn l query) (highIn l query) (numbersIn l)
 cell-bounds l query good = record {
   least = λ i v m possible. rw (← possible .is) (lower-le (l .d) (l .b) (l .marks) (l .codes) query i (possible .cell));
@@ -76,19 +77,19 @@ cell-bounds l query good = record {
 -- ---- from distances to vectors
 
 -- where for each number there is a vector of its cell that has the wanted distance, there are vectors whose scan is that of the distances
-pub answered : (l : Library) (query : List ℤ) (k : ℕ) (wanted : ℕ → ℕ) (vectors : List ℤ)
+pub answered : (l : Index) (query : List ℤ) (k : ℕ) (wanted : ℕ → ℕ) (vectors : List ℤ)
     → ((i : ℕ) → i < l .n → distanceOf (l .d) query (vectorAt (l .d) vectors i) ≡ wanted i)
     → scanned (withVectors l vectors) query k ≡ scan k wanted (numbersIn l)
 answered l query k wanted vectors each =
     scan-agree k wanted (distanceIn (withVectors l vectors) query) (numbersIn l) (λ i m. each i (in-library l m))
 
 -- a vector of the cell for number i, the library's own where i is of the set
-record Stands (l : Library) (query : List ℤ) (set : List ℕ) (wanted : ℕ → ℕ) (i : ℕ) (vector : List ℤ) : Type 0 where
+record Stands (l : Index) (query : List ℤ) (set : List ℕ) (wanted : ℕ → ℕ) (i : ℕ) (vector : List ℤ) : Type 0 where
   cell : CellOf l i vector
   is : distanceOf (l .d) query vector ≡ wanted i
   kept : i ∈ set → vector ≡ vectorAt (l .d) (l .vectors) i
 
-pub settles-distances : (l : Library) (query : List ℤ) (k : ℕ) (set : List ℕ) → OwnCodes l → SettlesAnswer l query k set
+pub settles-distances : (l : Index) (query : List ℤ) (k : ℕ) (set : List ℕ) → OwnCodes l → SettlesAnswer l query k set
     → Settles k (Possible l query) (distanceIn l query) (numbersIn l) set
 settles-distances l query k set own settles other within agree =
     let row = in-a-row (l .d) (l .n) (Stands l query set other) (λ i h. stands i h (member? i set)) in
@@ -111,20 +112,20 @@ settles-distances l query k set own settles other within agree =
         }
 
 -- a vector for number j: another at i, the library's own elsewhere
-record Put (l : Library) (query : List ℤ) (i v j : ℕ) (vector : List ℤ) : Type 0 where
+record Put (l : Index) (query : List ℤ) (i v j : ℕ) (vector : List ℤ) : Type 0 where
   is : distanceOf (l .d) query vector ≡ changed (distanceIn l query) i v j
   there : j ≡ i → CellOf l i vector
   elsewhere : j ≢ i → vector ≡ vectorAt (l .d) (l .vectors) j
 
 -- vectors that differ at number i alone, by one of its cell, and have another scan
-pub record OtherScan (l : Library) (query : List ℤ) (k i : ℕ) : Type 0 where
+pub record OtherScan (l : Index) (query : List ℤ) (k i : ℕ) : Type 0 where
   pub vectors : List ℤ
   pub size : length vectors ≡ l .n * l .d
   pub cell : CellOf l i (vectorAt (l .d) vectors i)
   pub elsewhere : (j : ℕ) → j < l .n → j ≢ i → vectorAt (l .d) vectors j ≡ vectorAt (l .d) (l .vectors) j
   pub changes : scanned (withVectors l vectors) query k ≢ scanned l query k
 
-pub needed-vector : (l : Library) (query : List ℤ) (k i : ℕ) → OwnCodes l → i < l .n
+pub needed-vector : (l : Index) (query : List ℤ) (k i : ℕ) → OwnCodes l → i < l .n
     → Needed k (Possible l query) (distanceIn l query) (numbersIn l) i → OtherScan l query k i
 needed-vector l query k i own within needed =
     let v = needed .value in
@@ -134,7 +135,8 @@ needed-vector l query k i own within needed =
       size = row .size;
       cell = (row .each i within) .there refl;
       elsewhere = λ j h other. (row .each j h) .elsewhere other;
-      changes = λ same. needed .changes (sym (answered l query k (changed (distanceIn l query) i v) (row .vectors) (λ j h. (row .each j h) .is)) ∙ same);
+      changes =
+          λ same. needed .changes (sym (answered l query k (changed (distanceIn l query) i v) (row .vectors) (λ j h. (row .each j h) .is)) ∙ same);
     }
   where
     put : (j : ℕ) → j < l .n → Dec (j ≡ i) → Row (l .d) (λ j. Put l query i (needed .value) j) j
@@ -144,7 +146,8 @@ needed-vector l query k i own within needed =
           vector = possible .vector;
           size = possible .cell .components;
           has = record {
-            is = possible .is ∙ sym (ap (changed (distanceIn l query) i (needed .value)) e ∙ changed-there (distanceIn l query) i (needed .value));
+            is =
+                possible .is ∙ sym (ap (changed (distanceIn l query) i (needed .value)) e ∙ changed-there (distanceIn l query) i (needed .value));
             there = λ e. possible .cell;
             elsewhere = λ other. absurd (other e);
           };

@@ -13,7 +13,7 @@ use Rattle.refusal.specs.declared.Verdict.the-variants.{Accepted}
 use Rattle.refusal.specs.First.{first, passed}
 use Rattle.limits.specs.Limits.{maxDimensions, maxVectors, maxNeighbours, isVectorCount, isNeighbourCount}
 use Rattle.limits.specs.Tests as limits
-use Rattle.whole.specs.Components.{areComponents}
+use Rattle.signed.specs.Components.{areComponents}
 use Rattle.layout.specs.Layout.{firstMarks}
 use Rattle.layout.specs.Stretch.{shapeCauses, shape}
 use Rattle.codes.specs.Codes.{codeLength}
@@ -23,13 +23,13 @@ use Rattle.order.specs.Members.{member-getD}
 use Rattle.order.specs.Counted.{counted, counted-length}
 use Rattle.order.specs.Ranking.{ranked-count, ranked-among}
 use Rattle.selection.specs.Reading.{readingOrder}
-use Rattle.search.specs.Search.{Library, Room, numbersIn, exactLengths, entryCauses}
+use Rattle.search.specs.Search.{Index, Room, numbersIn, exactLengths, entryCauses}
 use Rattle.search.specs.declared.Terms.{Terms}
 use Rattle.search.specs.Accepted.{lengths-told}
 
 -- the library of these numbers and buffers
-abbrev pub library : Terms → List ℤ → List ℕ → List ℤ → Library
-library t marks codes vectors = record { d = t .d; b = t .b; n = t .n; marks = marks; codes = codes; vectors = vectors }
+abbrev pub indexOf : Terms → List ℤ → List ℕ → List ℤ → Index
+indexOf t marks codes vectors = record { d = t .d; b = t .b; n = t .n; marks = marks; codes = codes; vectors = vectors }
 
 abbrev pub termsOf : ℕ → ℕ → ℕ → ℕ → Terms
 termsOf d b n k = record { d = d; b = b; n = n; k = k }
@@ -38,7 +38,7 @@ termsOf d b n k = record { d = d; b = b; n = n; k = k }
 abbrev pub roomOf : ℕ → ℕ → Room
 roomOf entries reads = record { entries = entries; reads = reads }
 
-pub record Ready (l : Library) (query : List ℤ) (k : ℕ) : Type 0 where
+pub record Ready (l : Index) (query : List ℤ) (k : ℕ) : Type 0 where
   pub shaped : first (shapeCauses (l .d) (l .b)) ≡ Accepted
   pub dimensions : l .d ≤ maxDimensions
   pub count : l .n ≤ maxVectors
@@ -54,12 +54,12 @@ pub record Ready (l : Library) (query : List ℤ) (k : ℕ) : Type 0 where
   pub codes : goodCodes (l .d) (l .b) (l .n) (l .marks) (l .codes) ≡ true
 
 -- with the room for the answer
-pub record Entered (l : Library) (query : List ℤ) (k : ℕ) (room : Room) : Type 0 where
+pub record Entered (l : Index) (query : List ℤ) (k : ℕ) (room : Room) : Type 0 where
   pub ready : Ready l query k
   pub of-entries : room .entries ≡ k
   pub of-reads : room .reads ≡ l .n
 
-pub entered : (l : Library) (query : List ℤ) (k : ℕ) (room : Room) → first (entryCauses l query k room) ≡ Accepted → Entered l query k room
+pub entered : (l : Index) (query : List ℤ) (k : ℕ) (room : Room) → first (entryCauses l query k room) ≡ Accepted → Entered l query k room
 entered l query k room accepts =
     let dimensions = passed _ _ _ accepts in
     let bits = passed _ _ _ (dimensions .rest) in
@@ -100,7 +100,7 @@ pub record Place (d : ℕ) (vectors : List ℤ) (i : ℕ) : Type 0 where
   pub small : i * d + d < 2 ^ 64
   pub size : length (vectorAt d vectors i) ≡ d
 
-pub place : {l : Library} {query : List ℤ} {k : ℕ} → Ready l query k → (i : ℕ) → i < l .n → Place (l .d) (l .vectors) i
+pub place : {l : Index} {query : List ℤ} {k : ℕ} → Ready l query k → (i : ℕ) → i < l .n → Place (l .d) (l .vectors) i
 place {l} is i below =
     let whole : suc i * l .d ≤ l .n * l .d = mul-le-mul-right (l .d) below in
     let few : l .n * l .d ≤ maxVectors * maxDimensions = mul-le-mul (is .count) (is .dimensions) in
@@ -112,7 +112,7 @@ place {l} is i below =
     }
 
 -- a number of the reading order is one of the library's
-pub ordered-below : (l : Library) (low : ℕ → ℕ) (done : ℕ) → done < l .n → getD (readingOrder low (numbersIn l)) done 0 < l .n
+pub ordered-below : (l : Index) (low : ℕ → ℕ) (done : ℕ) → done < l .n → getD (readingOrder low (numbersIn l)) done 0 < l .n
 ordered-below l low done below =
     let order = readingOrder low (numbersIn l) in
     let inside : done < length order = omega (arith, ranked-count low (numbersIn l), counted-length 0 (l .n)) in

@@ -9,7 +9,7 @@ use lib.ListN.{length}
 use Rattle.refusal.specs.declared.Refusal.the-variants.{Count, Neighbours, Length, Component, Mark, Code, Cell}
 use Rattle.refusal.specs.First.{Row, _⇒_}
 use Rattle.limits.specs.Limits.{isVectorCount, isNeighbourCount}
-use Rattle.whole.specs.Components.{areComponents}
+use Rattle.signed.specs.Components.{areComponents}
 use Rattle.order.specs.Pair.{Pair, countFrom}
 use Rattle.selection.specs.Reading.{Reading, read}
 use Rattle.layout.specs.Layout.{firstMarks}
@@ -22,7 +22,7 @@ use Rattle.distance.specs.Bounds.{lowerOf, upperOf}
 use Rattle.scan.specs.Scanning.{scanTerms, scanAnswer}
 
 -- the vectors that are searched, with their marks and codes
-pub record Library : Type 0 where
+pub record Index : Type 0 where
   pub d : ℕ
   pub b : ℕ
   pub n : ℕ
@@ -31,35 +31,35 @@ pub record Library : Type 0 where
   pub vectors : List ℤ
 
 -- the numbers of its vectors
-abbrev pub numbersIn : Library → List ℕ
+abbrev pub numbersIn : Index → List ℕ
 numbersIn l = countFrom 0 (l .n)
 
 -- a vector's distance from the query, and its cell's least and greatest distance
-abbrev pub distanceIn : Library → List ℤ → ℕ → ℕ
+abbrev pub distanceIn : Index → List ℤ → ℕ → ℕ
 distanceIn l query i = distanceOf (l .d) query (vectorAt (l .d) (l .vectors) i)
 
-abbrev pub lowIn : Library → List ℤ → ℕ → ℕ
+abbrev pub lowIn : Index → List ℤ → ℕ → ℕ
 lowIn l query i = lowerOf (l .d) (l .b) (l .marks) (l .codes) query i
 
-abbrev pub highIn : Library → List ℤ → ℕ → ℕ
+abbrev pub highIn : Index → List ℤ → ℕ → ℕ
 highIn l query i = upperOf (l .d) (l .b) (l .marks) (l .codes) query i
 
 -- whether vector i lies in its code's cell
-abbrev pub inOwnCell : Library → ℕ → Bool
+abbrev pub inOwnCell : Index → ℕ → Bool
 inOwnCell l i = inFirst (l .d) (l .b) (l .marks) (l .codes) i (vectorAt (l .d) (l .vectors) i) (l .d)
 
 -- the full scan's answer over the library's vectors
-abbrev pub scanned : Library → List ℤ → ℕ → List Pair
+abbrev pub scanned : Index → List ℤ → ℕ → List Pair
 scanned l query k = scanAnswer (scanTerms (l .d) (l .n) k) query (l .vectors)
 
 -- the reading order "worked out from query, k, marks, codes and patterns": the k best pairs read, and the numbers read, in reading order
-abbrev pub searched : Library → List ℤ → ℕ → Reading
+abbrev pub searched : Index → List ℤ → ℕ → Reading
 searched l query k = read k (lowIn l query) (distanceIn l query) (numbersIn l)
 
 -- ---- causes
 
 -- whether each of these vectors lies in its code's cell
-unfoldable pub inOwnCells : Library → List ℕ → Bool
+unfoldable pub inOwnCells : Index → List ℕ → Bool
 inOwnCells l [] = true
 inOwnCells l (i ∷ is) = inOwnCell l i && inOwnCells l is
 
@@ -69,7 +69,7 @@ pub record Room : Type 0 where
   pub reads : ℕ
 
 -- every buffer has its exact length
-abbrev pub exactLengths : Library → List ℤ → ℕ → Room → Bool
+abbrev pub exactLengths : Index → List ℤ → ℕ → Room → Bool
 exactLengths l query k room =
     eqb (length query) (l .d)
     && (eqb (length (l .marks)) (firstMarks (l .d) (l .b) (l .d))
@@ -82,21 +82,21 @@ abbrev pub queryCauses : List ℤ → List Row
 queryCauses query = (not (areComponents query) ⇒ Component) ∷ []
 
 -- the tests of a library
-abbrev pub libraryCauses : Library → List Row
+abbrev pub libraryCauses : Index → List Row
 libraryCauses l =
     (not (goodMarks (l .d) (l .b) (l .marks)) ⇒ Mark) ∷ (not (goodCodes (l .d) (l .b) (l .n) (l .marks) (l .codes)) ⇒ Code) ∷ []
 
 -- the causes that are tested before anything is read: those of the shape, and those behind it
-abbrev pub shapedCauses : Library → List ℤ → ℕ → Room → List Row
+abbrev pub shapedCauses : Index → List ℤ → ℕ → Room → List Row
 shapedCauses l query k room =
     (not (isVectorCount (l .n)) ⇒ Count)
     ∷ (not (isNeighbourCount (l .n) k) ⇒ Neighbours)
     ∷ (not (exactLengths l query k room) ⇒ Length)
     ∷ (queryCauses query ++ libraryCauses l)
 
-abbrev pub entryCauses : Library → List ℤ → ℕ → Room → List Row
+abbrev pub entryCauses : Index → List ℤ → ℕ → Room → List Row
 entryCauses l query k room = shapeCauses (l .d) (l .b) ++ shapedCauses l query k room
 
 -- ".. and 10 while reading": a vector that is read is not in its code's cell
-abbrev pub searchCauses : Library → List ℤ → ℕ → Room → List Row
+abbrev pub searchCauses : Index → List ℤ → ℕ → Room → List Row
 searchCauses l query k room = entryCauses l query k room ++ ((not (inOwnCells l ((searched l query k) .reads)) ⇒ Cell) ∷ [])

@@ -10,7 +10,7 @@ ghost use Rattle.refusal.specs.declared.Verdict.the-variants.{Accepted};
 ghost use Rattle.limits.specs.Limits.{maxVectors};
 ghost use Rattle.layout.specs.Stretch.{shapeCauses};
 ghost use Rattle.search.specs.Search.{exactLengths, entryCauses, shapedCauses};
-ghost use Rattle.search.specs.Ready.{library, roomOf};
+ghost use Rattle.search.specs.Ready.{indexOf, roomOf};
 
 // Whether a library can be searched for the k nearest to a query, where so many entries and numbers of vectors read are lent.
 pub fn check_entry(
@@ -22,7 +22,7 @@ pub fn check_entry(
     entries: usize,
     reads: usize,
 ) -> Verdict
-    ensures { λ r. ⌜ r ≡ first (entryCauses (library terms (now (marks .entry)) (now (codes .entry)) (now (vectors .entry)))
+    ensures { λ r. ⌜ r ≡ first (entryCauses (indexOf terms (now (marks .entry)) (now (codes .entry)) (now (vectors .entry)))
         (now (query .entry)) (terms .k) (roomOf entries reads)) ⌝ }
 {
     match layout::check_shape(terms.d, terms.b) {
@@ -42,7 +42,7 @@ fn check_shaped(
     reads: usize,
 ) -> Verdict
     requires { ⌜ first (shapeCauses (terms .d) (terms .b)) ≡ Accepted ⌝ }
-    ensures { λ r. ⌜ r ≡ first (shapedCauses (library terms (now (marks .entry)) (now (codes .entry)) (now (vectors .entry)))
+    ensures { λ r. ⌜ r ≡ first (shapedCauses (indexOf terms (now (marks .entry)) (now (codes .entry)) (now (vectors .entry)))
         (now (query .entry)) (terms .k) (roomOf entries reads)) ⌝ }
 {
     if !limits::is_vector_count(terms.n) {
@@ -54,7 +54,7 @@ fn check_shaped(
     if !exact_lengths(terms, query, marks, codes, vectors, entries, reads) {
         return Verdict::Refused(Refusal::Length);
     }
-    if !whole::components::are_components(query) {
+    if !signed::components::are_components(query) {
         return Verdict::Refused(Refusal::Component);
     }
     cells::check_codes(terms.d, terms.b, terms.n, marks, codes)
@@ -71,7 +71,7 @@ fn exact_lengths(
     reads: usize,
 ) -> bool
     requires { ⌜ (first (shapeCauses (terms .d) (terms .b)) ≡ Accepted) × (terms .n ≤ maxVectors) ⌝ }
-    ensures { λ r. ⌜ r ≡ exactLengths (library terms (now (marks .entry)) (now (codes .entry)) (now (vectors .entry)))
+    ensures { λ r. ⌜ r ≡ exactLengths (indexOf terms (now (marks .entry)) (now (codes .entry)) (now (vectors .entry)))
         (now (query .entry)) (terms .k) (roomOf entries reads) ⌝ }
 {
     if query.len() != terms.d {

@@ -17,7 +17,8 @@ use Rattle.selection.specs.Steps.{stopped, along, next-best}
 
 module _ (k : ℕ) (distance : ℕ → ℕ) where
   -- where the reading stops, the rest is behind the k-th best
-  stopped-exact : (p : Pair) (ps : List Pair) (state : Reading) → goesOn k (state .best) p ≡ false → state .best ≡ scan k distance (state .reads)
+  stopped-exact : (p : Pair) (ps : List Pair) (state : Reading) → goesOn k (state .best) p ≡ false
+      → state .best ≡ scan k distance (state .reads)
       → Sorted (p ∷ ps) → ((q : Pair) → q ∈ (p ∷ ps) → q .key ≤ distance (q .number))
       → state .best ≡ scan k distance (state .reads ++ numbersOf (p ∷ ps))
   stopped-exact p ps state stop e sorted low =

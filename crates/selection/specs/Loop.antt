@@ -22,7 +22,8 @@ module _ (k : ℕ) (distance : ℕ → ℕ) (p : Pair) (ps : List Pair) (state :
   unfolding reading
   reading-stops e = rw e
 
-  pub reading-goes-on : goesOn k (state .best) p ≡ true → reading k distance (p ∷ ps) state ≡ reading k distance ps (readNext k distance state (p .number))
+  pub reading-goes-on : goesOn k (state .best) p ≡ true
+      → reading k distance (p ∷ ps) state ≡ reading k distance ps (readNext k distance state (p .number))
   unfolding reading
   reading-goes-on e = rw e
 
@@ -60,7 +61,8 @@ module _ (k : ℕ) (low distance : ℕ → ℕ) (numbers : List ℕ) where
     pub reached-next : done < length numbers
         → goesOn k ((after k low distance numbers done) .best) (pairOf low (getD (readingOrder low numbers) done 0)) ≡ true
         → Reached k low distance numbers (suc done)
-    reached-next more goes = record { rest = rw (after-next done more) (rw (reading-goes-on k distance _ _ (after k low distance numbers done) goes) at (rest-split more)) }
+    reached-next more goes =
+        record { rest = rw (after-next done more) (rw (reading-goes-on k distance _ _ (after k low distance numbers done) goes) at (rest-split more)) }
 
     pub reached-stop : done < length numbers
         → goesOn k ((after k low distance numbers done) .best) (pairOf low (getD (readingOrder low numbers) done 0)) ≡ false
@@ -69,7 +71,8 @@ module _ (k : ℕ) (low distance : ℕ → ℕ) (numbers : List ℕ) where
 
     pub reached-end : length numbers ≤ done → read k low distance numbers ≡ after k low distance numbers done
     unfolding keyed reading
-    reached-end all = sym (rw (drop-of-length-le (readingOrder low numbers) {i = done} (omega (arith, ranked-count low numbers))) at (reached .rest))
+    reached-end all =
+        sym (rw (drop-of-length-le (readingOrder low numbers) {i = done} (omega (arith, ranked-count low numbers))) at (reached .rest))
 
   -- the first k are read, whatever their lows are, and from then on there are k best
   best-count : (done : ℕ) → done ≤ length numbers → length ((after k low distance numbers done) .best) ≡ min k done
@@ -78,7 +81,8 @@ module _ (k : ℕ) (low distance : ℕ → ℕ) (numbers : List ℕ) where
       scan-length k distance (take done (readingOrder low numbers))
       ∙ ap (min k) (length-take-le done (readingOrder low numbers) (omega (arith, ranked-count low numbers)))
 
-  pub goes-on-first : (done : ℕ) → done < k → done ≤ length numbers → (p : Pair) → goesOn k ((after k low distance numbers done) .best) p ≡ true
+  pub goes-on-first : (done : ℕ) → done < k → done ≤ length numbers → (p : Pair)
+      → goesOn k ((after k low distance numbers done) .best) p ≡ true
   unfolding goesOn
   goes-on-first done few within p =
       let short : length ((after k low distance numbers done) .best) < k = omega (arith, best-count done within) in
@@ -86,7 +90,8 @@ module _ (k : ℕ) (low distance : ℕ → ℕ) (numbers : List ℕ) where
 
   pub reached-first : (done : ℕ) → done ≤ k → k ≤ length numbers → Reached k low distance numbers done
   reached-first zero few enough = reached-start
-  reached-first (suc done) few enough = reached-next done (reached-first done (omega arith) enough) (omega arith) (goes-on-first done (omega arith) (omega arith) _)
+  reached-first (suc done) few enough =
+      reached-next done (reached-first done (omega arith) enough) (omega arith) (goes-on-first done (omega arith) (omega arith) _)
 
   pub full-after : (done : ℕ) → k ≤ done → done ≤ length numbers → length ((after k low distance numbers done) .best) ≡ k
   full-after done all within = omega (arith, best-count done within)

@@ -58,7 +58,8 @@ scan-late k distance before (p ∷ ps) full late =
 
 -- behind p they leave p in the answer
 pub scan-keeps : (k : ℕ) (distance : ℕ → ℕ) (before : List ℕ) (ps : List Pair) {p : Pair}
-    → ((q : Pair) → q ∈ ps → AtMost p (pairOf distance (q .number))) → p ∈ scan k distance before → p ∈ scan k distance (before ++ numbersOf ps)
+    → ((q : Pair) → q ∈ ps → AtMost p (pairOf distance (q .number))) → p ∈ scan k distance before
+    → p ∈ scan k distance (before ++ numbersOf ps)
 unfolding scan numbersOf
 scan-keeps k distance before [] late m = rw append-nil m
 scan-keeps k distance before (p ∷ ps) late m =
@@ -68,7 +69,8 @@ scan-keeps k distance before (p ∷ ps) late m =
 
 -- ---- a ranking by lows
 
-pub ranked-lower : (low distance : ℕ → ℕ) (is : List ℕ) → LowerBound low distance is → (q : Pair) → q ∈ ranked low is → q .key ≤ distance (q .number)
+pub ranked-lower : (low distance : ℕ → ℕ) (is : List ℕ) → LowerBound low distance is → (q : Pair) → q ∈ ranked low is
+    → q .key ≤ distance (q .number)
 ranked-lower low distance is lower q m =
     let entry = member-ranked low is m in
     rw (entry .its-key) (lower (q .number) (entry .its-number))

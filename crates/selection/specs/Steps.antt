@@ -33,7 +33,8 @@ stopped k best p e =
     record { full = omega (arith, ltb-false); late = below-false p (getD best (k - 1) leastPair) (tests .1) }
 
 -- where it goes on, the pair itself would be one of the k best
-enters-first : (m : ℕ) (p : Pair) (best : List Pair) → (ltb (length best) (suc m) || below p (getD best m leastPair)) ≡ true → p ∈ take (suc m) (insert p best)
+enters-first : (m : ℕ) (p : Pair) (best : List Pair) → (ltb (length best) (suc m) || below p (getD best m leastPair)) ≡ true
+    → p ∈ take (suc m) (insert p best)
 unfolding insert
 enters-first m p [] e = List·Memᴰ·head refl
 enters-first zero p (b ∷ bs) e = rw (not-below (below-true p b (rw (le-ltb (suc (length bs)) 1 (omega arith)) at e))) (List·Memᴰ·head refl)
@@ -63,7 +64,8 @@ module _ (k : ℕ) (distance : ℕ → ℕ) where
         → P (p ∷ ps) state (reading k distance ps (readNext k distance state (p .number)))
 
   -- holds of the whole
-  pub along : {P : List Pair → Reading → Reading → Type 0} → Along P → (ps : List Pair) (state : Reading) → P ps state (reading k distance ps state)
+  pub along : {P : List Pair → Reading → Reading → Type 0} → Along P → (ps : List Pair) (state : Reading)
+      → P ps state (reading k distance ps state)
   unfolding reading
   along a [] state = a .at-end state
   along {P} a (p ∷ ps) state = go (goesOn k (state .best) p) refl (along a ps (readNext k distance state (p .number)))
@@ -115,7 +117,8 @@ module _ (k : ℕ) (distance : ℕ → ℕ) where
 
   -- ---- the numbers read are the first of the ranking
 
-  pub reading-reads : (ps : List Pair) (state : Reading) → (m : ℕ) × ((reading k distance ps state) .reads ≡ state .reads ++ take m (numbersOf ps))
+  pub reading-reads : (ps : List Pair) (state : Reading)
+      → (m : ℕ) × ((reading k distance ps state) .reads ≡ state .reads ++ take m (numbersOf ps))
   unfolding readNext numbersOf
   reading-reads =
       along {P = λ ps state end. (m : ℕ) × (end .reads ≡ state .reads ++ take m (numbersOf ps))}

@@ -73,13 +73,15 @@ module _ (k : ℕ) (low distance : ℕ → ℕ) (numbers : List ℕ) where
   pub exact : LowerBound low distance numbers → (read k low distance numbers) .best ≡ scan k distance numbers
   unfolding read unread
   exact lower =
-      reading-exact k distance (ranked low numbers) unread (unread-best k distance) (ranked-sorted low numbers) (ranked-lower low distance numbers lower)
+      reading-exact k distance (ranked low numbers) unread (unread-best k distance) (ranked-sorted low numbers)
+      (ranked-lower low distance numbers lower)
       ∙ scan-ranked k distance low numbers
 
   -- ---- stable: the distances of unread numbers do not matter
 
   -- the reading is the same, best and reads
-  pub stable : (other : ℕ → ℕ) → Agree ((read k low distance numbers) .reads) other distance → read k low other numbers ≡ read k low distance numbers
+  pub stable : (other : ℕ → ℕ) → Agree ((read k low distance numbers) .reads) other distance
+      → read k low other numbers ≡ read k low distance numbers
   unfolding read
   stable other agree = reading-stable k distance other (ranked low numbers) unread agree
 

@@ -7,7 +7,7 @@ use borrow.Author.Tests.{leb-true, ltb-true, ltb-false}
 use lib.Dec.{ltb}
 use lib.IntN.{ℤ, pos, negsuc, natAbs, predℤ, subℕ}
 use lib.Signed.{mag, leZ}
-use Rattle.whole.specs.Keys.{keyOf}
+use Rattle.signed.specs.Keys.{keyOf}
 use Rattle.step.specs.Step.{gap}
 
 unfoldable pub place : ℕ → ℤ → ℕ

@@ -88,5 +88,7 @@ module _ (q low high : ℤ) (some : ltZ low high ≡ true) where
   longest-reached = go (ltb (gap q low) (gap q (predℤ high))) refl
     where
       go : (t : Bool) → ltb (gap q low) (gap q (predℤ high)) ≡ t → Reached longest q low high
-      go true e = record { v = predℤ high; inside = last-inside; is = unfold longest in omega (arith, ltb-true (gap q low) (gap q (predℤ high)) e) }
-      go false e = record { v = low; inside = first-inside; is = unfold longest in omega (arith, ltb-false (gap q low) (gap q (predℤ high)) e) }
+      go true e =
+          record { v = predℤ high; inside = last-inside; is = unfold longest in omega (arith, ltb-true (gap q low) (gap q (predℤ high)) e) }
+      go false e =
+          record { v = low; inside = first-inside; is = unfold longest in omega (arith, ltb-false (gap q low) (gap q (predℤ high)) e) }

@@ -24,16 +24,16 @@ fn gap(a: i32, b: i32) -> u32
     ensures { λ r. ⌜ r ≡ Step.gap a b ⌝ }
 {
     if a < b {
-        return (whole::key(b) - whole::key(a)) as u32;
+        return (signed::key(b) - signed::key(a)) as u32;
     }
-    (whole::key(a) - whole::key(b)) as u32
+    (signed::key(a) - signed::key(b)) as u32
 }
 
 // How far a number is from the last value before a mark.
 fn gap_to_last(q: i32, high: i32) -> u64
     ensures { λ r. ⌜ (r ≡ Step.gap q (predℤ high)) × (r ≤ 2 ^ 32) ⌝ }
 {
-    difference(whole::key(q) + 1, whole::key(high))
+    difference(signed::key(q) + 1, signed::key(high))
 }
 
 fn difference(k: u64, l: u64) -> u64

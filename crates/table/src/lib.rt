@@ -16,7 +16,7 @@ pub fn fill_steps(bound: Bound, q: i32, marks: &[i32], steps: &mut [u64])
 {
     let mut r = 0;
     while r < steps.len() {
-        steps[r] = step::squared_step(bound, q, whole::at(marks, r), whole::at(marks, r + 1));
+        steps[r] = step::squared_step(bound, q, signed::at(marks, r), signed::at(marks, r + 1));
         r += 1;
     }
 }

@@ -79,8 +79,10 @@ module _ {M : Type 1} (𝓤 : URA M) (H : Heap 𝓤) (A : Atoms 𝓤) (W : Given
   pub own-passed : (Ts : List RattleType) (more : Denots Ts) (vss : Valss Ts)
       → ent 𝓤 (⋆ 𝓤 H A (‵ (owns Ts more vss) ∷ ‵ (Own κ (x .marks)) ∷ [])) (sem 𝓤 H A (owns (typesOf κ Ts) (args κ Ts x more) (vals κ Ts x vss)))
   own-passed Ts more vss =
-      qed W (‵ (owns Ts more vss) ∷ ‵ (Own κ (x .marks)) ∷ []) ∵ owned ! usize (Is usize) (uint-makes 𝓤 H A W w64) (x .j) _ (refl, x .j-fits) $ fjoin ! $ move ! (1 ∷ 0 ∷ []) $ fjoin ! $
-      owned ! usize (Is usize) (uint-makes 𝓤 H A W w64) (x .b) _ (refl, x .b-fits) $ fjoin ! $ owned ! usize (Is usize) (uint-makes 𝓤 H A W w64) (x .d) _ (refl, x .d-fits) $ fjoin ! $ done !
+      qed W (‵ (owns Ts more vss) ∷ ‵ (Own κ (x .marks)) ∷ []) ∵ owned ! usize (Is usize) (uint-makes 𝓤 H A W w64) (x .j) _
+      (refl, x .j-fits) $ fjoin ! $ move ! (1 ∷ 0 ∷ []) $ fjoin ! $
+      owned ! usize (Is usize) (uint-makes 𝓤 H A W w64) (x .b) _ (refl, x .b-fits) $ fjoin ! $ owned ! usize (Is usize)
+      (uint-makes 𝓤 H A W w64) (x .d) _ (refl, x .d-fits) $ fjoin ! $ done !
 
   -- What is passed is passed on, without the parameters behind it, and what the marks own is kept.
   pub passes-on : (q : Share) (Ts : List RattleType) (more : Denots Ts) (vss : Valss Ts)
@@ -89,7 +91,8 @@ module _ {M : Type 1} (𝓤 : URA M) (H : Heap 𝓤) (A : Atoms 𝓤) (W : Given
   passes-on q Ts more vss =
       qed W ((‵ (flft κ q) ⊛ ‵ ftrue) ∷ ‵ (owns (typesOf κ Ts) (args κ Ts x more) (vals κ Ts x vss)) ∷ []) ∵ frame ! $
       fsplit ! $ drop ! $ fsplit ! $ drop ! $ fsplit ! $ move ! (1 ∷ []) $ drop ! $
-      use1 W (‵ (Own κ (x .marks)) ⊛ ‵ (Own κ (x .marks))) (shr-slice-copy 𝓤 H A W (named 0) κ i32 .twice (x .marks) (lent (x .marks) ∷ [])) $ split ! $
+      use1 W (‵ (Own κ (x .marks)) ⊛ ‵ (Own κ (x .marks)))
+      (shr-slice-copy 𝓤 H A W (named 0) κ i32 .twice (x .marks) (lent (x .marks) ∷ [])) $ split ! $
       nothing ! $ use2 W (‵ (owns (typesOf κ []) (args κ [] x tt) (vals κ [] x tt))) (own-passed [] tt tt) $ frame ! $ done !
 
 -- The parameters of a function that is passed a dimension alone, and hands back R, stay as they were passed.
@@ -97,10 +100,12 @@ abbrev slots : List (Slot 1)
 slots = plain (λ _. usize) ∷ plain (λ _. usize) ∷ SliceRefOf (0 ∷ []) tt (plain (λ _. i32)) (λ _. tt) ∷ plain (λ _. usize) ∷ []
 
 abbrev OfDimension : Slot 1 → Ended
-OfDimension R = record { signature = record { lifetimes = 1; outlives = []; params = slots; result = R }; kept = (yes, (yes, (yes, (yes, tt)))) }
+OfDimension R =
+    record { signature = record { lifetimes = 1; outlives = []; params = slots; result = R }; kept = (yes, (yes, (yes, (yes, tt)))) }
 
 abbrev pub stayed : Stays slots (yes, (yes, (yes, (yes, tt))))
-stayed = (stay-none (λ _. usize) yes, (stay-none (λ _. usize) yes, (stay-none-slice (0 ∷ []) tt (plain (λ _. i32)) yes, (stay-none (λ _. usize) yes, tt))))
+stayed =
+    (stay-none (λ _. usize) yes, (stay-none (λ _. usize) yes, (stay-none-slice (0 ∷ []) tt (plain (λ _. i32)) yes, (stay-none (λ _. usize) yes, tt))))
 
 -- Such a function meets its contract if the walk of its MIR f, from the machine values written out, ends as the contract says.
 pub dimension-meets : {M : Type 1} (𝓤 : URA M) (H : Heap 𝓤) (A : Atoms 𝓤) (W : Given 𝓤 H A) (R : Slot 1) (c : Clauses 𝓤 (OfDimension R)) (𝓣 : Tables 𝓤 H) (f : Fn)
@@ -110,13 +115,15 @@ pub dimension-meets : {M : Type 1} (𝓤 : URA M) (H : Heap 𝓤) (A : Atoms �
 dimension-meets 𝓤 H A W R c 𝓣 f walk = walk-meets 𝓤 H A (OfDimension R) stayed W
     (goes-none 𝓤 H A W 1 (λ _. usize) yes (λ κs x f. refl), (goes-none 𝓤 H A W 1 (λ _. usize) yes (λ κs x f. refl), (goes-none-slice 𝓤 H A W 1 (0 ∷ []) tt (plain (λ _. i32)) yes, (goes-none 𝓤 H A W 1 (λ _. usize) yes (λ κs x f. refl), tt))))
     c (WpFn 𝓤 H (𝓣 .C) (𝓣 .Λ) f) (WpFn-mono 𝓤 H (W .laws) 𝓣 f) (walked 𝓤 H A (OfDimension R) stayed c (WpFn 𝓤 H (𝓣 .C) (𝓣 .Λ) f)
-    (λ κs. (uint-vals w64, (uint-vals w64, (slice-vals, (uint-vals w64, tt))))) (λ κs. (uint-tells w64, (uint-tells w64, (shr-slice-tells (named 0) (κs .0) i32, (uint-tells w64, tt)))))
+    (λ κs. (uint-vals w64, (uint-vals w64, (slice-vals, (uint-vals w64, tt)))))
+    (λ κs. (uint-tells w64, (uint-tells w64, (shr-slice-tells (named 0) (κs .0) i32, (uint-tells w64, tt)))))
     (λ κs qs bounds a g are. via 𝓤 _ (fst∗ 𝓤 _ (c κs a .requires g)) (walk (κs .0) (qs .0)
     (record { d = a .0; b = a .1 .0; marks = a .1 .1 .0; j = a .1 .1 .1 .0; d-fits = are .0 .1; b-fits = are .1 .0 .1; j-fits = are .1 .1 .1 .0 .1 }) g (are .1 .1 .0))))
 
 -- The contract of `view_of` says this of a view.
 abbrev pub Seen : Asked → View → Type 0
-Seen x r = (now (r .marks) ≡ seenMarks (x .d) (x .b) (now (x .marks)) (x .j)) × (r .regions ≡ seenRegions (x .d) (x .b) (now (x .marks)) (x .j))
+Seen x r =
+    (now (r .marks) ≡ seenMarks (x .d) (x .b) (now (x .marks)) (x .j)) × (r .regions ≡ seenRegions (x .d) (x .b) (now (x .marks)) (x .j))
 
 -- A call of `view_of` is passed this, asks for this, and leaves this known of its result.
 module _ {M : Type 1} (𝓤 : URA M) (H : Heap 𝓤) (A : Atoms 𝓤) (mem : Memory → SProp 𝓤) (run : Routine → Fun 𝓤) where
@@ -131,7 +138,9 @@ module _ {M : Type 1} (𝓤 : URA M) (H : Heap 𝓤) (A : Atoms 𝓤) (mem : Mem
   goes-view W κ q x Ts more vss =
       via 𝓤 _ (passes-on 𝓤 H A W κ x q Ts more vss)
       (qed W ((‵ (flft κ q) ⊛ ‵ ftrue) ∷ ‵ (owns (typesOf κ []) (args κ [] x tt) (vals κ [] x tt)) ∷ ‵ (Own κ (x .marks)) ∷ []) ∵
-      use2 W (raw (ViewOf .pre (to-view κ q x))) (qed W ((‵ (flft κ q) ⊛ ‵ ftrue) ∷ ‵ (owns (typesOf κ []) (args κ [] x tt) (vals κ [] x tt)) ∷ []) ∵ join ! $ frame ! $ done !) $ frame ! $ done !)
+      use2 W (raw (ViewOf .pre (to-view κ q x)))
+      (qed W ((‵ (flft κ q) ⊛ ‵ ftrue) ∷ ‵ (owns (typesOf κ []) (args κ [] x tt) (vals κ [] x tt)) ∷ []) ∵ join ! $ frame ! $ done !) $ frame ! $ done !)
 
-  pub view-said : (κ : Lft) (x : Asked) (r : View) → ent 𝓤 (ensured 𝓤 H A view-of.ended (view-of.clauses 𝓤 H A mem run) (κ, tt) (args κ [] x tt) tt r) (fact 𝓤 (Seen x r))
+  pub view-said : (κ : Lft) (x : Asked) (r : View)
+      → ent 𝓤 (ensured 𝓤 H A view-of.ended (view-of.clauses 𝓤 H A mem run) (κ, tt) (args κ [] x tt) tt r) (fact 𝓤 (Seen x r))
   view-said κ x r = exE 𝓤 _ (λ ws. snd∗ 𝓤 (sem 𝓤 H A (lasts view-of.ended (κ, tt) (args κ [] x tt) ws)) (fact 𝓤 (Seen x r)))

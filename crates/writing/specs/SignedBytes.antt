@@ -7,7 +7,7 @@ use lib.IntN.{ℤ, pos, negsuc}
 use lib.Signed.{mag}
 use mir.Syntax.{w16, w32}
 use mir.Val.{ofZ}
-use Rattle.whole.specs.Keys.{keyOf}
+use Rattle.signed.specs.Keys.{keyOf}
 use Rattle.records.specs.Bytes.{lowFirst}
 
 -- x has the low bytes of z, which has 32 bits

@@ -8,7 +8,7 @@ use lib.ListN.{length}
 use Rattle.refusal.specs.declared.Verdict.the-variants.{Accepted}
 use Rattle.refusal.specs.First.{first}
 use Rattle.limits.specs.Limits.{maxDimensions, maxVectors}
-use Rattle.whole.specs.Components.{areComponents}
+use Rattle.signed.specs.Components.{areComponents}
 use Rattle.layout.specs.Stretch.{shapeCauses}
 use Rattle.library.specs.Library.{markTotal, vectorPlace}
 

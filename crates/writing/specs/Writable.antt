@@ -14,7 +14,7 @@ use Rattle.refusal.specs.declared.Verdict.the-variants.{Accepted}
 use Rattle.refusal.specs.First.{first, passed}
 use Rattle.limits.specs.Limits.{maxVectors, isVectorCount, isComponent}
 use Rattle.limits.specs.Tests.{between}
-use Rattle.whole.specs.Components.{areComponents}
+use Rattle.signed.specs.Components.{areComponents}
 use Rattle.layout.specs.Stretch.{Shape, shapeCauses, shape}
 use Rattle.partition.specs.Marks.{goodMarks}
 use Rattle.records.specs.RowLaws.{both}

@@ -7,7 +7,7 @@ use lib.ListN.{length}
 use Rattle.refusal.specs.declared.Refusal.the-variants.{Count, Length, Component, Mark, Outside}
 use Rattle.refusal.specs.First.{Row, _⇒_}
 use Rattle.limits.specs.Limits.{isVectorCount}
-use Rattle.whole.specs.Components.{areComponents}
+use Rattle.signed.specs.Components.{areComponents}
 use Rattle.layout.specs.Stretch.{shapeCauses}
 use Rattle.partition.specs.Marks.{goodMarks}
 use Rattle.library.specs.Each.{every}

@@ -78,7 +78,7 @@ fn check_values(d: usize, b: usize, n: usize, marks: &[i32], components: &[i32])
     requires { ⌜ Sized d b n (now marks) (now components) ⌝ }
     ensures { λ r. ⌜ r ≡ first (valueCauses (libraryWith d b n (now (marks .entry)) [] (now (components .entry)))) ⌝ }
 {
-    if !whole::components::are_components(components) {
+    if !signed::components::are_components(components) {
         return Verdict::Refused(Refusal::Component);
     }
     let Verdict::Accepted = partition::check_marks(d, b, marks) else {
@@ -114,8 +114,8 @@ fn fill_ends(d: usize, b: usize, marks: &[i32], lows: &mut [i32], highs: &mut [i
         let stretch = layout::stretch_of(d, b, t + 1);
         let first = stretch.offset;
         let last = first + regions(stretch.bits);
-        lows[t] = whole::at(marks, first);
-        highs[t] = whole::at(marks, last);
+        lows[t] = signed::at(marks, first);
+        highs[t] = signed::at(marks, last);
         t += 1;
     }
 }

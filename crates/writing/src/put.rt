@@ -121,7 +121,7 @@ fn write_zeros(from: usize, to: usize, bytes: &mut [u8])
 fn bits_of(z: i32) -> u64
     ensures { λ r. ⌜ Bits r z ⌝ }
 {
-    whole::key(z) + 0x8000_0000
+    signed::key(z) + 0x8000_0000
 }
 
 // A number's lowest byte, into the buffer at an index.

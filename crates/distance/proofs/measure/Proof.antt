@@ -9,7 +9,7 @@ use lib.ListN.{length}
 use Rattle.refusal.specs.First.{first}
 use Rattle.limits.specs.Limits.{isDimensionCount, maxDimensions}
 use Rattle.limits.specs.Tests.{between}
-use Rattle.whole.specs.Components.{areComponents}
+use Rattle.signed.specs.Components.{areComponents}
 use Rattle.distance.specs.declared.Distance.the-variants.{Squared}
 use Rattle.distance.specs.Small.{distance-small}
 use Rattle.distance.proofs.measure.Statement.{statement}

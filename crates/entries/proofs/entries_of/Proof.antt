@@ -13,17 +13,17 @@ use Rattle.entries.proofs.entries_of.Statement.{statement}
 use Rattle.entries.proofs.entries_of.Tie as tie
 
 -- the loop's invariant
-record Holds (keys numbers : List ℕ) (count : ℕ) (entries : List Entry) (i : ℕ) : Type 0 where
+record Filling (keys numbers : List ℕ) (count : ℕ) (entries : List Entry) (i : ℕ) : Type 0 where
   within : i ≤ count
   are : entries ≡ inArray (take i (entriesOf (pairsOf keys numbers)))
 
 abbrev Inv-loop : tie.InvT-loop
-Inv-loop keys numbers count entries₀ i₀ entries i = Holds keys numbers count entries i
+Inv-loop keys numbers count entries₀ i₀ entries i = Filling keys numbers count entries i
 
 abbrev μ-loop : tie.MeasureT-loop
 μ-loop keys numbers count entries₀ i₀ entries i = count - i
 
-module _ {keys numbers : List ℕ} {count : ℕ} {entries : List Entry} {i : ℕ} (at : Holds keys numbers count entries i)
+module _ {keys numbers : List ℕ} {count : ℕ} {entries : List Entry} {i : ℕ} (at : Filling keys numbers count entries i)
     (counted : count ≡ min (min (length keys) (length numbers)) maxNeighbours) where
   long : length (entriesOf (pairsOf keys numbers)) ≡ min (length keys) (length numbers)
   long = entries-length (pairsOf keys numbers) ∙ pairs-length keys numbers
@@ -31,7 +31,7 @@ module _ {keys numbers : List ℕ} {count : ℕ} {entries : List Entry} {i : ℕ
   size : length entries ≡ maxNeighbours
   size = ap length (at .are) ∙ array-length (take i (entriesOf (pairsOf keys numbers)))
 
-  turn : i < count → Holds keys numbers count (set entries i (record { number = getD numbers i 0; distance = getD keys i 0 })) (i + 1)
+  turn : i < count → Filling keys numbers count (set entries i (record { number = getD numbers i 0; distance = getD keys i 0 })) (i + 1)
   turn more = record {
     within = omega arith;
     are = rw (at .are, ← entry-at keys numbers i (omega (arith, counted)))

@@ -5,15 +5,15 @@ use borrow.Author.Needs.{needs}
 use Rattle.refusal.specs.declared.Verdict.{Verdict}
 use Rattle.refusal.specs.declared.Verdict.the-variants.{Accepted}
 use Rattle.refusal.specs.First.{first}
-use Rattle.search.specs.Search.{Library, Room, entryCauses}
-use Rattle.search.specs.Ready.{library, roomOf, entered}
+use Rattle.search.specs.Search.{Index, Room, entryCauses}
+use Rattle.search.specs.Ready.{indexOf, roomOf, entered}
 use Rattle.least_reading.specs.Searching.{behind-entry, searches-by, searches-none, refused-at-entry}
 use Rattle.least_reading.proofs.nearest_by_bounds.Statement.{statement}
 use Rattle.least_reading.proofs.nearest_by_bounds.Tie as tie
 
 -- the library that was handed in, and the room for the answer
-abbrev given : tie.Start → Library
-given s = library (s .args .terms) (s .args .marks .now) (s .args .codes .now) (s .args .vectors .now)
+abbrev given : tie.Start → Index
+given s = indexOf (s .args .terms) (s .args .marks .now) (s .args .codes .now) (s .args .vectors .now)
 
 abbrev room : tie.Start → Room
 room s = roomOf (s .args .entries) (length (s .args .reads .now))

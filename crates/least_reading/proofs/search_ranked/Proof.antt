@@ -22,9 +22,9 @@ use Rattle.entries.specs.Entries.{entriesOf, inArray}
 use Rattle.search.specs.declared.Searched.{Searched}
 use Rattle.search.specs.declared.Searched.the-variants.{Read, Refused}
 use Rattle.search.specs.Answer.{searchedCount, foundCount}
-use Rattle.search.specs.Search.{Library, numbersIn, distanceIn, lowIn, inOwnCells, searched}
+use Rattle.search.specs.Search.{Index, numbersIn, distanceIn, lowIn, inOwnCells, searched}
 use Rattle.search.specs.Theorems.{reads-are-the-order}
-use Rattle.search.specs.Ready.{library}
+use Rattle.search.specs.Ready.{indexOf}
 use Rattle.least_reading.specs.Answered.{Reads}
 use Rattle.least_reading.specs.Searching.{Searches, cellCauses, searches-none, tells-read, tells-refused, cells-accepted, cells-refused}
 use Rattle.least_reading.proofs.search_ranked.Statement.{statement}
@@ -38,7 +38,7 @@ no-pairs : (numbers : List ℕ) → entriesOf (pairsOf [] numbers) ≡ []
 unfolding entriesOf pairsOf
 no-pairs numbers = refl
 
-module _ (l : Library) (query : List ℤ) (k : ℕ) {keys best : List ℕ} where
+module _ (l : Index) (query : List ℤ) (k : ℕ) {keys best : List ℕ} where
   count-most : (r : Searched) → Reads l query k r keys best → searchedCount r ≤ l .n
   count-most (Read count) read =
       let told = tells-read (inOwnCells l (searched l query k .reads)) (length (searched l query k .reads)) count (sym (read .answer)) in
@@ -76,8 +76,8 @@ module _ (l : Library) (query : List ℤ) (k : ℕ) {keys best : List ℕ} where
       rw (its, put) left
 
 -- the library that was handed in
-abbrev given : tie.Start → Library
-given s = library (s .args .terms) (s .args .marks .now) (s .args .codes .now) (s .args .vectors .now)
+abbrev given : tie.Start → Index
+given s = indexOf (s .args .terms) (s .args .marks .now) (s .args .codes .now) (s .args .vectors .now)
 
 order-length : (s : tie.Start) → length (s .args .order .now) ≡ s .args .terms .n
 order-length s =

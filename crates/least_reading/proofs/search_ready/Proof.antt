@@ -13,8 +13,8 @@ use Rattle.order.proofs.Prefix.{back-within, shared-is}
 use Rattle.selection.specs.Reading.{readingOrder}
 use Rattle.distance.specs.Values.{valuesFrom, values-length}
 use Rattle.scan.specs.Ranked.{values-ranking}
-use Rattle.search.specs.Search.{Library, numbersIn, lowIn}
-use Rattle.search.specs.Ready.{library}
+use Rattle.search.specs.Search.{Index, numbersIn, lowIn}
+use Rattle.search.specs.Ready.{indexOf}
 use Rattle.least_reading.specs.Bounding.{bounding}
 use Rattle.least_reading.proofs.search_ready.Statement.{statement}
 use Rattle.least_reading.proofs.search_ready.Tie as tie
@@ -26,8 +26,8 @@ ranks low n lows old back room some few are is size =
     (rw (count, size) at is) ∙ outcome-accepted (ranking lows) (λ _. old) (no-cause n n some few refl) ∙ ap ranking are ∙ values-ranking low n
 
 -- the library that was handed in
-abbrev given : tie.Start → Library
-given s = library (s .args .terms) (s .args .marks .now) (s .args .codes .now) (s .args .vectors .now)
+abbrev given : tie.Start → Index
+given s = indexOf (s .args .terms) (s .args .marks .now) (s .args .codes .now) (s .args .vectors .now)
 
 -- ---- the fronts of the two arrays
 

@@ -30,7 +30,9 @@ passed-1 c = first-next Dimension _ (told (c .before .is-dimension-count .ensure
 passed-2 : (c : tie.Else2) → first (rows 0 (c .before .before .before .before)) ≡ first (rows 2 (c .before .before .before .before))
 passed-2 c = passed-1 (c .before .before) ∙ first-next Bits _ (told (c .before .is-bits .ensures) (c .if2 .left))
 
-passed-3 : (c : tie.Else3) → first (rows 0 (c .before .before .before .before .before .before)) ≡ first (rows 3 (c .before .before .before .before .before .before))
+passed-3 : (c : tie.Else3)
+    → first (rows 0 (c .before .before .before .before .before .before)) ≡ first
+    (rows 3 (c .before .before .before .before .before .before))
 passed-3 c = passed-2 (c .before .before) ∙ first-next Count _ (told (c .before .is-vector-count .ensures) (c .if3 .left))
 
 returns : tie.Need-returns
@@ -46,8 +48,10 @@ returns-3 c = sym (passed-2 (c .before .before) ∙ first-here Count _ (told (c 
 mul-if4 : tie.Need-mul-if4
 mul-if4 c =
     let a = c .before .before .before .before .before .before .args in
-    let vectors = between 1 (a .n) maxVectors (not-false (isVectorCount (a .n)) (told (c .before .is-vector-count .ensures) (c .if3 .left))) in
-    let dimensions = between 1 (a .d) maxDimensions (not-false (isDimensionCount (a .d)) (told (c .before .before .before .before .before .is-dimension-count .ensures) (c .before .before .before .before .if1 .left))) in
+    let vectors =
+    between 1 (a .n) maxVectors (not-false (isVectorCount (a .n)) (told (c .before .is-vector-count .ensures) (c .if3 .left))) in
+    let dimensions =
+    between 1 (a .d) maxDimensions (not-false (isDimensionCount (a .d)) (told (c .before .before .before .before .before .is-dimension-count .ensures) (c .before .before .before .before .if1 .left))) in
     let small : a .n * a .d ≤ maxVectors * maxDimensions = mul-le-mul (vectors .below) (dimensions .below) in
     omega arith
 
@@ -61,7 +65,8 @@ returns-4 c =
 shaped : (c : tie.Else2) → let a = c .before .before .before .before .args in first (shapeCauses (a .d) (a .b)) ≡ Accepted
 shaped c =
     let a = c .before .before .before .before .args in
-    shape-accepted (a .d) (a .b) (told (c .before .before .before .is-dimension-count .ensures) (c .before .before .if1 .left)) (told (c .before .is-bits .ensures) (c .if2 .left))
+    shape-accepted (a .d) (a .b) (told (c .before .before .before .is-dimension-count .ensures) (c .before .before .if1 .left))
+    (told (c .before .is-bits .ensures) (c .if2 .left))
 
 marks-are : (c : tie.After-marks-length) → let a = c .before .before .before .before .before .before .before .before .args in
     c .marks-length .result ≡ firstMarks (a .d) (a .b) (a .d)
@@ -69,7 +74,8 @@ marks-are c = c .marks-length .ensures ∙ marks-length-is _ _ (shaped (c .befor
 
 -- whether the marks buffer's length is the exact one, where the vectors' is
 room-told : {value : Bool} (c : tie.After-marks-length) → let a = c .before .before .before .before .before .before .before .before .args in
-    eqb (a .room) (c .marks-length .result) ≡ value → not (eqb (length (a .vectors .now)) (a .n * a .d) && eqb (a .room) (firstMarks (a .d) (a .b) (a .d))) ≡ not value
+    eqb (a .room) (c .marks-length .result) ≡ value → not
+    (eqb (length (a .vectors .now)) (a .n * a .d) && eqb (a .room) (firstMarks (a .d) (a .b) (a .d))) ≡ not value
 room-told c is =
     let a = c .before .before .before .before .before .before .before .before .args in
     rw (eq-eqb (length (a .vectors .now)) (a .n * a .d) (omega (arith, c .before)), ← marks-are c, is)
@@ -79,10 +85,12 @@ returns-5 c =
     let a = c .before .before .before .before .before .before .before .before .before .args in
     sym (passed-3 (c .before .before .before) ∙ first-here Length _ (room-told (c .before) (ne-eqb (a .room) (c .before .marks-length .result) (omega arith))))
 
-passed-4 : (c : tie.Else5) → let start = c .before .before .before .before .before .before .before .before .before in first (rows 0 start) ≡ first (rows 4 start)
+passed-4 : (c : tie.Else5) → let start =
+    c .before .before .before .before .before .before .before .before .before in first (rows 0 start) ≡ first (rows 4 start)
 passed-4 c =
     let a = c .before .before .before .before .before .before .before .before .before .args in
-    passed-3 (c .before .before .before) ∙ first-next Length _ (room-told (c .before) (eq-eqb (a .room) (c .before .marks-length .result) (omega arith)))
+    passed-3 (c .before .before .before) ∙ first-next Length _
+    (room-told (c .before) (eq-eqb (a .room) (c .before .marks-length .result) (omega arith)))
 
 returns-6 : tie.Need-returns-6
 returns-6 c = sym (passed-4 (c .before .before) ∙ first-here Component _ (told (c .before .are-components .ensures) (c .if6 .taken)))

@@ -6,7 +6,7 @@ use native.Mathlib.Omega.{arith}
 use lib.IntN.{ℤ}
 use lib.ListN.{length, take, length-map, length-set}
 use borrow.Author.Needs.{needs}
-use Rattle.whole.specs.Keys.{keyOf}
+use Rattle.signed.specs.Keys.{keyOf}
 use Rattle.marking.specs.Made.{column}
 use Rattle.marking.specs.InOrder.{column-length, column-key-at}
 use Rattle.marking.proofs.Filled.{filled-one, filled-all}
@@ -21,7 +21,8 @@ Inv-loop d t vectors keys₀ i₀ keys i =
 abbrev μ-loop : tie.MeasureT-loop
 μ-loop d t vectors keys₀ i₀ keys i = length keys₀ - i
 
-index : (c : tie.In-loop Inv-loop μ-loop) → let start = c .before .before .before in c .before .loop .i * start .args .d + start .args .t < 2 ^ 64
+index : (c : tie.In-loop Inv-loop μ-loop) → let start =
+    c .before .before .before in c .before .loop .i * start .args .d + start .args .t < 2 ^ 64
 index c =
     let start = c .before .before .before in
     index-small (c .before .loop .i) (start .pre) (omega (arith, start .pre .count))

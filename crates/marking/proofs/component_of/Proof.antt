@@ -6,7 +6,7 @@ use lib.IntN.{ℤ, pos, _-ℤ_}
 use mir.Syntax.{w32, w64}
 use mir.Val.{SFits, toZ, ofZ}
 use mir.ValLaws.{toZ-pos, toZ-ofZ}
-use Rattle.whole.specs.Keys.{component-small}
+use Rattle.signed.specs.Keys.{component-small}
 use Rattle.marking.specs.KeysInOrder.{wholeOf, ComponentKey, key-component, key-between}
 use Rattle.marking.proofs.component_of.Statement.{statement}
 use Rattle.marking.proofs.component_of.Tie as tie
@@ -36,7 +36,9 @@ cast-result-2 : tie.Need-cast-result-2
 cast-result-2 c = subst⁻¹ (SFits w32) (back (c .args .key) (c .pre)) (small (c .args .key) (c .pre))
 
 returns : tie.Need-returns
-returns c = ap (λ (z : ℤ). toZ w32 (ofZ w32 z)) (back (c .args .key) (c .pre)) ∙ toZ-ofZ w32 (wholeOf (c .args .key)) (small (c .args .key) (c .pre))
+returns c =
+    ap (λ (z : ℤ). toZ w32 (ofZ w32 z)) (back (c .args .key) (c .pre))
+    ∙ toZ-ofZ w32 (wholeOf (c .args .key)) (small (c .args .key) (c .pre))
 
 pub component-of-spec : {M : Type 1} → statement M
 component-of-spec = tie.close (tie.spec cast-result sub-result cast-result-2 returns)

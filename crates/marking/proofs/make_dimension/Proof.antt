@@ -8,7 +8,7 @@ use lib.ListN.{length}
 use lib.Seq.{length-take-le}
 use borrow.Author.Needs.{needs}
 use Rattle.refusal.specs.First.{first, outcome, outcome-accepted}
-use Rattle.whole.specs.Keys.{keyOf}
+use Rattle.signed.specs.Keys.{keyOf}
 use Rattle.order.specs.Rank.{countCauses, no-count-cause}
 use Rattle.order.specs.Words.{inOrder as wordsInOrder}
 use Rattle.order.proofs.Prefix.{back-within, shared-is, shared-length}
@@ -24,16 +24,20 @@ module _ {d n t w room : ℕ} {vectors : List ℤ} (given : MarksOf d n t w vect
   columnKeys = map keyOf (column d n vectors t)
 
   -- the keys that came back from the sort
-  sorted : {keys back : List ℕ} → keys ≡ columnKeys → back ≡ outcome (first (countCauses (length keys))) (wordsInOrder keys) (λ _. keys) → back ≡ wordsInOrder columnKeys
+  sorted : {keys back : List ℕ} → keys ≡ columnKeys → back ≡ outcome (first (countCauses (length keys))) (wordsInOrder keys) (λ _. keys)
+      → back ≡ wordsInOrder columnKeys
   sorted {keys} are is =
       let count : length keys ≡ n = ap length are ∙ keys-length (column d n vectors t) ∙ column-length d n vectors t in
-      is ∙ outcome-accepted _ _ (no-count-cause (length keys) (omega (arith, given .shares .some)) (omega (arith, given .shares .few))) ∙ ap wordsInOrder are
+      is ∙ outcome-accepted _ _ (no-count-cause (length keys) (omega (arith, given .shares .some)) (omega (arith, given .shares .few)))
+      ∙ ap wordsInOrder are
 
   module _ {keys : List ℕ} (count : length keys ≡ n) (are : keys ≡ wordsInOrder columnKeys) where
     asked : (Shares (length keys) w) × (2 ^ w + 1 ≤ room) × (ComponentKeys keys)
-    asked = (rw count (given .shares), given .fits, rw are (component-keys (column d n vectors t) (column-components d n vectors t (given .components))))
+    asked =
+        (rw count (given .shares), given .fits, rw are (component-keys (column d n vectors t) (column-components d n vectors t (given .components))))
 
-    made : (rest : List ℤ) {last : List ℤ} → last ≡ madeDimension (length keys) w (map wholeOf keys) ++ rest → last ≡ madeDimension n w (inOrder (column d n vectors t)) ++ rest
+    made : (rest : List ℤ) {last : List ℤ} → last ≡ madeDimension (length keys) w (map wholeOf keys) ++ rest
+        → last ≡ madeDimension n w (inOrder (column d n vectors t)) ++ rest
     made rest is =
         let ordered = ap (map wholeOf) are ∙ keys-in-order (column d n vectors t) (column-components d n vectors t (given .components)) in
         is ∙ ap (λ (l : List ℤ). l ++ rest) (ap₂ (λ (m : ℕ) (l : List ℤ). madeDimension m w l) count ordered)
@@ -47,7 +51,9 @@ column-keys-requires c κs =
     subst⁻¹ (λ (n : ℕ). ColumnOf (a .d) n (a .t)) (length-take-le _ _ (keys-hold (c .before))) (c .before .pre .of-column)
 
 keys-hold-2 : tie.Need-array-borrow-prefix-keys-2
-keys-hold-2 c = back-within _ _ (c .before .column-keys .last .1 .1 .1 .0) (keys-hold (c .before .before .before)) (c .before .column-keys .kept .1 .1 .1 .0)
+keys-hold-2 c =
+    back-within _ _ (c .before .column-keys .last .1 .1 .1 .0) (keys-hold (c .before .before .before))
+    (c .before .column-keys .kept .1 .1 .1 .0)
 
 keys-within : tie.Need-array-share-prefix-keys
 keys-within c = back-within _ _ (c .before .sort .last .0) (keys-hold-2 (c .before .before .before)) (c .before .sort .kept .0)
@@ -71,14 +77,16 @@ write-marks-requires c κs =
     let back = c .before .before .before in
     let hold = keys-hold-2 (back .before .before) in
     asked (back .before .before .before .before .before .pre)
-    (shared-length _ _ (back .sort .last .0) hold (back .sort .kept .0)) (shared-is _ _ (back .sort .last .0) hold (back .sort .kept .0) ∙ ordered back)
+    (shared-length _ _ (back .sort .last .0) hold (back .sort .kept .0))
+    (shared-is _ _ (back .sort .last .0) hold (back .sort .kept .0) ∙ ordered back)
 
 returns : tie.Need-returns
 returns c =
     let back = c .before .before .before .before .before in
     let hold = keys-hold-2 (back .before .before) in
     made (back .before .before .before .before .before .pre)
-    (shared-length _ _ (back .sort .last .0) hold (back .sort .kept .0)) (shared-is _ _ (back .sort .last .0) hold (back .sort .kept .0) ∙ ordered back)
+    (shared-length _ _ (back .sort .last .0) hold (back .sort .kept .0))
+    (shared-is _ _ (back .sort .last .0) hold (back .sort .kept .0) ∙ ordered back)
     _ (c .before .write-marks .ensures)
 
 pub make-dimension-spec : {M : Type 1} → statement M

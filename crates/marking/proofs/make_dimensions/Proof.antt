@@ -19,7 +19,8 @@ use Rattle.marking.proofs.make_dimensions.Statement.{statement}
 use Rattle.marking.proofs.make_dimensions.Tie as tie
 
 abbrev Inv-loop : tie.InvT-loop
-Inv-loop d b n vectors marks₀ t₀ marks t = (t ≤ d) × (length marks ≡ length marks₀) × (take (firstMarks d b t) marks ≡ madeFirst d b n vectors t)
+Inv-loop d b n vectors marks₀ t₀ marks t =
+    (t ≤ d) × (length marks ≡ length marks₀) × (take (firstMarks d b t) marks ≡ madeFirst d b n vectors t)
 
 abbrev μ-loop : tie.MeasureT-loop
 μ-loop d b n vectors marks₀ t₀ marks t = d - t
@@ -29,7 +30,8 @@ abbrev μ-loop : tie.MeasureT-loop
 part-length : (o : ℕ) (marks : List ℤ) → length (midOf o (length marks - o) marks) ≡ length marks - o
 part-length o marks = length-take-le (length marks - o) (drop o marks) (rw length-drop (omega arith))
 
-written : (o m k : ℕ) (marks last : List ℤ) → o ≤ length marks → m ≤ length last → take (o + m) (putMid o k marks last) ≡ take o marks ++ take m last
+written : (o m k : ℕ) (marks last : List ℤ) → o ≤ length marks → m ≤ length last
+    → take (o + m) (putMid o k marks last) ≡ take o marks ++ take m last
 written o m k marks last within count =
     ap (λ (n : ℕ). take (n + m) (putMid o k marks last)) (sym (length-take-le o marks within))
     ∙ take-append-add (take o marks) (last ++ postOf o k marks) m
@@ -56,7 +58,9 @@ module _ {d b n : ℕ} {vectors : List ℤ} {room : ℕ} (is : Given d b n vecto
         }
 
     turn : (last : List ℤ) → length last ≡ length (midOf (s .offset) (length marks - s .offset) marks)
-        → last ≡ madeDimension n (s .bits) (inOrder (column d n vectors t)) ++ drop (2 ^ s .bits + 1) (midOf (s .offset) (length marks - s .offset) marks) → take (firstMarks d b t) marks ≡ madeFirst d b n vectors t
+        → last ≡ madeDimension n (s .bits) (inOrder (column d n vectors t)) ++ drop (2 ^ s .bits + 1)
+        (midOf (s .offset) (length marks - s .offset) marks)
+        → take (firstMarks d b t) marks ≡ madeFirst d b n vectors t
         → take (firstMarks d b (t + 1)) (putMid (s .offset) (length marks - s .offset) marks last) ≡ madeFirst d b n vectors (t + 1)
     unfolding madeFirst
     turn last kept made so-far =
@@ -73,10 +77,12 @@ module _ {d b n : ℕ} {vectors : List ℤ} {room : ℕ} (is : Given d b n vecto
         ∙ ap (madeFirst d b n vectors) (sym (add-one t))
 
 -- the call's facts, and the stretch's law at a turn
-facts : (c : tie.Start Inv-loop μ-loop) → Given (c .args .d) (c .args .b) (c .args .n) (c .args .vectors .now) (length (c .args .marks .now))
+facts : (c : tie.Start Inv-loop μ-loop)
+    → Given (c .args .d) (c .args .b) (c .args .n) (c .args .vectors .now) (length (c .args .marks .now))
 facts c = given (c .args .d) (c .args .b) (c .args .n) (c .args .vectors .now) (length (c .args .marks .now)) (c .pre)
 
-in-buffer : (c : tie.After-stretch-of Inv-loop μ-loop) → c .stretch-of .result .offset + (2 ^ c .stretch-of .result .bits + 1) ≤ length (c .before .before .loop .marks)
+in-buffer : (c : tie.After-stretch-of Inv-loop μ-loop)
+    → c .stretch-of .result .offset + (2 ^ c .stretch-of .result .bits + 1) ≤ length (c .before .before .loop .marks)
 in-buffer c =
     let at = c .before .before in
     rw (at .loop .inv .1) (ends (facts (at .before)) (at .loop .t) (c .before .loop-test .taken) (c .stretch-of .result) (c .stretch-of .ensures))
@@ -88,7 +94,8 @@ loop-holds c = (omega arith, refl, refl)
 make-dimension-requires : tie.Need-make-dimension-requires Inv-loop μ-loop
 make-dimension-requires c κs =
     let at = c .before .before .before in
-    asked (facts (at .before)) (at .loop .t) (c .before .before .loop-test .taken) (c .before .stretch-of .result) (c .before .stretch-of .ensures) (at .loop .marks) (at .loop .inv .1)
+    asked (facts (at .before)) (at .loop .t) (c .before .before .loop-test .taken) (c .before .stretch-of .result)
+    (c .before .stretch-of .ensures) (at .loop .marks) (at .loop .inv .1)
 
 loop-again : tie.Need-loop-again Inv-loop μ-loop
 loop-again c =
@@ -99,7 +106,8 @@ loop-again c =
     let kept = c .before .make-dimension .kept .1 .1 .1 .1 .1 .0 in (
       omega arith,
       same-len-mid o (length (at .loop .marks) - o) (at .loop .marks) last kept ∙ at .loop .inv .1,
-      turn (facts (at .before)) (at .loop .t) (stretch .before .loop-test .taken) (stretch .stretch-of .result) (stretch .stretch-of .ensures) (at .loop .marks) (at .loop .inv .1)
+      turn (facts (at .before)) (at .loop .t) (stretch .before .loop-test .taken) (stretch .stretch-of .result)
+          (stretch .stretch-of .ensures) (at .loop .marks) (at .loop .inv .1)
           last kept (c .before .make-dimension .ensures) (at .loop .inv .2),
     )
 

@@ -6,7 +6,7 @@ use mir.Syntax.{w32}
 use mir.Val.{SFits, toZ, ofZ}
 use mir.ValLaws.{toZ-ofZ}
 use Rattle.limits.specs.Limits.{isComponent}
-use Rattle.whole.specs.Keys.{mark-small}
+use Rattle.signed.specs.Keys.{mark-small}
 use Rattle.marking.specs.MadeDimension.{next-mark}
 use Rattle.marking.proofs.next.Statement.{statement}
 use Rattle.marking.proofs.next.Tie as tie

@@ -43,7 +43,9 @@ module _ {w : ℕ} {keys : List ℕ} {old : List ℤ} {regions : ℕ} {part : Li
         count = at .count;
         among = omega (arith, at .count);
         same = simp length-set (at .same);
-        so-far = filled-one part (whole w keys) i x (pos 0) (omega (arith, at .same, at .count)) (omega (arith, count-made, at .count)) (at .so-far)
+        so-far =
+            filled-one part (whole w keys) i x (pos 0) (omega (arith, at .same, at .count)) (omega (arith, count-made, at .count))
+            (at .so-far)
             (is ∙ sym (made-mark (length keys) w (map wholeOf keys) i (omega (arith, at .count))));
         rest = drop-set-lt (2 ^ w + 1) part i x (omega (arith, at .count)) ∙ at .rest;
       }
@@ -55,12 +57,14 @@ module _ {w : ℕ} {keys : List ℕ} {old : List ℤ} {regions : ℕ} {part : Li
       sym (take-append-drop (2 ^ w + 1) part) ∙ ap₂ _++_ front (at .rest)
 
 loop-holds : tie.Need-loop-holds Inv-loop μ-loop
-loop-holds c = record { count = shifted (c .before .args .w) (c .before .pre .0 .bits); among = omega arith; same = refl; so-far = refl; rest = refl }
+loop-holds c =
+    record { count = shifted (c .before .args .w) (c .before .pre .0 .bits); among = omega arith; same = refl; so-far = refl; rest = refl }
 
 loop-again : tie.Need-loop-again Inv-loop μ-loop
 loop-again c =
     let at = c .before .before in
-    turn (at .before .before .pre .1) (at .loop .inv) (c .before .loop-test .taken) _ (toZ-ofZ w32 _ (record { sfits = c .mark .ok }) ∙ c .mark .ensures)
+    turn (at .before .before .pre .1) (at .loop .inv) (c .before .loop-test .taken) _
+    (toZ-ofZ w32 _ (record { sfits = c .mark .ok }) ∙ c .mark .ensures)
 
 returns : tie.Need-returns Inv-loop μ-loop
 returns c = end (c .before .before .before .pre .1) (c .before .loop .inv) (c .loop-test .left)

@@ -57,9 +57,9 @@ use Rattle.search.proofs.Found as Hd
 use Rattle.search.proofs.Found.Laws as Held′
 use Rattle.search.proofs.Searched as Ans
 use Rattle.search.proofs.Searched.Laws as Ans′
-use Rattle.search.specs.Search.{Library, searched, searchCauses}
+use Rattle.search.specs.Search.{Index, searched, searchCauses}
 use Rattle.search.specs.Answer.{foundCount, searchAnswer, searchEntries, searchReads}
-use Rattle.search.specs.Ready.{library, roomOf}
+use Rattle.search.specs.Ready.{indexOf, roomOf}
 use Rattle.least_reading.specs.Searching.{Searches}
 use Rattle.nearest.specs.Filled.{Fits, filled, outcome-filled, outcome-room, search-fits, found-outcome}
 use Rattle.nearest.proofs.ToFill.{R, Entries, entries-back, entries-make, Fill, to-fill, asked-fill, TokensFill}
@@ -173,8 +173,8 @@ module _ {M : Type 1} (𝓤 : URA M) (H : Heap 𝓤) (A : Atoms 𝓤) (W : Given
   abbrev Post : Val → SProp 𝓤
   Post = walkOf 𝓤 H A face.ended stayed (face.clauses 𝓤 H A mem run) .post bound
 
-  abbrev l : Library
-  l = library terms (now marks) (now codes) (now vectors)
+  abbrev l : Index
+  l = indexOf terms (now marks) (now codes) (now vectors)
 
   abbrev verdict : Verdict
   verdict = first (searchCauses l (now query) k (roomOf (length (now entries)) (length (now reads))))

@@ -33,7 +33,8 @@ passed-2 c = passed-1 (c .before .before) ∙ first-next Count _ (told (c .befor
 passed-3 : (c : tie.Else3) → let start = c .before .before .before .before .before .before in first (rows 0 start) ≡ first (rows 3 start)
 passed-3 c = passed-2 (c .before .before) ∙ first-next Neighbours _ (told (c .before .is-neighbour-count .ensures) (c .if3 .left))
 
-passed-4 : (c : tie.Else4) → let start = c .before .before .before .before .before .before .before .before in first (rows 0 start) ≡ first (rows 4 start)
+passed-4 : (c : tie.Else4) → let start =
+    c .before .before .before .before .before .before .before .before in first (rows 0 start) ≡ first (rows 4 start)
 passed-4 c = passed-3 (c .before .before) ∙ first-next Length _ (told (c .before .exact-lengths .ensures) (c .if4 .left))
 
 returns : tie.Need-returns

@@ -34,7 +34,8 @@ part {d} {n} given i below =
     let small : n * d ≤ maxVectors * maxDimensions = mul-le-mul (given .count) (given .few) in
     record { within = omega (arith, suc-mul i d, given .full); small = omega (arith, given .full) }
 
-here : (c : tie.In-loop Inv-loop μ-loop) → let start = c .before .before .before in Part (start .args .d) (c .before .loop .i) (length (start .args .vectors .now))
+here : (c : tie.In-loop Inv-loop μ-loop) → let start =
+    c .before .before .before in Part (start .args .d) (c .before .loop .i) (length (start .args .vectors .now))
 here c = part (c .before .before .before .pre) (c .before .loop .i) (omega arith)
 
 loop-holds : tie.Need-loop-holds Inv-loop μ-loop
@@ -55,7 +56,8 @@ loop-again c =
     ∙ mod-eq-of-lt (scanned-small (start .pre) (at .i)) ∙ sym (value-at f n (at .i) more) in (
       omega arith,
       simp length-set (at .inv .1),
-      filling-next (valuesFrom f 0 n) (at .keys) (at .i) (c .squared-distance .result) 0 (omega (arith, values-length f 0 n)) key (at .inv .2),
+      filling-next (valuesFrom f 0 n) (at .keys) (at .i) (c .squared-distance .result) 0 (omega (arith, values-length f 0 n)) key
+          (at .inv .2),
     )
 
 returns : tie.Need-returns Inv-loop μ-loop

@@ -9,8 +9,8 @@ use lib.Signed.{ltZ}
 use mir.Syntax.{w32}
 use mir.Val.{toZ, ofZ}
 use mir.ValLaws.{toZ-ofZ}
-use Rattle.whole.specs.Keys.{key-lt}
-use Rattle.whole.proofs.ReadBack.{Key, key-back}
+use Rattle.signed.specs.Keys.{key-lt}
+use Rattle.signed.proofs.ReadBack.{Key, key-back}
 use Rattle.step.specs.Step.{gap}
 use Rattle.step.specs.Places.{gap-key}
 use Rattle.step.proofs.gap.Statement.{statement}
@@ -30,18 +30,21 @@ apart start key-a key-b =
     record {
       is = rw (key-a .is, key-b .is) (gap-key a b (start .fits .a .sfits) (start .fits .b .sfits));
       order =
-          rw (toZ-ofZ w32 a (start .fits .a), toZ-ofZ w32 b (start .fits .b), key-a .is, key-b .is) (key-lt a b (start .fits .a .sfits) (start .fits .b .sfits));
+          rw (toZ-ofZ w32 a (start .fits .a), toZ-ofZ w32 b (start .fits .b), key-a .is, key-b .is)
+          (key-lt a b (start .fits .a .sfits) (start .fits .b .sfits));
       first = key-a .small;
       second = key-b .small;
     }
 
-below : (c : tie.After-key2) → Apart (c .before .before .before) (c .key2 .result) (c .before .key .result) × (c .key2 .result < c .before .key .result)
+below : (c : tie.After-key2)
+    → Apart (c .before .before .before) (c .key2 .result) (c .before .key .result) × (c .key2 .result < c .before .key .result)
 below c =
     let start = c .before .before .before in
     let keys = apart start (key-back (start .fits .a) (c .key2 .ensures)) (key-back (start .fits .b) (c .before .key .ensures)) in
     (keys, ltb-true _ _ (sym (keys .order) ∙ c .before .before .if1 .taken))
 
-above : (c : tie.After-key4) → Apart (c .before .before .before) (c .before .key3 .result) (c .key4 .result) × (c .key4 .result ≤ c .before .key3 .result)
+above : (c : tie.After-key4)
+    → Apart (c .before .before .before) (c .before .key3 .result) (c .key4 .result) × (c .key4 .result ≤ c .before .key3 .result)
 above c =
     let start = c .before .before .before in
     let keys = apart start (key-back (start .fits .a) (c .before .key3 .ensures)) (key-back (start .fits .b) (c .key4 .ensures)) in

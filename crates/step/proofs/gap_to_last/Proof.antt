@@ -1,7 +1,7 @@
 -- `gap_to_last` meets its contract: the value before a mark has the key before the mark's. Assumes nothing.
 use native.Mathlib.Omega.{arith}
 use borrow.Author.Needs.{needs}
-use Rattle.whole.proofs.ReadBack.{key-back}
+use Rattle.signed.proofs.ReadBack.{key-back}
 use Rattle.step.specs.Places.{gap-key-pred}
 use Rattle.step.proofs.gap_to_last.Statement.{statement}
 use Rattle.step.proofs.gap_to_last.Tie as tie

@@ -63,7 +63,8 @@ use Rattle.view.proofs.look_up.Statement as stated
 use Rattle.view.proofs.look_up.Code as code
 
 abbrev stayed : Stays (look-up.ended .signature .params) (look-up.ended .kept)
-stayed = (stay-none (λ _. usize) yes, (stay-none (λ _. usize) yes, (stay-none-slice (0 ∷ []) tt (plain (λ _. i32)) yes, (stay-none (λ _. usize) yes, (stay-none (λ _. i32) yes, tt)))))
+stayed =
+    (stay-none (λ _. usize) yes, (stay-none (λ _. usize) yes, (stay-none-slice (0 ∷ []) tt (plain (λ _. i32)) yes, (stay-none (λ _. usize) yes, (stay-none (λ _. i32) yes, tt)))))
 
 module _ {M : Type 1} (𝓤 : URA M) (H : Heap 𝓤) (A : Atoms 𝓤) (mem : Memory → SProp 𝓤) (run : Routine → Fun 𝓤) where
   -- The second contract that the proof cites is that of `region_in`.
@@ -82,25 +83,35 @@ module _ {M : Type 1} (𝓤 : URA M) (H : Heap 𝓤) (A : Atoms 𝓤) (W : Given
   found = lookedUp (seenMarks (x .d) (x .b) (now (x .marks)) (x .j)) (seenRegions (x .d) (x .b) (now (x .marks)) (x .j)) value
 
   abbrev Post : Val → SProp 𝓤
-  Post = walkOf 𝓤 H A look-up.ended stayed (look-up.clauses 𝓤 H A mem run) .post (((κ, tt), (q, tt), tt, args κ (i32 ∷ []) x (value, tt), vals κ (i32 ∷ []) x (z ∷ [], tt)), tt)
+  Post =
+      walkOf 𝓤 H A look-up.ended stayed (look-up.clauses 𝓤 H A mem run) .post
+      (((κ, tt), (q, tt), tt, args κ (i32 ∷ []) x (value, tt), vals κ (i32 ∷ []) x (z ∷ [], tt)), tt)
 
   -- The call of `region_in` is passed the view r with the machine value u.
   abbrev to-region : View → Val → RegionIn 𝓤 H A mem run .Ghost
   to-region r u = (((κ, tt), (q, tt), tt, (r, (value, tt)), (u ∷ [], (z ∷ [], tt))), tt)
 
-  goes-region : (r : View) (u : Val) → ent 𝓤 (⋆ 𝓤 H A (‵ (Viewed (κ, tt) .own r (u ∷ [])) ∷ (‵ (flft κ q) ⊛ ‵ ftrue) ∷ [])) (RegionIn 𝓤 H A mem run .pre (to-region r u))
+  goes-region : (r : View) (u : Val)
+      → ent 𝓤 (⋆ 𝓤 H A (‵ (Viewed (κ, tt) .own r (u ∷ [])) ∷ (‵ (flft κ q) ⊛ ‵ ftrue) ∷ [])) (RegionIn 𝓤 H A mem run .pre (to-region r u))
   goes-region r u = qed W (‵ (Viewed (κ, tt) .own r (u ∷ [])) ∷ (‵ (flft κ q) ⊛ ‵ ftrue) ∷ []) ∵
-      nothing ! $ owned ! i32 (Is i32) (sint-makes 𝓤 H A W w32) value _ (refl, small) $ fjoin ! $ move ! (1 ∷ 0 ∷ []) $ fjoin ! $ move ! (1 ∷ 0 ∷ []) $ join ! $ frame ! $ done !
+      nothing ! $ owned ! i32 (Is i32) (sint-makes 𝓤 H A W w32) value _ (refl, small) $ fjoin ! $ move ! (1 ∷ 0 ∷ []) $ fjoin ! $ move !
+      (1 ∷ 0 ∷ []) $ join ! $ frame ! $ done !
 
-  region-said : (r : View) (t : Lookup) → ent 𝓤 (ensured 𝓤 H A region-in.ended (region-in.clauses 𝓤 H A mem run) (κ, tt) (r, (value, tt)) tt t) (fact 𝓤 (t ≡ lookedUp (now (r .marks)) (r .regions) value))
-  region-said r t = exE 𝓤 _ (λ ws. snd∗ 𝓤 (sem 𝓤 H A (lasts region-in.ended (κ, tt) (r, (value, tt)) ws)) (fact 𝓤 (t ≡ lookedUp (now (r .marks)) (r .regions) value)))
+  region-said : (r : View) (t : Lookup)
+      → ent 𝓤 (ensured 𝓤 H A region-in.ended (region-in.clauses 𝓤 H A mem run) (κ, tt) (r, (value, tt)) tt t)
+      (fact 𝓤 (t ≡ lookedUp (now (r .marks)) (r .regions) value))
+  region-said r t =
+      exE 𝓤 _ (λ ws. snd∗ 𝓤 (sem 𝓤 H A (lasts region-in.ended (κ, tt) (r, (value, tt)) ws)) (fact 𝓤 (t ≡ lookedUp (now (r .marks)) (r .regions) value)))
 
-  exits : (t : Lookup) (u : Val) → t ≡ found → ent 𝓤 (⋆ 𝓤 H A (‵ (S.the-row .own t (u ∷ [])) ∷ (‵ (flft κ q) ⊛ ‵ ftrue) ∷ ‵ (Own κ (x .marks)) ∷ [])) (Post u)
+  exits : (t : Lookup) (u : Val) → t ≡ found
+      → ent 𝓤 (⋆ 𝓤 H A (‵ (S.the-row .own t (u ∷ [])) ∷ (‵ (flft κ q) ⊛ ‵ ftrue) ∷ ‵ (Own κ (x .marks)) ∷ [])) (Post u)
   exits t u e =
       qed W (‵ (S.the-row .own t (u ∷ [])) ∷ (‵ (flft κ q) ⊛ ‵ ftrue) ∷ ‵ (Own κ (x .marks)) ∷ []) ∵
       suffices ! _ (ends-at 𝓤 H A look-up.ended stayed (look-up.clauses 𝓤 H A mem run) W (((κ, tt), (q, tt), tt, args κ (i32 ∷ []) x (value, tt), vals κ (i32 ∷ []) x (z ∷ [], tt)), tt) u t (tt, (tt, (tt, (tt, (tt, tt))))) (tt, (tt, (tt, (tt, (tt, tt)))))) $ says ! e $
-      move ! (1 ∷ []) $ frame ! $ nothing ! $ owned ! i32 (Is i32) (sint-makes 𝓤 H A W w32) value _ (refl, small) $ fjoin ! $ move ! (0 ∷ 2 ∷ []) $
-      use2 W (‵ (owns (typesOf κ (i32 ∷ [])) (args κ (i32 ∷ []) x (value, tt)) (vals κ (i32 ∷ []) x (z ∷ [], tt)))) (own-passed 𝓤 H A W κ x (i32 ∷ []) (value, tt) (z ∷ [], tt)) $ frame ! $ done !
+      move ! (1 ∷ []) $ frame ! $ nothing ! $ owned ! i32 (Is i32) (sint-makes 𝓤 H A W w32) value _ (refl, small) $ fjoin ! $ move !
+      (0 ∷ 2 ∷ []) $
+      use2 W (‵ (owns (typesOf κ (i32 ∷ [])) (args κ (i32 ∷ []) x (value, tt)) (vals κ (i32 ∷ []) x (z ∷ [], tt))))
+      (own-passed 𝓤 H A W κ x (i32 ∷ []) (value, tt) (z ∷ [], tt)) $ frame ! $ done !
 
   module _ (C : Calls 𝓤 H) (Λ : Loops 𝓤 H) (fm : FmC 𝓤 H (W .laws) C) (known-view : Triple 𝓤 (C #view·view-of) (ViewOf 𝓤 H A mem run)) (known-region : Triple 𝓤 (C #view·region-in) (RegionIn 𝓤 H A mem run)) where
     walk : Is (Slice κ) (x .marks) (lent (x .marks) ∷ [])
@@ -108,31 +119,42 @@ module _ {M : Type 1} (𝓤 : URA M) (H : Heap 𝓤) (A : Atoms 𝓤) (W : Given
     walk g =
         qed W (raw (onEntry 𝓤 H A look-up.signature (κ, tt) (q, tt) (args κ (i32 ∷ []) x (value, tt)) (vals κ (i32 ∷ []) x (z ∷ [], tt))) ∷ []) ∵ enter ! C Λ code.function (vint w64 (x .d) ∷ vint w64 (x .b) ∷ lent (x .marks) ∷ vint w64 (x .j) ∷ z ∷ []) _ $
         alloc1 ! (λ l₀. alloc1 ! (λ l₁. alloc1 ! (λ l₂. alloc1 ! (λ l₃. alloc1 ! (λ l₄. alloc1 ! (λ l₅. alloc1 ! (λ l₆. alloc0 ! $ params1 ! $
-        pass1 ! (init ! 10 refl (tt, record { fits = x .d-fits })) $ pass1 ! (init ! 8 refl (tt, record { fits = x .b-fits })) $ pass1 ! (init ! 6 refl (shr-slice-lawful 𝓤 H A W (named 0) κ i32 .typed (x .marks) (lent (x .marks) ∷ []) g .0)) $
-        pass1 ! (init ! 4 refl (tt, record { fits = x .j-fits })) $ pass1 ! (init ! 2 refl (sint-lawful 𝓤 H A W w32 .typed value (z ∷ []) (refl, small) .0)) $ pass0 ! $
-        move ! (14 ∷ []) $ use1 W (raw (ViewOf 𝓤 H A mem run .pre (to-view 𝓤 H A mem run κ q x)) ⊛ ‵ (Own κ (x .marks))) (goes-view 𝓤 H A mem run W κ q x (i32 ∷ []) (value, tt) (z ∷ [], tt)) $ split ! $
-        calls-at ! fm (ViewOf 𝓤 H A mem run) known-view (to-view 𝓤 H A mem run κ q x) (and-then ! (load ! (from ! (stop !)) (look ! 12 refl)) (and-then ! (load ! (from ! (stop !)) (look ! 10 refl)) (and-then ! (load ! (from ! (stop !)) (look ! 8 refl)) (and-then ! (load ! (from ! (stop !)) (look ! 6 refl)) (no-more !))))) (λ u.
+        pass1 ! (init ! 10 refl (tt, record { fits = x .d-fits })) $ pass1 ! (init ! 8 refl (tt, record { fits = x .b-fits })) $ pass1 !
+        (init ! 6 refl (shr-slice-lawful 𝓤 H A W (named 0) κ i32 .typed (x .marks) (lent (x .marks) ∷ []) g .0)) $
+        pass1 ! (init ! 4 refl (tt, record { fits = x .j-fits })) $ pass1 !
+        (init ! 2 refl (sint-lawful 𝓤 H A W w32 .typed value (z ∷ []) (refl, small) .0)) $ pass0 ! $
+        move ! (14 ∷ []) $ use1 W (raw (ViewOf 𝓤 H A mem run .pre (to-view 𝓤 H A mem run κ q x)) ⊛ ‵ (Own κ (x .marks)))
+        (goes-view 𝓤 H A mem run W κ q x (i32 ∷ []) (value, tt) (z ∷ [], tt)) $ split ! $
+        calls-at ! fm (ViewOf 𝓤 H A mem run) known-view (to-view 𝓤 H A mem run κ q x)
+        (and-then ! (load ! (from ! (stop !)) (look ! 12 refl)) (and-then ! (load ! (from ! (stop !)) (look ! 10 refl)) (and-then ! (load ! (from ! (stop !)) (look ! 8 refl)) (and-then ! (load ! (from ! (stop !)) (look ! 6 refl)) (no-more !))))) (λ u.
         use1 W (later (some (λ (r : View). ((‵ (flft κ q) ⊛ ‵ ftrue) ⊛ ‵ (Viewed (κ, tt) .own r (u ∷ []))) ⊛ raw (ensured 𝓤 H A view-of.ended (view-of.clauses 𝓤 H A mem run) (κ, tt) (args κ [] x tt) tt r)))) (id⊢ 𝓤 _) $ await ! tt $ pick ! (λ r.
-        split ! $ move ! (1 ∷ []) $ use1 W (raw (fact 𝓤 (Seen x r))) (view-said 𝓤 H A mem run κ x r) $ heard ! (Seen x r) (λ e. split ! $ move ! (1 ∷ []) $
+        split ! $ move ! (1 ∷ []) $ use1 W (raw (fact 𝓤 (Seen x r))) (view-said 𝓤 H A mem run κ x r) $ heard ! (Seen x r)
+        (λ e. split ! $ move ! (1 ∷ []) $
         -- [what the view owns; the token; what the marks own; room for _6; …; _5; …; _4; …; _3; …; _2; …; _1; …; room for _0; …]
         peeks ! (Viewed (κ, tt)) (Is (Viewed (κ, tt))) (shows 𝓤 H A (Viewed (κ, tt))) r (u ∷ []) (λ is.
         land ! (from ! (stop !)) (init ! 3 refl (LL.lawful (T.the-type αᵉ) (T′.the-laws αᵉ) 𝓤 H A W .typed r _ is .0)) $
         use2 W (raw (RegionIn 𝓤 H A mem run .pre (to-region r u))) (goes-region r u) $
-        calls-at ! fm (RegionIn 𝓤 H A mem run) known-region (to-region r u) (and-then ! (load ! (from ! (stop !)) (look ! 2 refl)) (and-then ! (load ! (from ! (stop !)) (look ! 4 refl)) (no-more !))) (λ u′.
+        calls-at ! fm (RegionIn 𝓤 H A mem run) known-region (to-region r u)
+        (and-then ! (load ! (from ! (stop !)) (look ! 2 refl)) (and-then ! (load ! (from ! (stop !)) (look ! 4 refl)) (no-more !))) (λ u′.
         use1 W (later (some (λ (t : Lookup). ((‵ (flft κ q) ⊛ ‵ ftrue) ⊛ ‵ (S.the-row .own t (u′ ∷ []))) ⊛ raw (ensured 𝓤 H A region-in.ended (region-in.clauses 𝓤 H A mem run) (κ, tt) (r, (value, tt)) tt t)))) (id⊢ 𝓤 _) $ await ! tt $ pick ! (λ t.
-        split ! $ move ! (1 ∷ []) $ use1 W (raw (fact 𝓤 (t ≡ lookedUp (now (r .marks)) (r .regions) value))) (region-said r t) $ heard ! (t ≡ lookedUp (now (r .marks)) (r .regions) value) (λ e′. split ! $ move ! (1 ∷ []) $
+        split ! $ move ! (1 ∷ []) $ use1 W (raw (fact 𝓤 (t ≡ lookedUp (now (r .marks)) (r .regions) value))) (region-said r t) $ heard !
+        (t ≡ lookedUp (now (r .marks)) (r .regions) value) (λ e′. split ! $ move ! (1 ∷ []) $
         -- [the result; the token; what the marks own; _6; …; _5; …; _4; …; _3; …; _2; …; _1; …; room for _0; …]
         peeks ! S.the-row (Is S.the-row) (shows 𝓤 H A S.the-row) t (u′ ∷ []) (λ is′.
         land ! (from ! (stop !)) (init ! 15 refl (EL.lawful S.the-type S′.the-laws 𝓤 H A W tt .typed t _ is′ .0)) $
         returns ! (look ! 15 refl) $ forget ! 3 refl $ forget ! 5 refl $ forget ! 7 refl $ forget ! 9 refl $ forget ! 11 refl $ forget ! 13 refl $ forget ! 15 refl $
-        move ! (15 ∷ 16 ∷ []) $ free1 ! $ move ! (13 ∷ 14 ∷ []) $ free1 ! $ move ! (11 ∷ 12 ∷ []) $ free1 ! $ move ! (9 ∷ 10 ∷ []) $ free1 ! $ move ! (7 ∷ 8 ∷ []) $ free1 ! $ move ! (5 ∷ 6 ∷ []) $ free1 ! $ move ! (3 ∷ 4 ∷ []) $ free1 ! $ free0 ! $
+        move ! (15 ∷ 16 ∷ []) $ free1 ! $ move ! (13 ∷ 14 ∷ []) $ free1 ! $ move ! (11 ∷ 12 ∷ []) $ free1 ! $ move !
+        (9 ∷ 10 ∷ []) $ free1 ! $ move ! (7 ∷ 8 ∷ []) $ free1 ! $ move ! (5 ∷ 6 ∷ []) $ free1 ! $ move ! (3 ∷ 4 ∷ []) $ free1 ! $ free0 ! $
         by ! (exits t u′ (e′ ∙ (ap (λ (l : List ℤ). lookedUp l (r .regions) value) (e .0) ∙ ap (λ (n : ℕ). lookedUp (seenMarks (x .d) (x .b) (now (x .marks)) (x .j)) n value) (e .1)))))))))))))))))))
 
 module _ {M : Type 1} (𝓤 : URA M) (H : Heap 𝓤) (A : Atoms 𝓤) (W : Given 𝓤 H A) (mem : Memory → SProp 𝓤) (run : Routine → Fun 𝓤) where
-  look-up-walks : (C : Calls 𝓤 H) (Λ : Loops 𝓤 H) → FmC 𝓤 H (W .laws) C → Triple 𝓤 (C #view·view-of) (ViewOf 𝓤 H A mem run) → Triple 𝓤 (C #view·region-in) (RegionIn 𝓤 H A mem run)
+  look-up-walks : (C : Calls 𝓤 H) (Λ : Loops 𝓤 H) → FmC 𝓤 H (W .laws) C → Triple 𝓤 (C #view·view-of) (ViewOf 𝓤 H A mem run)
+      → Triple 𝓤 (C #view·region-in) (RegionIn 𝓤 H A mem run)
       → Walks 𝓤 H A look-up.ended stayed (WpFn 𝓤 H C Λ code.function) (look-up.clauses 𝓤 H A mem run)
-  look-up-walks C Λ fm known-view known-region = walked 𝓤 H A look-up.ended stayed (look-up.clauses 𝓤 H A mem run) (WpFn 𝓤 H C Λ code.function)
-      (λ κs. (uint-vals w64, (uint-vals w64, (slice-vals, (uint-vals w64, (sint-vals w32, tt)))))) (λ κs. (uint-tells w64, (uint-tells w64, (shr-slice-tells (named 0) (κs .0) i32, (uint-tells w64, (sint-tells w32, tt))))))
+  look-up-walks C Λ fm known-view known-region =
+      walked 𝓤 H A look-up.ended stayed (look-up.clauses 𝓤 H A mem run) (WpFn 𝓤 H C Λ code.function)
+      (λ κs. (uint-vals w64, (uint-vals w64, (slice-vals, (uint-vals w64, (sint-vals w32, tt))))))
+      (λ κs. (uint-tells w64, (uint-tells w64, (shr-slice-tells (named 0) (κs .0) i32, (uint-tells w64, (sint-tells w32, tt))))))
       (λ κs qs bounds a g are. via 𝓤 _ (fst∗ 𝓤 _ (emp 𝓤)) (walk 𝓤 H A W mem run (κs .0) (qs .0)
       (record { d = a .0; b = a .1 .0; marks = a .1 .1 .0; j = a .1 .1 .1 .0; d-fits = are .0 .1; b-fits = are .1 .0 .1; j-fits = are .1 .1 .1 .0 .1 }) (a .1 .1 .1 .1 .0) (are .1 .1 .1 .1 .0 .1) C Λ fm known-view known-region (are .1 .1 .0)))
 
@@ -141,7 +163,8 @@ look-up-meets : {M : Type 1} (𝓤 : URA M) (H : Heap 𝓤) (A : Atoms 𝓤) (W 
     → Meets 𝓤 H A look-up.signature (WpFn 𝓤 H (𝓣 .C) (𝓣 .Λ) code.function) (look-up.spec 𝓤 H A mem run)
 look-up-meets 𝓤 H A W mem run 𝓣 known-view known-region = walk-meets 𝓤 H A look-up.ended stayed W
     (goes-none 𝓤 H A W 1 (λ _. usize) yes (λ κs x f. refl), (goes-none 𝓤 H A W 1 (λ _. usize) yes (λ κs x f. refl), (goes-none-slice 𝓤 H A W 1 (0 ∷ []) tt (plain (λ _. i32)) yes, (goes-none 𝓤 H A W 1 (λ _. usize) yes (λ κs x f. refl), (goes-none 𝓤 H A W 1 (λ _. i32) yes (λ κs x f. refl), tt)))))
-    (look-up.clauses 𝓤 H A mem run) (WpFn 𝓤 H (𝓣 .C) (𝓣 .Λ) code.function) (WpFn-mono 𝓤 H (W .laws) 𝓣 code.function) (look-up-walks 𝓤 H A W mem run (𝓣 .C) (𝓣 .Λ) (fmOf 𝓤 H (W .laws) 𝓣) known-view known-region)
+    (look-up.clauses 𝓤 H A mem run) (WpFn 𝓤 H (𝓣 .C) (𝓣 .Λ) code.function) (WpFn-mono 𝓤 H (W .laws) 𝓣 code.function)
+    (look-up-walks 𝓤 H A W mem run (𝓣 .C) (𝓣 .Λ) (fmOf 𝓤 H (W .laws) 𝓣) known-view known-region)
 
 pub look-up-spec : {M : Type 1} → stated.statement M
 unfolding code.routine tablesOf

@@ -76,26 +76,39 @@ module _ {M : Type 1} (𝓤 : URA M) (H : Heap 𝓤) (A : Atoms 𝓤) (W : Given
   exits =
       qed W ((‵ (flft κ q) ⊛ ‵ ftrue) ∷ ‵ (owns (B (κ, tt) ∷ []) (view, tt) (mach ∷ [], tt)) ∷ []) ∵
       suffices ! _ (ends-at 𝓤 H A marks-of.ended stayed (marks-of.clauses 𝓤 H A mem run) W (((κ, tt), (q, tt), tt, (view, tt), (mach ∷ [], tt)), tt) v (view .marks) (tt, tt) (tt, tt)) $ says ! refl $
-      frame ! $ fsplit ! $ use1 W (‵ Own ⊛ ‵ Own) (LL.copy D (T′.the-copy (namedLft 1 0 tt (κ, tt))) 𝓤 H A W .twice view (mach ∷ [])) $ split ! $ move ! (0 ∷ 2 ∷ []) $ fjoin ! $ frame ! $
+      frame ! $ fsplit ! $ use1 W (‵ Own ⊛ ‵ Own)
+      (LL.copy D (T′.the-copy (namedLft 1 0 tt (κ, tt))) 𝓤 H A W .twice view (mach ∷ [])) $ split ! $ move !
+      (0 ∷ 2 ∷ []) $ fjoin ! $ frame ! $
       -- [what the view owns]: the marks' part is taken out of it
-      use1 W (given (mach ∷ [] ≡ mach ∷ []) (‵ (all-own (D .parts) L values))) (own-open 𝓤 H A W D L values mach) $ learn ! (λ _. use1 W (‵ (ownAt (D .parts) L 0 (view .marks)) ⊛ ‵ (rest (D .parts) L 0 values)) (own-out 𝓤 H A W (D .parts) L 0 values) $ split ! $ move ! (1 ∷ []) $ drop ! $ done !)
+      use1 W (given (mach ∷ [] ≡ mach ∷ []) (‵ (all-own (D .parts) L values))) (own-open 𝓤 H A W D L values mach) $ learn !
+      (λ _. use1 W (‵ (ownAt (D .parts) L 0 (view .marks)) ⊛ ‵ (rest (D .parts) L 0 values)) (own-out 𝓤 H A W (D .parts) L 0 values) $ split ! $ move ! (1 ∷ []) $ drop ! $ done !)
 
   module _ (C : Calls 𝓤 H) (Λ : Loops 𝓤 H) where
-    walk : Holds (hasTy (T′.mir (named 0)) mach) × WT mach → ent 𝓤 (onEntry 𝓤 H A marks-of.signature (κ, tt) (q, tt) (view, tt) (mach ∷ [], tt)) (WpFn 𝓤 H C Λ code.function (mach ∷ []) Post)
+    walk : Holds (hasTy (T′.mir (named 0)) mach) × WT mach
+        → ent 𝓤 (onEntry 𝓤 H A marks-of.signature (κ, tt) (q, tt) (view, tt) (mach ∷ [], tt)) (WpFn 𝓤 H C Λ code.function (mach ∷ []) Post)
     walk wt =
-        qed W ((‵ (flft κ q) ⊛ ‵ ftrue) ∷ ‵ (owns (B (κ, tt) ∷ []) (view, tt) (mach ∷ [], tt)) ∷ []) ∵ enter ! C Λ code.function (mach ∷ []) _ $
+        qed W ((‵ (flft κ q) ⊛ ‵ ftrue) ∷ ‵ (owns (B (κ, tt) ∷ []) (view, tt) (mach ∷ [], tt)) ∷ []) ∵ enter ! C Λ code.function
+        (mach ∷ []) _ $
         alloc1 ! (λ l₀. alloc1 ! (λ l₁. alloc0 ! $ params1 ! $ pass1 ! (init ! 0 refl wt) $ pass0 ! $
-        assigns ! (of-opd ! (load ! (from ! (fld ! refl (stop !))) (look-in ! 0 (sub ! 0 refl (whole !))))) (from ! (stop !)) (init ! 2 refl (tt, wt .1 .0)) $
+        assigns ! (of-opd ! (load ! (from ! (fld ! refl (stop !))) (look-in ! 0 (sub ! 0 refl (whole !))))) (from ! (stop !))
+        (init ! 2 refl (tt, wt .1 .0)) $
         returns ! (look ! 2 refl) $ forget ! 0 refl $ forget ! 2 refl $ move ! (2 ∷ 3 ∷ []) $ free1 ! $ free1 ! $ free0 ! $ by ! exits))
 
 module _ {M : Type 1} (𝓤 : URA M) (H : Heap 𝓤) (A : Atoms 𝓤) (W : Given 𝓤 H A) (mem : Memory → SProp 𝓤) (run : Routine → Fun 𝓤) where
-  marks-of-walks : (C : Calls 𝓤 H) (Λ : Loops 𝓤 H) → Walks 𝓤 H A marks-of.ended stayed (WpFn 𝓤 H C Λ code.function) (marks-of.clauses 𝓤 H A mem run)
-  marks-of-walks C Λ = walked 𝓤 H A marks-of.ended stayed (marks-of.clauses 𝓤 H A mem run) (WpFn 𝓤 H C Λ code.function) (λ κs. (LL.vals (T.the-type (namedLft 1 0 tt κs)) (T′.the-laws (namedLft 1 0 tt κs)), tt)) (λ κs. (LL.tells (T.the-type (namedLft 1 0 tt κs)) (T′.the-laws (namedLft 1 0 tt κs)), tt))
+  marks-of-walks : (C : Calls 𝓤 H) (Λ : Loops 𝓤 H)
+      → Walks 𝓤 H A marks-of.ended stayed (WpFn 𝓤 H C Λ code.function) (marks-of.clauses 𝓤 H A mem run)
+  marks-of-walks C Λ =
+      walked 𝓤 H A marks-of.ended stayed (marks-of.clauses 𝓤 H A mem run) (WpFn 𝓤 H C Λ code.function)
+      (λ κs. (LL.vals (T.the-type (namedLft 1 0 tt κs)) (T′.the-laws (namedLft 1 0 tt κs)), tt))
+      (λ κs. (LL.tells (T.the-type (namedLft 1 0 tt κs)) (T′.the-laws (namedLft 1 0 tt κs)), tt))
       (λ κs qs bounds a g are. via 𝓤 _ (fst∗ 𝓤 _ (emp 𝓤)) (walk 𝓤 H A W mem run (κs .0) (qs .0) (a .0) C Λ (LL.lawful (T.the-type (namedLft 1 0 tt κs)) (T′.the-laws (namedLft 1 0 tt κs)) 𝓤 H A W .typed (a .0) _ (are .0) .0)))
 
-marks-of-meets : {M : Type 1} (𝓤 : URA M) (H : Heap 𝓤) (A : Atoms 𝓤) → Given 𝓤 H A → (mem : Memory → SProp 𝓤) (run : Routine → Fun 𝓤) (𝓣 : Tables 𝓤 H)
+marks-of-meets : {M : Type 1} (𝓤 : URA M) (H : Heap 𝓤) (A : Atoms 𝓤) → Given 𝓤 H A
+    → (mem : Memory → SProp 𝓤) (run : Routine → Fun 𝓤) (𝓣 : Tables 𝓤 H)
     → Meets 𝓤 H A marks-of.signature (WpFn 𝓤 H (𝓣 .C) (𝓣 .Λ) code.function) (marks-of.spec 𝓤 H A mem run)
-marks-of-meets 𝓤 H A W mem run 𝓣 = walk-meets 𝓤 H A marks-of.ended stayed W (goes-none 𝓤 H A W 1 B yes (λ κs x f. refl), tt) (marks-of.clauses 𝓤 H A mem run) (WpFn 𝓤 H (𝓣 .C) (𝓣 .Λ) code.function) (WpFn-mono 𝓤 H (W .laws) 𝓣 code.function) (marks-of-walks 𝓤 H A W mem run (𝓣 .C) (𝓣 .Λ))
+marks-of-meets 𝓤 H A W mem run 𝓣 =
+    walk-meets 𝓤 H A marks-of.ended stayed W (goes-none 𝓤 H A W 1 B yes (λ κs x f. refl), tt) (marks-of.clauses 𝓤 H A mem run)
+    (WpFn 𝓤 H (𝓣 .C) (𝓣 .Λ) code.function) (WpFn-mono 𝓤 H (W .laws) 𝓣 code.function) (marks-of-walks 𝓤 H A W mem run (𝓣 .C) (𝓣 .Λ))
 
 pub marks-of-spec : {M : Type 1} → stated.statement M
 unfolding code.routine tablesOf

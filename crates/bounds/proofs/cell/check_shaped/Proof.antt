@@ -9,7 +9,7 @@ use lib.ListN.{length}
 use Rattle.refusal.specs.First.{first, first-append, outcome-accepted}
 use Rattle.limits.specs.Limits.{maxVectors, isVectorCount}
 use Rattle.limits.specs.Tests.{between}
-use Rattle.whole.specs.Components.{areComponents}
+use Rattle.signed.specs.Components.{areComponents}
 use Rattle.layout.specs.Layout.{firstMarks, codeLength}
 use Rattle.layout.specs.Stretch.{shapeCauses}
 use Rattle.cells.specs.CellCauses.{shapedCodeCauses}

@@ -20,13 +20,13 @@ use Rattle.selection.specs.Reading.{readingOrder}
 use Rattle.selection.specs.Loop.{after, reached-first}
 use Rattle.best_pairs.specs.Gathered.{gathers-sorted}
 use Rattle.search.specs.declared.Searched.the-variants.{Refused}
-use Rattle.search.specs.Search.{Library, numbersIn, distanceIn, lowIn}
+use Rattle.search.specs.Search.{Index, numbersIn, distanceIn, lowIn}
 use Rattle.search.specs.Ready.{Ready}
 use Rattle.least_reading.specs.Answered.{Reads, FirstReads, HasRead}
 use Rattle.least_reading.proofs.reading.read_all.Statement.{statement}
 use Rattle.least_reading.proofs.reading.read_all.Tie as tie
 
-module _ {l : Library} {query : List ℤ} {k : ℕ} {r : Bool} {keys best : List ℕ} (first-reads : FirstReads l query k r keys best) where
+module _ {l : Index} {query : List ℤ} {k : ℕ} {r : Bool} {keys best : List ℕ} (first-reads : FirstReads l query k r keys best) where
   sorted : Ready l query k → r ≡ true → {keys-then best-then : List ℕ}
       → keys-then ≡ outcome (first (rankCauses (length keys) (length best))) (keysOf (sort (pairsOf keys best))) (λ _. keys)
       → best-then ≡ outcome (first (rankCauses (length keys) (length best))) (numbersOf (sort (pairsOf keys best))) (λ _. best)

@@ -14,27 +14,27 @@ use Rattle.order.specs.Ranking.{ranked-count}
 use Rattle.selection.specs.Reading.{readingOrder}
 use Rattle.selection.specs.Loop.{reached-first, goes-on-first}
 use Rattle.best_pairs.specs.Gathered.{Gathers, gathers-start, gathers-next}
-use Rattle.search.specs.Search.{Library, numbersIn, distanceIn, lowIn, inOwnCell, inOwnCells}
-use Rattle.search.specs.Ready.{library, Ready, ordered-below}
+use Rattle.search.specs.Search.{Index, numbersIn, distanceIn, lowIn, inOwnCell, inOwnCells}
+use Rattle.search.specs.Ready.{indexOf, Ready, ordered-below}
 use Rattle.least_reading.specs.Answered.{FirstReads, cells-snoc, next-outside}
 use Rattle.least_reading.specs.declared.reading.VectorRead.the-variants.{Distance, Outside}
 use Rattle.least_reading.specs.Vector.{vectorRead, tells-distance, tells-outside}
 use Rattle.least_reading.proofs.reading.read_first.Statement.{statement}
 use Rattle.least_reading.proofs.reading.read_first.Tie as tie
 
-record State (l : Library) (query : List ℤ) (k done : ℕ) (keys best : List ℕ) : Type 0 where
+record State (l : Index) (query : List ℤ) (k done : ℕ) (keys best : List ℕ) : Type 0 where
   within : done ≤ k
   gathers : Gathers k (distanceIn l query) (take done (readingOrder (lowIn l query) (numbersIn l))) keys best
   inside : inOwnCells l (take done (readingOrder (lowIn l query) (numbersIn l))) ≡ true
 
 abbrev Inv-loop : tie.InvT-loop
 Inv-loop terms query marks codes vectors order keys₀ best₀ k done₀ keys best done =
-    State (library terms marks codes vectors) query (terms .k) done keys best
+    State (indexOf terms marks codes vectors) query (terms .k) done keys best
 
 abbrev μ-loop : tie.MeasureT-loop
 μ-loop terms query marks codes vectors order keys₀ best₀ k done₀ keys best done = terms .k - done
 
-module _ {l : Library} {query : List ℤ} {k : ℕ} (is : Ready l query k) {keys best : List ℕ} where
+module _ {l : Index} {query : List ℤ} {k : ℕ} (is : Ready l query k) {keys best : List ℕ} where
   begin : length keys ≡ k → length best ≡ k → State l query k 0 keys best
   unfolding inOwnCells
   begin keys-room best-room = record { within = omega arith; gathers = gathers-start keys-room best-room; inside = refl }
@@ -81,8 +81,8 @@ module _ {l : Library} {query : List ℤ} {k : ℕ} (is : Ready l query k) {keys
           })
 
 -- the library that was handed in
-abbrev given : tie.Start Inv-loop μ-loop → Library
-given s = library (s .args .terms) (s .args .marks .now) (s .args .codes .now) (s .args .vectors .now)
+abbrev given : tie.Start Inv-loop μ-loop → Index
+given s = indexOf (s .args .terms) (s .args .marks .now) (s .args .codes .now) (s .args .vectors .now)
 
 loop-holds : tie.Need-loop-holds Inv-loop μ-loop
 loop-holds c =

@@ -21,9 +21,9 @@ use Rattle.selection.specs.Loop.{after, reached-next, reached-stop, reached-end
 use Rattle.best_pairs.specs.Kept.{Keeps}
 use Rattle.best_pairs.specs.Holds.{holds-keys, holds-numbers, arrays-goes-on, arrays-next}
 use Rattle.search.specs.declared.Searched.the-variants.{Read, Refused}
-use Rattle.search.specs.Search.{Library, numbersIn, distanceIn, lowIn, inOwnCell, searched}
+use Rattle.search.specs.Search.{Index, numbersIn, distanceIn, lowIn, inOwnCell, searched}
 use Rattle.distance.specs.Values.{valuesFrom, values-length, value-at}
-use Rattle.search.specs.Ready.{library, Ready, ordered-below}
+use Rattle.search.specs.Ready.{indexOf, Ready, ordered-below}
 use Rattle.least_reading.specs.Answered.{Reads, HasRead, afterReads, next-in-cell, next-outside}
 use Rattle.least_reading.specs.declared.reading.VectorRead.the-variants.{Distance, Outside}
 use Rattle.least_reading.specs.Vector.{vectorRead, tells-distance, tells-outside}
@@ -32,12 +32,12 @@ use Rattle.least_reading.proofs.reading.read_rest.Tie as tie
 
 abbrev Inv-loop : tie.InvT-loop
 Inv-loop terms query marks codes vectors lows order keys₀ best₀ n k done₀ keys best done =
-    (terms .k ≤ done) × HasRead (library terms marks codes vectors) query (terms .k) done keys best
+    (terms .k ≤ done) × HasRead (indexOf terms marks codes vectors) query (terms .k) done keys best
 
 abbrev μ-loop : tie.MeasureT-loop
 μ-loop terms query marks codes vectors lows order keys₀ best₀ n k done₀ keys best done = terms .n - done
 
-module _ {l : Library} {query : List ℤ} {k : ℕ} (is : Ready l query k) {keys best : List ℕ} {done : ℕ}
+module _ {l : Index} {query : List ℤ} {k : ℕ} (is : Ready l query k) {keys best : List ℕ} {done : ℕ}
     (at : HasRead l query k done keys best) where
   -- nothing more is read
   reads-count : length (afterReads l query k done .reads) ≡ done
@@ -95,8 +95,8 @@ module _ {l : Library} {query : List ℤ} {k : ℕ} (is : Ready l query k) {keys
           })
 
 -- the library that was handed in
-abbrev given : tie.Start Inv-loop μ-loop → Library
-given s = library (s .args .terms) (s .args .marks .now) (s .args .codes .now) (s .args .vectors .now)
+abbrev given : tie.Start Inv-loop μ-loop → Index
+given s = indexOf (s .args .terms) (s .args .marks .now) (s .args .codes .now) (s .args .vectors .now)
 
 -- where the next number is looked up
 abbrev entry : tie.After-shared-slice-known4 Inv-loop μ-loop → tie.Start Inv-loop μ-loop

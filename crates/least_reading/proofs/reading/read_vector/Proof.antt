@@ -7,16 +7,16 @@ use borrow.Author.Needs.{needs}
 use borrow.Author.Tests.{not-true, not-false, eq-eqb}
 use Rattle.distance.specs.Distance.{distanceOf}
 use Rattle.bounds.specs.Inside.{inCell}
-use Rattle.search.specs.Search.{Library, inOwnCell}
-use Rattle.search.specs.Ready.{library, Place, place}
+use Rattle.search.specs.Search.{Index, inOwnCell}
+use Rattle.search.specs.Ready.{indexOf, Place, place}
 use Rattle.least_reading.specs.declared.reading.VectorRead.the-variants.{Distance}
 use Rattle.least_reading.specs.Vector.{celled, measured}
 use Rattle.least_reading.proofs.reading.read_vector.Statement.{statement}
 use Rattle.least_reading.proofs.reading.read_vector.Tie as tie
 
 -- the library that was handed in, and the vector's place in it
-abbrev given : tie.Start → Library
-given s = library (s .args .terms) (s .args .marks .now) (s .args .codes .now) (s .args .vectors .now)
+abbrev given : tie.Start → Index
+given s = indexOf (s .args .terms) (s .args .marks .now) (s .args .codes .now) (s .args .vectors .now)
 
 its-place : (s : tie.Start) → Place (s .args .terms .d) (s .args .vectors .now) (s .args .number)
 its-place s = place (s .pre .0) (s .args .number) (s .pre .1)

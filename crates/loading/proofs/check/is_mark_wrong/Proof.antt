@@ -7,7 +7,7 @@ use lib.Dec.{leb}
 use borrow.Author.Needs.{needs}
 use borrow.Author.Tests.{lt-ltb, le-leb, lt-leb}
 use Rattle.limits.specs.Limits.{isMark}
-use Rattle.whole.specs.Keys.{keyOf, key-mark, key-lt}
+use Rattle.signed.specs.Keys.{keyOf, key-mark, key-lt}
 use Rattle.records.specs.Bytes.{AreBytes}
 use Rattle.library.specs.Library.{markAt}
 use Rattle.loading.specs.ReadLaws.{mark-fits}

@@ -3,7 +3,7 @@ use Prim.Native.Nat.{_+_, _-_, _≤_, _<_}
 use native.Mathlib.Omega.{arith}
 use lib.ListN.{length}
 use borrow.Author.Needs.{needs}
-use Rattle.whole.proofs.ReadBack.{given}
+use Rattle.signed.proofs.ReadBack.{given}
 use Rattle.layout.specs.Stretch.{shape}
 use Rattle.library.specs.Library.{markAt}
 use Rattle.library.specs.Sizes.{EndsAt, stretch-bits, ends-at}

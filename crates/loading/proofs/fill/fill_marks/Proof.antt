@@ -1,7 +1,7 @@
 -- `fill_marks` meets its contract: the marks so far stand in front of what is kept. Assumes nothing.
 use Prim.Native.Nat.{_-_}
 use native.Mathlib.Omega.{arith}
-use Rattle.whole.proofs.ReadBack.{given}
+use Rattle.signed.proofs.ReadBack.{given}
 use Rattle.library.specs.Library.{markAt}
 use Rattle.library.proofs.Filling.{Filling, filling-start, filling-next, filling-end}
 use Rattle.loading.proofs.fill.fill_marks.Statement.{statement}

@@ -2,7 +2,7 @@
 use Prim.Native.Nat.{_-_}
 use native.Mathlib.Omega.{arith}
 use lib.ListN.{drop}
-use Rattle.whole.proofs.ReadBack.{given}
+use Rattle.signed.proofs.ReadBack.{given}
 use Rattle.library.specs.Library.{storedAt}
 use Rattle.library.proofs.Filling.{Placing, placing-start, placing-next, placing-end}
 use Rattle.loading.proofs.fill.fill_vector.Statement.{statement}

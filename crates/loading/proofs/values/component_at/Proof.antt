@@ -1,7 +1,7 @@
 -- `component_at` meets its contract: its bits are those of two bytes. Assumes nothing.
 use native.Mathlib.Omega.{arith}
 use borrow.Author.Needs.{needs}
-use Rattle.whole.proofs.ReadBack.{given}
+use Rattle.signed.proofs.ReadBack.{given}
 use Rattle.library.specs.Library.{storedAt}
 use Rattle.loading.specs.ReadLaws.{component-below}
 use Rattle.loading.proofs.values.component_at.Statement.{statement}

@@ -2,7 +2,7 @@
 use mathlib.Core.Path.{sym, _∙_}
 use native.Mathlib.Omega.{arith}
 use borrow.Author.Needs.{needs}
-use Rattle.whole.proofs.ReadBack.{given}
+use Rattle.signed.proofs.ReadBack.{given}
 use Rattle.library.specs.Sizes.{mark-place}
 use Rattle.loading.specs.ReadLaws.{mark-bits}
 use Rattle.loading.proofs.values.mark_at.Statement.{statement}

@@ -1,8 +1,8 @@
 -- `mark_key` meets its contract: a mark has 32 bits. Assumes nothing.
 use mathlib.Core.Path.{ap, _∙_}
 use borrow.Author.Needs.{needs}
-use Rattle.whole.specs.Keys.{keyOf}
-use Rattle.whole.proofs.ReadBack.{given}
+use Rattle.signed.specs.Keys.{keyOf}
+use Rattle.signed.proofs.ReadBack.{given}
 use Rattle.loading.proofs.values.mark_key.Statement.{statement}
 use Rattle.loading.proofs.values.mark_key.Tie as tie
 

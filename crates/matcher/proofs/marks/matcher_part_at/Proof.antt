@@ -1,6 +1,6 @@
 -- `matcher_part_at` meets its contract: the mark is read off the part. Assumes nothing.
 use borrow.Author.Needs.{needs}
-use Rattle.whole.proofs.ReadBack.{given}
+use Rattle.signed.proofs.ReadBack.{given}
 use Rattle.matcher.proofs.marks.matcher_part_at.Statement.{statement}
 use Rattle.matcher.proofs.marks.matcher_part_at.Tie as tie
 

@@ -47,11 +47,11 @@ use Rattle.refusal.specs.First.{first, outcome}
 use Rattle.search.specs.declared.Searched.{Searched}
 use Rattle.search.proofs.Searched as Ans
 use Rattle.search.proofs.Searched.Laws as Ans′
-use Rattle.search.specs.Search.{Library, searched, searchCauses}
+use Rattle.search.specs.Search.{Index, searched, searchCauses}
 use Rattle.search.specs.declared.Terms.{Terms}
 use Rattle.search.proofs.Terms as Tm
 use Rattle.search.proofs.Terms.Laws as Tm′
-use Rattle.search.specs.Ready.{library, termsOf, roomOf}
+use Rattle.search.specs.Ready.{indexOf, termsOf, roomOf}
 use Rattle.search.specs.Answer.{searchedNumber, searchedCount, searchAnswer, searchEntries, searchReads}
 use Rattle.entries.specs.declared.Entry.{Entry}
 use Rattle.entries.proofs.Entry as S
@@ -166,8 +166,8 @@ module _ {M : Type 1} (𝓤 : URA M) (H : Heap 𝓤) (A : Atoms 𝓤) (W : Given
   abbrev terms-val : Val
   terms-val = vstruct (ofList (vint w64 d ∷ vint w64 b ∷ vint w64 n ∷ vint w64 k ∷ []))
 
-  abbrev l : Library
-  l = library terms (now marks) (now codes) (now vectors)
+  abbrev l : Index
+  l = indexOf terms (now marks) (now codes) (now vectors)
 
   abbrev verdict : Verdict
   verdict = first (searchCauses l (now query) k (roomOf (length (now entries)) (length (now reads))))

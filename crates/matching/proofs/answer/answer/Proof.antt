@@ -15,7 +15,7 @@ use Rattle.codes.specs.Pack.{sizeCauses, sizes}
 use Rattle.approximation.specs.VectorCauses.{locateCauses, packVectorsCauses}
 use Rattle.approximation.specs.Vectors.{vectorCodes}
 use Rattle.search.specs.Search.{searched}
-use Rattle.search.specs.Ready.{library, termsOf}
+use Rattle.search.specs.Ready.{indexOf, termsOf}
 use Rattle.text.specs.Puts.{puts-length, puts-same}
 use Rattle.matching.specs.Answer.{answerLines}
 use Rattle.matching.specs.Lent.{back-within, shared-is}
@@ -76,7 +76,7 @@ returns c =
     let a = back .before .before .before .before .args in
     puts-same (ap
     (λ (codes : List ℕ). answerLines (a .settings .now) (a .k)
-    (searched (library (termsOf (a .d) (a .b) (a .n) (a .k)) (a .marks .now) codes (a .components .now)) (a .query .now) (a .k)))
+    (searched (indexOf (termsOf (a .d) (a .b) (a .n) (a .k)) (a .marks .now) codes (a .components .now)) (a .query .now) (a .k)))
     (codes-are back))
     (put .answer-coded .ensures)
 

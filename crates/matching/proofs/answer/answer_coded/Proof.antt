@@ -15,8 +15,8 @@ use Rattle.order.specs.Pair.{Pair}
 use Rattle.order.specs.Members.{_∈_}
 use Rattle.search.specs.declared.Found.{Found}
 use Rattle.search.specs.Answer.{searchedCount}
-use Rattle.search.specs.Search.{Library, searched, searchCauses}
-use Rattle.search.specs.Ready.{library, roomOf}
+use Rattle.search.specs.Search.{Index, searched, searchCauses}
+use Rattle.search.specs.Ready.{indexOf, roomOf}
 use Rattle.search.specs.Accepted.{Passes, passes}
 use Rattle.least_reading.specs.Searching.{Searches, found-front}
 use Rattle.text.specs.Puts.{puts-length, puts-same}
@@ -26,8 +26,8 @@ use Rattle.matching.proofs.answer.answer_coded.Statement.{statement}
 use Rattle.matching.proofs.answer.answer_coded.Tie as tie
 
 -- the library that is searched
-abbrev given : tie.Start → Library
-given s = library (s .args .terms) (s .args .marks .now) (s .args .codes .now) (s .args .components .now)
+abbrev given : tie.Start → Index
+given s = indexOf (s .args .terms) (s .args .marks .now) (s .args .codes .now) (s .args .components .now)
 
 passing : (s : tie.Start) → let t = s .args .terms in Passes (given s) (s .args .query .now) (t .k) (roomOf (t .k) (t .n))
 passing s =
@@ -41,7 +41,7 @@ few-neighbours : (s : tie.Start) → s .args .terms .k ≤ maxNeighbours
 few-neighbours s = neighbours (s .args .terms .n) (s .args .terms .k) (passing s .count) (passing s .neighbours) .few
 
 -- the lines of what was found, and that its numbers are those of settings
-module _ (l : Library) (query : List ℤ) (k n reads : ℕ) {f : Found} {old new : List ℕ}
+module _ (l : Index) (query : List ℤ) (k n reads : ℕ) {f : Found} {old new : List ℕ}
     (accepted : first (searchCauses l query k (roomOf k n)) ≡ Accepted) (same : reads ≡ n)
     (found : Searches (first (searchCauses l query k (roomOf k reads))) l query k f old new) where
   held : first (searchCauses l query k (roomOf k reads)) ≡ Accepted

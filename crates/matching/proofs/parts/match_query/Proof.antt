@@ -9,7 +9,7 @@ use Rattle.refusal.specs.declared.Verdict.the-variants.{Accepted}
 use Rattle.refusal.specs.First.{first, outcome-accepted, outcome-refused}
 use Rattle.limits.specs.Limits.{maxDimensions}
 use Rattle.limits.specs.Tests.{between}
-use Rattle.whole.specs.Components.{areComponents}
+use Rattle.signed.specs.Components.{areComponents}
 use Rattle.library.specs.Library.{Library, libraryWith}
 use Rattle.query.specs.Query.{recordsCauses, componentsOf}
 use Rattle.matching.specs.Answer.{refusedText, answerText}

@@ -9,13 +9,13 @@ use lib.ListN.{length}
 use Rattle.refusal.specs.First.{first, first-append, outcome-accepted}
 use Rattle.limits.specs.Limits.{maxVectors, isVectorCount, isNeighbourCount}
 use Rattle.limits.specs.Tests.{between}
-use Rattle.whole.specs.Components.{areComponents}
+use Rattle.signed.specs.Components.{areComponents}
 use Rattle.layout.specs.Layout.{firstMarks}
 use Rattle.layout.specs.Stretch.{shapeCauses}
 use Rattle.codes.specs.Codes.{codeLength}
 use Rattle.cells.specs.CellCauses.{shapedCodeCauses}
 use Rattle.search.specs.Search.{exactLengths}
-use Rattle.search.specs.Ready.{library, roomOf}
+use Rattle.search.specs.Ready.{indexOf, roomOf}
 use Rattle.search.proofs.entry.check_shaped.Statement.{statement}
 use Rattle.search.proofs.entry.check_shaped.Tie as tie
 
@@ -29,11 +29,12 @@ enough : (c : tie.Else2) → let a = c .before .before .before .before .before .
 enough c = sym (c .before .is-neighbour-count .ensures) ∙ not-false (c .before .is-neighbour-count .result) (c .if2 .left)
 
 measured : (c : tie.Else3) → let a = c .before .before .before .before .before .before .before .args in
-    exactLengths (library (a .terms) (a .marks .now) (a .codes .now) (a .vectors .now)) (a .query .now) (a .terms .k)
+    exactLengths (indexOf (a .terms) (a .marks .now) (a .codes .now) (a .vectors .now)) (a .query .now) (a .terms .k)
     (roomOf (a .entries) (a .reads)) ≡ true
 measured c = sym (c .before .exact-lengths .ensures) ∙ not-false (c .before .exact-lengths .result) (c .if3 .left)
 
-queried : (c : tie.Else4) → areComponents (c .before .before .before .before .before .before .before .before .before .args .query .now) ≡ true
+queried : (c : tie.Else4)
+    → areComponents (c .before .before .before .before .before .before .before .before .before .args .query .now) ≡ true
 queried c = sym (c .before .are-components .ensures) ∙ not-false (c .before .are-components .result) (c .if4 .left)
 
 returns : tie.Need-returns

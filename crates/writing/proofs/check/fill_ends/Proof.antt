@@ -5,7 +5,7 @@ use native.Mathlib.Omega.{arith}
 use lib.IntN.{ℤ, pos}
 use lib.ListN.{length, getD}
 use borrow.Author.Needs.{needs}
-use Rattle.whole.proofs.ReadBack.{given}
+use Rattle.signed.proofs.ReadBack.{given}
 use Rattle.layout.specs.Stretch.{shape}
 use Rattle.library.specs.Sizes.{EndsAt, stretch-bits, ends-at}
 use Rattle.library.proofs.Filling.{Ending, ending-start, ending-next, ending-end}

@@ -5,7 +5,7 @@ use native.Mathlib.Omega.{arith}
 use borrow.Author.Needs.{needs}
 use mir.Syntax.{w32}
 use mir.ValLaws.{toZ-ofZ}
-use Rattle.whole.specs.Keys.{keyOf, key-fits}
+use Rattle.signed.specs.Keys.{keyOf, key-fits}
 use Rattle.writing.proofs.put.bits_of.Statement.{statement}
 use Rattle.writing.proofs.put.bits_of.Tie as tie
 

@@ -10,7 +10,7 @@ use borrow.Author.Needs.{needs}
 use mir.Syntax.{w16, w32}
 use mir.Val.{ofZ}
 use mir.ValLaws.{toZ-ofZ}
-use Rattle.whole.specs.Components.{component-at}
+use Rattle.signed.specs.Components.{component-at}
 use Rattle.records.specs.Bytes.{lowFirst}
 use Rattle.records.specs.Records.{joined}
 use Rattle.library.specs.Each.{tabulate}
