@@ -29,7 +29,7 @@
  * unless another rule stands with it.
  *
  * The calls use no heap, keep nothing from one call to the next, and do no input or output. So they can run at the
- * same time, each on what it is given. A call uses at most 48 KiB of stack, matcher_match at most 160 KiB.
+ * same time, each on what it is given. A call uses at most 60 KiB of stack, matcher_match at most 160 KiB.
  */
 #ifndef MATCHER_H
 #define MATCHER_H
@@ -69,6 +69,8 @@ enum matcher_refusal {
 #define MATCHER_MAX_DIMENSIONS 32      /* d is 1 to this */
 #define MATCHER_MAX_DIMENSION_BITS 6   /* b is 0 to this times d */
 #define MATCHER_MAX_VECTORS 512        /* n is 1 to this; k is 1 to n */
+#define MATCHER_MAX_NEIGHBOURS 512     /* k is 1 to n, and never above this */
+#define MATCHER_KIT_VECTORS 512        /* the most vectors of matcher_match's library */
 #define MATCHER_LEAST_COMPONENT (-32768)
 #define MATCHER_GREATEST_COMPONENT 32767
 #define MATCHER_LEAST_MARK (-32768)

@@ -143,7 +143,7 @@ fn no_limit_is_another() {
     let print = |(name, _): &(String, String)| format!("    printf(\"%lld\\n\", (long long)(MATCHER_{name}));\n");
     let lines = printed("limits.c", &limits.iter().map(print).collect::<String>());
     let named: Vec<(String, String)> = limits.iter().map(|(name, _)| name.clone()).zip(lines).collect();
-    assert_eq!(named.len(), 9);
+    assert_eq!(named.len(), 11);
     assert_eq!(named, limits, "the header, and crates/limits and crates/reading");
 }
 
