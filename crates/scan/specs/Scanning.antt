@@ -29,7 +29,7 @@ scanTerms d n k = record { d = d; n = n; k = k }
 abbrev pub scanAnswer : ScanTerms → List ℤ → List ℤ → List Pair
 scanAnswer t query vectors = scan (t .k) (distancesOf (t .d) query vectors) (countFrom 0 (t .n))
 
--- the scan "has vectors and tests 6 on them"; lengths: query d, vectors n·d, entries k
+-- the scan has the query and the vectors and tests 6 on both; the lengths are d for the query, n·d for the vectors, k for the entries
 abbrev pub scanCauses : ScanTerms → List ℤ → List ℤ → ℕ → List Row
 scanCauses t query vectors entries =
     (not (isDimensionCount (t .d)) ⇒ Dimension)

@@ -1,6 +1,5 @@
-// What the search is, and its theorems (specs/Search.antt, specs/Theorems.antt). In code: what it is asked, what it answers, and the test
-// at
-// its entry.
+// What the search is, and its theorems (specs/Search.antt, specs/Theorems.antt). In code: what it is asked, what it answers, and the
+// test at its entry.
 pub mod entry;
 
 use entries::Entry;
