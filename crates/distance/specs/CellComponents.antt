@@ -9,7 +9,7 @@ use lib.IntN.{ℤ, pos, negsuc, predℤ}
 use lib.Signed.{leZ}
 use lib.ListN.{length, getD}
 use Rattle.limits.specs.Limits.{isComponent, isMark, greatestComponent, leastMark, greatestMark}
-use Rattle.limits.specs.Tests.{All, all-fails}
+use Rattle.limits.specs.Tests.{All, all-each}
 use Rattle.signed.specs.Components.{areComponents, all-components}
 use Rattle.region.specs.Dimension.{notAbove, goodDimension}
 use Rattle.region.specs.Region.{inRegion}
@@ -33,14 +33,6 @@ inside-component {low} {v} {high} lows highs inside =
     let greatest = and-eq-true-iff (leZ leastMark high) (leZ high greatestMark) .0 highs .1 in
     and-eq-true-iff _ _ .1 (leZ-trans leastMark low v least (inside .above), leZ-trans v (predℤ high) greatestComponent (sym (lt-pred v high) ∙ inside .below) (last-component high greatest))
 
--- where all of them hold, each does
-each : {first one : ℕ → Bool} → All first one → (n t : ℕ) → t < n → first n ≡ true → one t ≡ true
-each {first} {one} is n t h holds = go (one t) refl
-  where
-    go : (b : Bool) → one t ≡ b → b ≡ true
-    go true e = refl
-    go false e = let fails = all-fails is n t h e in cc
-
 inside-all : (d b : ℕ) (marks : List ℤ) (codes : List ℕ) (i : ℕ) (vector : List ℤ)
     → All (inFirst d b marks codes i vector) (λ t. inRegion (dimensionMarks d b marks (suc t)) (codeRegion d b codes i t) (getD vector t (pos 0)))
 unfolding inFirst
@@ -63,6 +55,6 @@ module _ (d b : ℕ) (marks : List ℤ) (good : goodMarks d b marks ≡ true) wh
       one t h =
           let h : t < d = omega (arith, cell .components) in
           let r = codeRegion d b codes i t in
-          let inside = each (inside-all d b marks codes i vector) d t h (cell .inside) in
+          let inside = all-each (inside-all d b marks codes i vector) d t h (cell .inside) in
           inside-component (good-mark t r h) (good-mark t (suc r) h)
           (in-region (dimensionMarks d b marks (suc t)) r (getD vector t (pos 0)) inside)

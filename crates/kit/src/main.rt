@@ -2,8 +2,8 @@
 // what was read.
 use libc::STDIN_FILENO;
 use libc::STDOUT_FILENO;
+use limits::KIT_VECTORS;
 use limits::MAX_DIMENSIONS;
-use limits::MAX_VECTORS;
 use loading::MARKS_ROOM;
 use matching::K_LENGTH;
 use matching::TEXT_ROOM;
@@ -21,7 +21,7 @@ ghost use Rattle.matching.specs.Longest.{longestMatch, PrintsRead};
 // The length of the longest match that is accepted: the longest library, k, and a held reading for each dimension.
 const LONGEST_MATCH: usize = HEAD_LENGTH
     + MARKS_ROOM * MARK_LENGTH
-    + MAX_VECTORS * VECTOR_LENGTH
+    + KIT_VECTORS * VECTOR_LENGTH
     + END_LENGTH
     + K_LENGTH
     + MAX_DIMENSIONS * HELD_LENGTH;

@@ -1,6 +1,5 @@
 pub mod Answer
 pub mod Lines
-pub mod Lent
 pub mod Match
 pub mod Packed
 pub mod Answerable

@@ -19,7 +19,7 @@ use Rattle.refusal.specs.declared.Refusal.the-variants.{Kind, Misplaced, Traili
 use Rattle.refusal.specs.declared.Verdict.{Verdict}
 use Rattle.refusal.specs.declared.Verdict.the-variants.{Accepted, Refused}
 use Rattle.refusal.specs.First.{Row, _⇒_, first, passed, first-here, outcome-refused, apart}
-use Rattle.limits.specs.Limits.{maxDimensions, maxDimensionBits, maxVectors, isVectorCount}
+use Rattle.limits.specs.Limits.{maxDimensions, maxDimensionBits, maxVectors, kitVectors, isVectorCount}
 use Rattle.limits.specs.Tests.{between}
 use Rattle.layout.specs.Layout.{bitsOf, markCount, firstMarks}
 use Rattle.layout.specs.Laws.{marks-within}
@@ -46,7 +46,7 @@ use Rattle.matching.specs.Alike.{Alike, alike-take, alike-drop, same-num
 
 -- the longest library, k, and a held reading for each dimension
 unfoldable pub longestMatch : ℕ
-longestMatch = libraryLength maxDimensions (maxDimensionBits * maxDimensions) maxVectors + kLength + maxDimensions * recordLength heldKind
+longestMatch = libraryLength maxDimensions (maxDimensionBits * maxDimensions) kitVectors + kLength + maxDimensions * recordLength heldKind
 
 pub longest-match : longestMatch ≡ 45928
 unfolding longestMatch libraryLength vectorPlace markPlace recordLength sum widthsOf widthsAmong formats firstMarks bitsOf

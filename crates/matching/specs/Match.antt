@@ -9,7 +9,7 @@ use Rattle.refusal.specs.declared.Refusal.the-variants.{Neighbours, Length, Tru
 use Rattle.refusal.specs.declared.Verdict.{Verdict}
 use Rattle.refusal.specs.declared.Verdict.the-variants.{Accepted, Refused}
 use Rattle.refusal.specs.First.{Row, _⇒_, first, outcome}
-use Rattle.limits.specs.Limits.{maxVectors}
+use Rattle.limits.specs.Limits.{maxNeighbours}
 use Rattle.records.specs.Bytes.{fromLowFirst}
 use Rattle.library.specs.Library.{Library, libraryLength, readLibrary}
 use Rattle.loading.specs.Load.{recordsCauses as libraryCauses}
@@ -60,7 +60,7 @@ matchText input = textWith (readLibrary input) input
 -- the output is lent at an upper bound on the length of a text: line one has two counts, and each of its entries a number, settings and a
 -- distance, of at most 3, 3, 3, 10 and 12 digits, each with the byte behind it
 abbrev pub textRoom : ℕ
-textRoom = (4 + 4) + maxVectors * (4 + 11 + 13)
+textRoom = (4 + 4) + maxNeighbours * (4 + 11 + 13)
 
 abbrev pub roomCauses : ℕ → List Row
 roomCauses room = (not (eqb room textRoom) ⇒ Length) ∷ []

@@ -5,7 +5,7 @@ mod parts;
 
 use crate::lines::put_refusal;
 use crate::parts::match_rest;
-use limits::MAX_VECTORS;
+use limits::MAX_NEIGHBOURS;
 use loading::COMPONENTS_ROOM;
 use loading::MARKS_ROOM;
 use loading::SETTINGS_ROOM;
@@ -26,7 +26,7 @@ pub const K_LENGTH: usize = 2;
 
 // An upper bound on the length of a text, for which the output is lent: two counts, then for each entry a number, settings and a distance,
 // each at its most digits with the byte behind it. No text needs all of it.
-pub const TEXT_ROOM: usize = (4 + 4) + MAX_VECTORS * (4 + 11 + 13);
+pub const TEXT_ROOM: usize = (4 + 4) + MAX_NEIGHBOURS * (4 + 11 + 13);
 
 // What a match answers: nothing refuses the output, or the cause that does, and how many bytes the text has.
 pub struct Printed {

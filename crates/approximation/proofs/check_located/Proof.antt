@@ -1,13 +1,13 @@
 -- `check_located` meets its contract: the tests in their order, each of which leaves the rows behind it. Assumes nothing.
 use mathlib.Core.Path.{_≡_, sym, ap, _∙_}
-use mathlib.Core.Bool.{Bool, not}
+use mathlib.Core.Bool.{not}
 use mathlib.Core.List.{List, [], _∷_}
 use Prim.Native.Nat.{ℕ}
 use borrow.Author.Needs.{needs}
 use borrow.Author.Tests.{eq-eqb, ne-eqb}
 use lib.ListN.{length, drop}
 use Rattle.refusal.specs.declared.Refusal.the-variants.{Length, Component, Mark, Outside}
-use Rattle.refusal.specs.First.{Row, _⇒_, first, outcome-accepted, outcome-refused, first-here, first-next, first-append}
+use Rattle.refusal.specs.First.{Row, _⇒_, first, outcome-accepted, outcome-refused, first-here, first-next, first-append, told}
 use Rattle.layout.specs.Layout.{firstMarks}
 use Rattle.layout.specs.Stretch.{marks-length-is, shape}
 use Rattle.partition.specs.Marks.{goodMarks}
@@ -19,10 +19,6 @@ use Rattle.approximation.proofs.check_located.Tie as tie
 -- These are the rows from the k-th on.
 abbrev rows : ℕ → tie.Start → List Row
 rows k c = drop k (locateCauses (c .args .d) (c .args .b) (c .args .vectors .now) (c .args .marks .now))
-
--- The code's flag decides the row's test.
-told : {result test value : Bool} → result ≡ test → not result ≡ value → not test ≡ value
-told is flag = ap not (sym is) ∙ flag
 
 -- ---- The marks' length
 

@@ -1,6 +1,5 @@
 -- `check_scan` meets its contract: the tests in their order, each of which leaves the rows behind it. Assumes nothing.
-use mathlib.Core.Path.{_≡_, sym, ap, _∙_}
-use mathlib.Core.Bool.{Bool, not}
+use mathlib.Core.Path.{_≡_, sym, _∙_}
 use mathlib.Core.List.{List, []}
 use Prim.Native.Nat.{ℕ, _*_, _≤_}
 use native.Mathlib.Nat.{mul-le-mul}
@@ -9,7 +8,7 @@ use lib.ListN.{drop}
 use borrow.Author.Needs.{needs}
 use borrow.Author.Tests.{not-false}
 use Rattle.refusal.specs.declared.Refusal.the-variants.{Dimension, Count, Neighbours, Length, Component}
-use Rattle.refusal.specs.First.{Row, first, first-here, first-next}
+use Rattle.refusal.specs.First.{Row, first, first-here, first-next, told}
 use Rattle.limits.specs.Limits.{maxDimensions, maxVectors, isDimensionCount, isVectorCount}
 use Rattle.limits.specs.Tests.{between}
 use Rattle.scan.specs.Scanning.{scanCauses}
@@ -19,10 +18,6 @@ use Rattle.scan.proofs.check_scan.Tie as tie
 -- the rows from the m-th on
 abbrev rows : ℕ → tie.Start → List Row
 rows m c = drop m (scanCauses (c .args .terms) (c .args .query .now) (c .args .vectors .now) (c .args .entries))
-
--- what the code's flag says of the row's test
-told : {result test value : Bool} → result ≡ test → not result ≡ value → not test ≡ value
-told is flag = ap not (sym is) ∙ flag
 
 passed-1 : (c : tie.Else1) → let start = c .before .before in first (rows 0 start) ≡ first (rows 1 start)
 passed-1 c = first-next Dimension _ (told (c .before .is-dimension-count .ensures) (c .if1 .left))

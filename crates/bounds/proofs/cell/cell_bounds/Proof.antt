@@ -1,6 +1,5 @@
 -- `cell_bounds` meets its contract: both bounds where nothing refuses, and a refusal leaves both buffers as they were. Assumes nothing.
 use mathlib.Core.Path.{_≡_, sym, ap, _∙_}
-use Prim.Native.Nat.{ℕ}
 use borrow.Author.Needs.{needs}
 use lib.ListN.{length}
 use Rattle.refusal.specs.declared.Verdict.{Verdict}
@@ -8,7 +7,7 @@ use Rattle.refusal.specs.declared.Verdict.the-variants.{Accepted, Refused}
 use Rattle.refusal.specs.First.{first, outcome-accepted}
 use Rattle.distance.specs.Bounds.{lowerOf, upperOf}
 use Rattle.distance.specs.Values.{valuesFrom}
-use Rattle.bounds.specs.Bounded.{boundsCauses, Bounding, Bounded, bounded}
+use Rattle.bounds.specs.Bounded.{boundsCauses, Bounded, bounded}
 use Rattle.bounds.proofs.cell.cell_bounds.Statement.{statement}
 use Rattle.bounds.proofs.cell.cell_bounds.Tie as tie
 

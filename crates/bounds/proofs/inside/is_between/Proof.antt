@@ -1,5 +1,4 @@
 -- `is_between` meets its contract: the two tests are the definition's. Assumes nothing.
-use mathlib.Core.Path.{_≡_}
 use Prim.Native.Nat.{_+_}
 use native.Mathlib.Omega.{arith}
 use lib.IntN.{pos}

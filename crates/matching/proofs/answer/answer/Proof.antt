@@ -18,7 +18,7 @@ use Rattle.search.specs.Search.{searched}
 use Rattle.search.specs.Ready.{indexOf, termsOf}
 use Rattle.text.specs.Puts.{puts-length, puts-same}
 use Rattle.matching.specs.Answer.{answerLines}
-use Rattle.matching.specs.Lent.{back-within, shared-is}
+use Rattle.order.proofs.Prefix.{back-within, shared-is}
 use Rattle.matching.proofs.answer.answer.Statement.{statement}
 use Rattle.matching.proofs.answer.answer.Tie as tie
 

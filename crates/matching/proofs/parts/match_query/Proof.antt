@@ -14,7 +14,7 @@ use Rattle.library.specs.Library.{Library, libraryWith}
 use Rattle.query.specs.Query.{recordsCauses, componentsOf}
 use Rattle.matching.specs.Answer.{refusedText, answerText}
 use Rattle.matching.specs.Answerable.{query-components, query-length}
-use Rattle.matching.specs.Lent.{back-within, shared-is}
+use Rattle.order.proofs.Prefix.{back-within, shared-is}
 use Rattle.text.specs.Puts.{puts-length, puts-same}
 use Rattle.matching.specs.Steps.{queryText, ready-dimensions, query-rows}
 use Rattle.matching.proofs.parts.match_query.Statement.{statement}
