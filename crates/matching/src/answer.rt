@@ -42,7 +42,7 @@ pub(crate) fn answer(
     ensures { λ r. ⌜ Puts (answerText (libraryWith d b n (now (marks .entry)) (now (settings .entry)) (now (components .entry))) (now (query .entry)) k) 0
         (now (text .entry)) (now (text .exit)) r ⌝ }
 {
-    let size = (n * b + 7) / 8;
+    let size = layout::codes_length(d, b, n);
     let mut codes = [0u8; CODES_ROOM];
     approximation::pack_vectors(d, b, n, components, marks, &mut codes[..size]);
     answer_coded(

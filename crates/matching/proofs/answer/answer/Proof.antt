@@ -1,7 +1,7 @@
 -- `answer` meets its contract: the codes are those that packing gives. Assumes nothing.
 use mathlib.Core.Path.{_≡_, sym, ap, _∙_}
 use mathlib.Core.List.{List, _++_}
-use Prim.Native.Nat.{ℕ, _+_, _*_, _/_, _≤_}
+use Prim.Native.Nat.{ℕ, _*_, _≤_}
 use native.Mathlib.Nat.{mul-le-mul}
 use native.Mathlib.Omega.{arith}
 use lib.IntN.{ℤ}
@@ -10,8 +10,9 @@ use lib.Seq.{length-take-le}
 use borrow.Author.Needs.{needs}
 use Rattle.refusal.specs.declared.Verdict.the-variants.{Accepted}
 use Rattle.refusal.specs.First.{first, outcome, outcome-accepted, accepted-front}
+use Rattle.layout.specs.Stretch.{shapeCauses, codesLength, codes-length-is}
 use Rattle.codes.specs.Codes.{codeLength}
-use Rattle.codes.specs.Pack.{sizeCauses, sizes}
+use Rattle.codes.specs.Pack.{lengthCauses, sizeCauses, sizes}
 use Rattle.approximation.specs.VectorCauses.{locateCauses, packVectorsCauses}
 use Rattle.approximation.specs.Vectors.{vectorCodes}
 use Rattle.search.specs.Search.{searched}
@@ -33,8 +34,22 @@ few-bits d b n codes vectors marks accepted =
 few : (s : tie.Start) → s .args .n * s .args .b ≤ 98304
 few s = few-bits (s .args .d) (s .args .b) (s .args .n) _ (s .args .components .now) (s .args .marks .now) (s .pre .0)
 
+-- so many bytes the codes have
+length-is : (d b n codes : ℕ) (vectors marks : List ℤ) → first (packVectorsCauses d b n vectors marks codes) ≡ Accepted
+    → codesLength d b n ≡ codeLength b n
+length-is d b n codes vectors marks accepted =
+    let sized = accepted-front (sizeCauses d b n (length vectors) codes) (locateCauses d b vectors marks) accepted in
+    codes-length-is d b n (accepted-front (shapeCauses d b) (lengthCauses d b n (length vectors) codes) sized)
+    (sizes d b n (length vectors) codes sized .few)
+
+size-is : (c : tie.After-codes-length) → let a = c .before .before .before .args in c .codes-length .result ≡ codeLength (a .b) (a .n)
+size-is c =
+    let s = c .before .before .before in
+    c .codes-length .ensures
+    ∙ length-is (s .args .d) (s .args .b) (s .args .n) _ (s .args .components .now) (s .args .marks .now) (s .pre .0)
+
 codes-hold : tie.Need-array-borrow-prefix-codes
-codes-hold c = omega (arith, few (c .before .before))
+codes-hold c = omega (arith, few (c .before .before .before), size-is c)
 
 codes-within : tie.Need-array-share-prefix-codes
 codes-within c =
@@ -54,26 +69,27 @@ abbrev codes-back : tie.After-pack-vectors → List ℕ
 codes-back c = c .pack-vectors .last .1 .1 .1 .1 .1 .0
 
 -- the codes that were shared
-codes-are : (c : tie.After-pack-vectors) → let a = c .before .before .before .before .args in let size = (a .n * a .b + 7) / 8 in
+codes-are : (c : tie.After-pack-vectors) → let a = c .before .before .before .before .before .args in
+    let size = c .before .before .codes-length .result in
     take size (codes-back c ++ drop size (replicate 12288 0)) ≡ vectorCodes (a .d) (a .b) (a .n) (a .marks .now) (a .components .now)
 codes-are c =
-    let s = c .before .before .before .before in
+    let s = c .before .before .before .before .before in
     let hold = codes-hold (c .before .before) in
     shared-is _ _ (codes-back c) hold (c .pack-vectors .kept .1 .1 .1 .1 .1 .0)
     ∙ packed-are (s .args .d) (s .args .b) (s .args .n) (s .args .components .now) (s .args .marks .now) _ _ (s .pre .0)
-    (length-take-le _ _ hold) (c .pack-vectors .ensures .1)
+    (length-take-le _ _ hold ∙ size-is (c .before .before)) (c .pack-vectors .ensures .1)
 
 answer-coded-requires : tie.Need-answer-coded-requires
 answer-coded-requires c κs =
     let back = c .before .before .before in
-    let s = back .before .before .before .before in
+    let s = back .before .before .before .before .before in
     (rw (codes-are back) (s .pre .1 .0), (s .pre .1 .1 .0, rw (codes-are back) (s .pre .1 .1 .1)))
 
 returns : tie.Need-returns
 returns c =
     let put = c .before .before in
     let back = put .before .before .before .before in
-    let a = back .before .before .before .before .args in
+    let a = back .before .before .before .before .before .args in
     puts-same (ap
     (λ (codes : List ℕ). answerLines (a .settings .now) (a .k)
     (searched (indexOf (termsOf (a .d) (a .b) (a .n) (a .k)) (a .marks .now) codes (a .components .now)) (a .query .now) (a .k)))
@@ -84,8 +100,7 @@ pub answer-spec : {M : Type 1} → statement M
 answer-spec =
     tie.close
     (tie.spec
-    (λ c. omega (arith, few (c .before .before)))
-    (λ c. omega (arith, few (c .before .before)))
+    (λ c κs. search needs)
     codes-hold
     (λ c. sym (length-take-le _ _ (codes-hold (c .before))))
     (λ c κs. search needs)
