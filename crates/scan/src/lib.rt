@@ -29,8 +29,8 @@ pub struct ScanTerms {
 
 // What a scan answers: its verdict, and the entries at the front of an array, with blank ones behind them.
 pub struct Scanned {
-    pub verdict: Verdict,
     pub entries: [Entry; MAX_NEIGHBOURS],
+    pub verdict: Verdict,
 }
 
 // The k of n vectors that are nearest to a query of d components, nearest first, ties by lower number, where so many entries are lent for

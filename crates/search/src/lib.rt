@@ -24,8 +24,8 @@ pub enum Searched {
 
 // The answer with its entries at the front of an array, and blank ones behind them.
 pub struct Found {
-    pub answer: Searched,
     pub entries: [Entry; MAX_NEIGHBOURS],
+    pub answer: Searched,
 }
 
 // How many vectors were read, 0 where it refuses.

@@ -94,20 +94,20 @@ terms-tells : Tells Terms-row (Is Terms-row) (λ t. terms-val t ∷ [])
 terms-tells = LL.tells Tm.the-type Tm′.the-laws
 
 abbrev answer-val : Scanned → Val
-answer-val f = Held′.the-laws .0 .val (Hd.the-type .to f .0)
+answer-val f = Held′.the-laws .1 .0 .val (Hd.the-type .to f .1 .0)
 
 abbrev entries-val : Scanned → Val
-entries-val f = Held′.the-laws .1 .0 .val (Hd.the-type .to f .1 .0)
+entries-val f = Held′.the-laws .0 .val (Hd.the-type .to f .0)
 
 module _ (f : Scanned) (u : Val) (is : Is Held f (u ∷ [])) where
-  spelled : u ≡ vstruct (ofList (answer-val f ∷ entries-val f ∷ []))
+  spelled : u ≡ vstruct (ofList (entries-val f ∷ answer-val f ∷ []))
   spelled = head-eq-of-cons-eq (LL.tells Hd.the-type Held′.the-laws f (u ∷ []) is)
 
   answer-is : Is Row (f .verdict) (answer-val f ∷ [])
-  answer-is = LL.owed Hd.the-type Held′.the-laws f (u ∷ []) is .0
+  answer-is = LL.owed Hd.the-type Held′.the-laws f (u ∷ []) is .1 .0
 
   entries-are : Is Entries (f .entries) (entries-val f ∷ [])
-  entries-are = entries-back (f .entries) _ (LL.owed Hd.the-type Held′.the-laws f (u ∷ []) is .1 .0)
+  entries-are = entries-back (f .entries) _ (LL.owed Hd.the-type Held′.the-laws f (u ∷ []) is .0)
 
 abbrev stayed : Stays (face.ended .signature .params) (face.ended .kept)
 stayed = (
@@ -296,7 +296,7 @@ module _ {M : Type 1} (𝓤 : URA M) (H : Heap 𝓤) (A : Atoms 𝓤) (W : Given
         land ! (from ! (stop !)) (init ! 16 refl (held-typed f u is)) $ drop ! $
         rewrite ! 15 (λ (x : Val). ‵ (fat fullShare Held′.mir l₅ 0 x)) (spelled f u is) refl $
         -- how many entries there are to fill
-        assigns ! (of-opd ! (load ! (from ! (fld ! refl (stop !))) (look-in ! 15 (sub ! 0 refl (whole !))))) (from ! (stop !)) (init !
+        assigns ! (of-opd ! (load ! (from ! (fld ! refl (stop !))) (look-in ! 15 (sub ! 1 refl (whole !))))) (from ! (stop !)) (init !
         13 refl (answer-typed f u is)) $
         nothing ! $ nothing ! $ owned ! usize (Is usize) (uint-makes 𝓤 H A W w64) k _ (refl, fits-k) $
         owned ! Row (Is Row) answer-made (f .verdict) _ (answer-is f u is) $ move ! (0 ∷ 1 ∷ 3 ∷ []) $ group ! 3 $ move ! (1 ∷ 0 ∷ []) $
@@ -329,7 +329,7 @@ module _ {M : Type 1} (𝓤 : URA M) (H : Heap 𝓤) (A : Atoms 𝓤) (W : Given
         move ! (31 ∷ 0 ∷ 3 ∷ 2 ∷ []) $ group ! 4 $ move ! (4 ∷ 1 ∷ []) $ group ! 2 $ join ! $
         use1 W (raw (Fill 𝓤 H A mem run .pre (filling f c u₂))) (fill-asked f c u₂ (room-for f c e e₂)) $
         calls-at ! fm (Fill 𝓤 H A mem run) known-fill (filling f c u₂) (and-then ! (load ! (from ! (stop !)) (look ! 3 refl)) (and-then
-        ! (load ! (from ! (fld ! refl (stop !))) (look-in ! 15 (sub ! 1 refl (whole !)))) (and-then ! (load ! (from ! (stop !)) (look !
+        ! (load ! (from ! (fld ! refl (stop !))) (look-in ! 15 (sub ! 0 refl (whole !)))) (and-then ! (load ! (from ! (stop !)) (look !
         11 refl)) (no-more !)))) (λ u₃.
         use1 W (later (some (λ (z : Unit {0}). (TokensFill 𝓤 κ-entries q-entries ⊛ ‵ (unit .own z (u₃ ∷ []))) ⊛ some (λ (zs : Filled f
         c u₂).
