@@ -85,7 +85,7 @@ impl Call {
     }
 
     /// How many times the other side's cost it may be.
-    pub fn reach(self) -> Option<f64> {
+    pub fn target(self) -> Option<f64> {
         match self {
             Call::Search | Call::Scan => Some(1.2),
             Call::Marks | Call::Pack | Call::Codes | Call::Match => None,

@@ -41,40 +41,40 @@ impl Row {
 
     pub fn print_heads(unit: &str) {
         println!(
-            "call     d  n   data      k    read  {:>11} {:>11}  ratio  reach",
+            "call     d  n   data      k    read  {:>11} {:>11}  ratio target",
             format!("matcher {unit}"),
             format!("rust {unit}")
         );
     }
 
-    /// The two costs, in a unit that `print_heads` names, with their ratio as a bar: a mark for each tenth, `|` at the reach.
+    /// The two costs, in a unit that `print_heads` names, with their ratio as a bar: a mark for each tenth, `|` at the target.
     pub fn print(&self, read: f64, matcher: f64, rust: f64) {
         let ratio = matcher / rust;
-        let (reach, verdict) = match self.call.reach() {
-            Some(reach) => (format!("{reach:.1}"), if ratio <= reach { "" } else { " over" }),
+        let (target, verdict) = match self.call.target() {
+            Some(target) => (format!("{target:.1}"), if ratio <= target { "" } else { " over" }),
             None => (String::new(), ""),
         };
         let read = if self.call == Call::Search { format!("{read:.1}") } else { String::new() };
         println!(
-            "{:7} {:2} {:3}  {:9} {:3} {read:>6}  {matcher:11.1} {rust:11.1} {ratio:6.2} {reach:>5}  {}{verdict}",
+            "{:7} {:2} {:3}  {:9} {:3} {read:>6}  {matcher:11.1} {rust:11.1} {ratio:6.2} {target:>6}  {}{verdict}",
             self.call.name(),
             self.d,
             self.n,
             self.spread.name(),
             self.k,
-            bar(ratio, self.call.reach()),
+            bar(ratio, self.call.target()),
         );
     }
 }
 
 /// A ratio in tenths, cut at 4.
-fn bar(ratio: f64, reach: Option<f64>) -> String {
+fn bar(ratio: f64, target: Option<f64>) -> String {
     const LONGEST: usize = 40;
     let tenths = |x: f64| (x * 10.0).round() as usize;
     let mut bar: Vec<char> = vec!['#'; tenths(ratio).min(LONGEST)];
-    if let Some(reach) = reach.map(tenths) {
-        bar.resize(bar.len().max(reach + 1), ' ');
-        bar[reach] = '|';
+    if let Some(target) = target.map(tenths) {
+        bar.resize(bar.len().max(target + 1), ' ');
+        bar[target] = '|';
     }
     if tenths(ratio) > LONGEST {
         bar.push('>');

@@ -58,7 +58,7 @@ fn check_k(rest: &[u8], n: usize) -> Verdict
     if rest.len() < K_LENGTH {
         return Verdict::Refused(Refusal::Truncated);
     }
-    if !limits::is_between(1, records::u16_at(rest, 0) as usize, n) {
+    if !limits::is_neighbour_count(n, records::u16_at(rest, 0) as usize) {
         return Verdict::Refused(Refusal::Neighbours);
     }
     Verdict::Accepted
