@@ -23,6 +23,9 @@ ghost use Prim.Native.Nat.{_≤_};
 ghost use lib.ListN.{length, take, drop};
 ghost use Rattle.refusal.specs.declared.Verdict.the-variants.{Accepted};
 ghost use Rattle.refusal.specs.First.{first};
+ghost use Rattle.limits.specs.Limits.{maxVectors};
+ghost use Rattle.order.specs.Pair.{countFrom};
+ghost use Rattle.order.specs.Rank.{ranking};
 ghost use Rattle.layout.specs.Layout.{firstMarks};
 ghost use Rattle.layout.specs.Stretch.{shapeCauses};
 ghost use Rattle.selection.specs.Reading.{readingOrder};
@@ -79,7 +82,9 @@ fn search_ready(
     let mut lows = [0u64; MAX_VECTORS];
     lower_bounds(terms.d, terms.b, query, marks, codes, &mut lows[..n]);
     let mut order = [0u32; MAX_VECTORS];
-    ranking::rank(&lows[..n], &mut order[..n]);
+    let mut sorted = [0u64; MAX_VECTORS];
+    let mut words = [0u64; MAX_VECTORS];
+    rank(&lows[..n], &mut order[..n], &mut sorted[..n], &mut words);
     search_ranked(
         terms,
         query,
@@ -163,6 +168,29 @@ fn fill_table(bound: Bound, d: usize, b: usize, marks: &[i32], query: &[i32], ta
             &mut table[start..end],
         );
         t += 1;
+    }
+}
+
+// The keys' numbers in the order of the keys, ties by lower number. A copy of the keys is sorted with them, with words for the sort.
+fn rank(keys: &[u64], numbers: &mut [u32], copy: &mut [u64], words: &mut [u64])
+    requires { ⌜ (length (now numbers) ≡ length (now keys)) × (length (now keys) ≤ maxVectors)
+        × (length (now copy) ≡ length (now keys)) × (length (now keys) ≤ length (now words)) ⌝ }
+    ensures { λ _. ⌜ now (numbers .exit) ≡ ranking (now (keys .entry)) ⌝ }
+{
+    count_up(keys, copy, numbers);
+    sorting::sort(copy, numbers, words);
+}
+
+// Each key, copied, with its own index.
+fn count_up(keys: &[u64], copy: &mut [u64], numbers: &mut [u32])
+    requires { ⌜ (length (now numbers) ≡ length (now keys)) × (length (now keys) ≤ maxVectors) × (length (now copy) ≡ length (now keys)) ⌝ }
+    ensures { λ _. ⌜ (now (copy .exit) ≡ now (keys .entry)) × (now (numbers .exit) ≡ countFrom 0 (length (now (keys .entry)))) ⌝ }
+{
+    let mut i = 0;
+    while i < keys.len() {
+        copy[i] = keys[i];
+        numbers[i] = i as u32;
+        i += 1;
     }
 }
 

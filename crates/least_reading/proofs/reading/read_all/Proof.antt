@@ -2,7 +2,7 @@
 use mathlib.Core.Path.{_≡_, _∙_}
 use mathlib.Core.Bool.{Bool, true, false}
 use mathlib.Core.List.{List}
-use Prim.Native.Nat.{ℕ}
+use Prim.Native.Nat.{ℕ, _≤_}
 use native.Mathlib.Omega.{arith}
 use lib.IntN.{ℤ}
 use lib.ListN.{length, take}
@@ -14,7 +14,7 @@ use Rattle.refusal.specs.First.{first, outcome}
 use Rattle.order.specs.Pair.{sort, numbersOf}
 use Rattle.order.specs.Pairs.{pairsOf, keysOf}
 use Rattle.order.specs.Counted.{counted-length}
-use Rattle.order.specs.Rank.{rankCauses}
+use Rattle.order.specs.Rank.{pairCauses}
 use Rattle.order.specs.Ranking.{ranked-count}
 use Rattle.selection.specs.Reading.{readingOrder}
 use Rattle.selection.specs.Loop.{after, reached-first}
@@ -27,19 +27,19 @@ use Rattle.least_reading.proofs.reading.read_all.Statement.{statement}
 use Rattle.least_reading.proofs.reading.read_all.Tie as tie
 
 module _ {l : Index} {query : List ℤ} {k : ℕ} {r : Bool} {keys best : List ℕ} (first-reads : FirstReads l query k r keys best) where
-  sorted : Ready l query k → r ≡ true → {keys-then best-then : List ℕ}
-      → keys-then ≡ outcome (first (rankCauses (length keys) (length best))) (keysOf (sort (pairsOf keys best))) (λ _. keys)
-      → best-then ≡ outcome (first (rankCauses (length keys) (length best))) (numbersOf (sort (pairsOf keys best))) (λ _. best)
+  sorted : Ready l query k → r ≡ true → (words : ℕ) → k ≤ words → {keys-then best-then : List ℕ}
+      → keys-then ≡ outcome (first (pairCauses (length keys) (length best) words)) (keysOf (sort (pairsOf keys best))) (λ _. keys)
+      → best-then ≡ outcome (first (pairCauses (length keys) (length best) words)) (numbersOf (sort (pairsOf keys best))) (λ _. best)
       → HasRead l query k k keys-then best-then
   unfolding after
-  sorted is all sorted-keys sorted-best =
+  sorted is all words room sorted-keys sorted-best =
       let order = readingOrder (lowIn l query) (numbersIn l) in
       let long : length order ≡ l .n = ranked-count (lowIn l query) (numbersIn l) ∙ counted-length 0 (l .n) in
       let full : length (take k order) ≡ k = length-take-le k order (omega (arith, is .enough)) in
       record {
         within = is .enough;
         reached = reached-first k (lowIn l query) (distanceIn l query) (numbersIn l) k (omega arith) (omega (arith, is .enough, counted-length 0 (l .n)));
-        holds = gathers-sorted (first-reads .gathered all) full (is .some) (omega (arith, is .enough, is .count)) sorted-keys sorted-best;
+        holds = gathers-sorted (first-reads .gathered all) full words room sorted-keys sorted-best;
         inside = first-reads .inside all;
       }
 
@@ -53,15 +53,16 @@ returns c = refused (c .before .before .before .before .before .read-first .ensu
 
 read-rest-requires : tie.Need-read-rest-requires
 read-rest-requires c κs =
-    let sort = c .before .before .before .before .before .before in
-    let read = sort .before .before .before .before .before .before .before .before in
+    let sort = c .before .before .before .before .before .before .before in
+    let read = sort .before .before .before .before .before .before .before .before .before in
     let pre = read .before .before .before .before .before .before .before .before .pre in (
       pre .0 .0,
       (
         pre .1 .0,
         (
           pre .1 .1,
-          sorted (read .read-first .ensures) (pre .0 .0) (not-false _ (sort .before .before .before .if1 .left)) (sort .sort .ensures .1 .0)
+          sorted (read .read-first .ensures) (pre .0 .0) (not-false _ (sort .before .before .before .before .if1 .left)) _ (pre .0 .0 .few)
+              (sort .sort .ensures .1 .0)
               (sort .sort .ensures .1 .1),
         ),
       ),
@@ -75,6 +76,7 @@ read-all-spec =
     (λ c. c .before .before .before .before .before .read-first .kept .1 .1 .1 .1 .1 .1 .0)
     (λ c. c .before .before .before .before .before .read-first .kept .1 .1 .1 .1 .1 .1 .1 .0)
     returns
+    (λ c. search needs)
     (λ c κs. tt)
     read-rest-requires
     (λ c. search needs)
