@@ -4,7 +4,7 @@ use refusal::Refusal;
 use refusal::Verdict;
 use step::Bound;
 use table::MAX_TABLE;
-use table::fill_steps;
+use table::fill_table;
 ghost use mathlib.Core.Path.{_≡_};
 ghost use mathlib.Core.Bool.{_&&_};
 ghost use Prim.Native.Nat.{_≤_};
@@ -18,7 +18,6 @@ ghost use Rattle.layout.specs.Stretch.{shapeCauses};
 ghost use Rattle.distance.specs.Bounds.{firstBound, lowerOf, upperOf};
 ghost use Rattle.distance.specs.Values.{valuesFrom};
 ghost use Rattle.step.specs.Step.{stepOf};
-ghost use Rattle.table.specs.Table.{tableOf};
 ghost use Rattle.bounds.specs.Bounded.{Bounding, boundsCauses, shapedBoundsCauses};
 
 // The bounds of n codes' cells: the least distances in one buffer, the greatest in the other.
@@ -141,25 +140,4 @@ fn fill_bounds(
     let mut table = [0u64; MAX_TABLE];
     fill_table(bound, d, b, marks, query, &mut table[..length]);
     sum_all(d, b, &table[..length], codes, bounds);
-}
-
-// The query's table, each dimension's entries in their own stretch.
-fn fill_table(bound: Bound, d: usize, b: usize, marks: &[i32], query: &[i32], table: &mut [u64])
-    requires { ⌜ (first (shapeCauses d b) ≡ Accepted) × (length (now marks) ≡ firstMarks d b d)
-        × (length (now table) ≡ firstMarks d b d) ⌝ }
-    ensures { λ _. ⌜ now (table .exit) ≡ tableOf (stepOf bound) d b (now (marks .entry)) (now (query .entry)) ⌝ }
-{
-    let mut t = 0;
-    while t < d {
-        let stretch = layout::stretch_of(d, b, t + 1);
-        let start = stretch.offset;
-        let end = start + (1usize << stretch.bits) + 1;
-        fill_steps(
-            bound,
-            signed::at(query, t),
-            &marks[start..end],
-            &mut table[start..end],
-        );
-        t += 1;
-    }
 }

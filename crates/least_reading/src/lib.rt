@@ -16,23 +16,18 @@ use search::found_count;
 use search::read_count;
 use step::Bound;
 use table::MAX_TABLE;
-use table::fill_steps;
+use table::fill_table;
 ghost use mathlib.Core.Path.{_≡_};
 ghost use mathlib.Core.List.{[], _++_};
 ghost use Prim.Native.Nat.{_≤_};
 ghost use lib.ListN.{length, take, drop};
-ghost use Rattle.refusal.specs.declared.Verdict.the-variants.{Accepted};
 ghost use Rattle.refusal.specs.First.{first};
 ghost use Rattle.limits.specs.Limits.{maxVectors};
 ghost use Rattle.order.specs.Pair.{countFrom};
 ghost use Rattle.order.specs.Rank.{ranking};
-ghost use Rattle.layout.specs.Layout.{firstMarks};
-ghost use Rattle.layout.specs.Stretch.{shapeCauses};
 ghost use Rattle.selection.specs.Reading.{readingOrder};
 ghost use Rattle.distance.specs.Bounds.{lowerOf};
 ghost use Rattle.distance.specs.Values.{valuesFrom};
-ghost use Rattle.step.specs.Step.{stepOf};
-ghost use Rattle.table.specs.Table.{tableOf};
 ghost use Rattle.bounds.specs.Bounded.{Bounding};
 ghost use Rattle.search.specs.Search.{numbersIn, lowIn, searchCauses};
 ghost use Rattle.search.specs.Ready.{indexOf, roomOf, Ready};
@@ -148,27 +143,6 @@ fn lower_bounds(d: usize, b: usize, query: &[i32], marks: &[i32], codes: &[u8], 
     let mut table = [0u64; MAX_TABLE];
     fill_table(Bound::Lower, d, b, marks, query, &mut table[..size]);
     sum_bounds(d, b, &table[..size], codes, lows);
-}
-
-// The query's table, each dimension's entries in their own stretch.
-fn fill_table(bound: Bound, d: usize, b: usize, marks: &[i32], query: &[i32], table: &mut [u64])
-    requires { ⌜ (first (shapeCauses d b) ≡ Accepted) × (length (now marks) ≡ firstMarks d b d)
-        × (length (now table) ≡ firstMarks d b d) ⌝ }
-    ensures { λ _. ⌜ now (table .exit) ≡ tableOf (stepOf bound) d b (now (marks .entry)) (now (query .entry)) ⌝ }
-{
-    let mut t = 0;
-    while t < d {
-        let stretch = layout::stretch_of(d, b, t + 1);
-        let start = stretch.offset;
-        let end = start + (1usize << stretch.bits) + 1;
-        fill_steps(
-            bound,
-            signed::at(query, t),
-            &marks[start..end],
-            &mut table[start..end],
-        );
-        t += 1;
-    }
 }
 
 // The keys' numbers in the order of the keys, ties by lower number. A copy of the keys is sorted with them, with words for the sort.

@@ -1,12 +1,16 @@
 -- A query's squared steps to every region, worked out once a query (source document 003, section 3.3), so that a code's bound is a sum
 -- of entries. The table has the layout of the marks buffer: a region's entry stands where its lower mark stands. The entry
 -- at a dimension's last mark, where no region begins, is read by no code. Entries are modulo 2^64. Assumes nothing.
+use mathlib.Core.Bool.{Bool, false, _&&_}
 use mathlib.Core.List.{List, [], _∷_, _++_}
 use Prim.Native.Nat.{ℕ, zero, suc, _+_, _*_, _%_, _^_}
+use lib.Dec.{eqb}
 use lib.IntN.{ℤ, pos}
 use lib.ListN.{getD}
+use Rattle.refusal.specs.First.{first, outcome}
 use Rattle.limits.specs.Limits.{maxDimensions, maxDimensionBits}
 use Rattle.layout.specs.Layout.{markCount, firstMarks}
+use Rattle.layout.specs.Stretch.{shapeCauses}
 use Rattle.partition.specs.Marks.{dimensionMarks}
 use Rattle.codes.specs.Codes.{codeRegion}
 use Rattle.distance.specs.Bounds.{stepTo}
@@ -24,6 +28,10 @@ tableFirst step d b marks query (suc t) =
 
 abbrev pub tableOf : (ℤ → ℤ → ℤ → ℕ) → ℕ → ℕ → List ℤ → List ℤ → List ℕ
 tableOf step d b marks query = tableFirst step d b marks query d
+
+-- whether marks and a table of these lengths are those of d dimensions with b bits in all
+unfoldable pub hasTable : ℕ → ℕ → ℕ → ℕ → Bool
+hasTable d b marks table = outcome (first (shapeCauses d b)) (eqb marks (firstMarks d b d) && eqb table (firstMarks d b d)) (λ _. false)
 
 -- the length of the longest table
 abbrev pub maxTable : ℕ

@@ -1,16 +1,19 @@
 -- What stands in a query's table, and that a code's entries sum up to its bound. Assumes nothing.
 use mathlib.Core.Path.{_≡_, refl, sym, ap, _∙_}
-use mathlib.Core.Bool.{true}
+use mathlib.Core.Bool.{Bool, true, false, cond, _&&_, and-eq-true-iff, false≢true}
 use mathlib.Core.List.{List}
 use mathlib.Core.Logic.{inl, inr}
 use Prim.Native.Nat.{ℕ, zero, suc, _+_, _%_, _^_, _≤_, _<_}
 use native.Mathlib.Nat.{zero-add, add-zero, add-mod, mod-mod, mod-eq-of-lt, le-refl, le-of-suc-le-suc, eq-or-lt-of-le}
 use native.Mathlib.Omega.{arith}
+use borrow.Author.Tests.{eqb-true, eq-eqb}
+use lib.Dec.{eqb}
 use lib.IntN.{ℤ, pos}
 use lib.ListN.{length, getD, length-append, List·getD-append}
 use lib.Seq.{getD-append-add}
-use Rattle.refusal.specs.declared.Verdict.the-variants.{Accepted}
-use Rattle.refusal.specs.First.{first}
+use Rattle.refusal.specs.declared.Verdict.{Verdict}
+use Rattle.refusal.specs.declared.Verdict.the-variants.{Accepted, Refused}
+use Rattle.refusal.specs.First.{first, outcome, outcome-accepted}
 use Rattle.limits.specs.Limits.{maxDimensions, maxDimensionBits}
 use Rattle.signed.specs.Components.{areComponents}
 use Rattle.layout.specs.Layout.{markCount, firstMarks}
@@ -25,7 +28,7 @@ use Rattle.step.specs.Step.{stepOf}
 use Rattle.distance.specs.Bounds.{stepTo, firstBound}
 use Rattle.distance.specs.Small.{lower-small, upper-small}
 use Rattle.distance.specs.Values.{valuesFrom}
-use Rattle.table.specs.Table.{maxTable, stepsFrom, tableFirst, tableOf, tableSum, boundSum}
+use Rattle.table.specs.Table.{maxTable, hasTable, stepsFrom, tableFirst, tableOf, tableSum, boundSum}
 
 pub length-steps : (step : ℤ → ℤ → ℤ → ℕ) (q : ℤ) (marks : List ℤ) (r n : ℕ) → length (stepsFrom step q marks r n) ≡ n
 unfolding stepsFrom
@@ -119,6 +122,34 @@ pub bounds-sum : (bound : Bound) (d b : ℕ) (marks query : List ℤ) (codes : L
     ≡ valuesFrom (λ i. firstBound (stepOf bound) d b marks codes query i d) 0 n
 bounds-sum bound d b marks query codes n shaped components good =
     values-agree _ _ (λ i. bound-sum d b marks query codes i bound shaped components good) 0 n
+
+-- what holds where marks and a table have their lengths
+pub record Lengths (d b marks table : ℕ) : Type 0 where
+  pub shaped : first (shapeCauses d b) ≡ Accepted
+  pub of-marks : marks ≡ firstMarks d b d
+  pub of-table : table ≡ firstMarks d b d
+
+pub table-lengths : (d b marks table : ℕ) → hasTable d b marks table ≡ true → Lengths d b marks table
+unfolding hasTable
+table-lengths d b marks table is = go (first (shapeCauses d b)) refl is
+  where
+    both : Bool
+    both = eqb marks (firstMarks d b d) && eqb table (firstMarks d b d)
+
+    go : (v : Verdict) → first (shapeCauses d b) ≡ v → outcome v both (λ _. false) ≡ true → Lengths d b marks table
+    go Accepted shaped exact =
+        let lengths = and-eq-true-iff (eqb marks (firstMarks d b d)) (eqb table (firstMarks d b d)) .0 exact in
+        record { shaped = shaped; of-marks = eqb-true _ _ (lengths .0); of-table = eqb-true _ _ (lengths .1) }
+    go (Refused cause) shaped exact = absurd (false≢true exact)
+
+-- there the table is filled
+pub is-filled : (d b marks table : ℕ) (full old : List ℕ) → first (shapeCauses d b) ≡ Accepted → marks ≡ firstMarks d b d → table ≡ marks
+    → cond (hasTable d b marks table) full old ≡ full
+unfolding hasTable
+is-filled d b marks table full old shaped of-marks same =
+    let there : hasTable d b marks table ≡ true =
+    outcome-accepted _ _ shaped ∙ rw (eq-eqb _ _ of-marks, eq-eqb _ _ (same ∙ of-marks)) in
+    rw there
 
 -- a table is no longer than the longest
 pub table-le : (d b : ℕ) → first (shapeCauses d b) ≡ Accepted → firstMarks d b d ≤ maxTable

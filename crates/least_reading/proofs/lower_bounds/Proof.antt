@@ -11,7 +11,7 @@ use Rattle.order.proofs.Prefix.{back-within, shared-is}
 use Rattle.step.specs.declared.Bound.the-variants.{Lower}
 use Rattle.distance.specs.Values.{valuesFrom}
 use Rattle.table.specs.Table.{boundSum}
-use Rattle.table.specs.TableLaws.{bounds-sum, table-le}
+use Rattle.table.specs.TableLaws.{is-filled, bounds-sum, table-le}
 use Rattle.bounds.specs.Sums.{sums-accepted}
 use Rattle.least_reading.proofs.lower_bounds.Statement.{statement}
 use Rattle.least_reading.proofs.lower_bounds.Tie as tie
@@ -20,11 +20,6 @@ table-hold : tie.Need-array-borrow-prefix-table
 table-hold c =
     let start = c .before .before in
     omega (arith, start .pre .of-marks, table-le (start .args .d) (start .args .b) (start .pre .shaped))
-
-fill-table-requires : tie.Need-fill-table-requires
-fill-table-requires c κs =
-    let start = c .before .before .before in
-    (start .pre .shaped, start .pre .of-marks, length-take-le _ _ (table-hold (c .before)) ∙ start .pre .of-marks)
 
 table-within : tie.Need-array-share-prefix-table
 table-within c =
@@ -43,9 +38,12 @@ returns c =
     let n = length (a .lows .now) in
     let back = filled .fill-table .last .1 .1 .1 .1 .1 .0 in
     let came-back = shared-is _ _ back (table-hold (filled .before .before)) (filled .fill-table .kept .1 .1 .1 .1 .1 .0) in
+    let full =
+    filled .fill-table .ensures
+    ∙ is-filled (a .d) (a .b) _ _ _ _ (is .shaped) (is .of-marks) (length-take-le _ _ (table-hold (filled .before .before))) in
     summed .sum-bounds .ensures .1
     ∙ outcome-accepted _ _ (sums-accepted is _ (length-take-le _ _ (table-within shared)))
-    ∙ ap (λ (table : List ℕ). valuesFrom (boundSum (a .d) (a .b) table (a .codes .now)) 0 n) (came-back ∙ filled .fill-table .ensures)
+    ∙ ap (λ (table : List ℕ). valuesFrom (boundSum (a .d) (a .b) table (a .codes .now)) 0 n) (came-back ∙ full)
     ∙ bounds-sum Lower (a .d) (a .b) (a .marks .now) (a .query .now) (a .codes .now) n (is .shaped) (is .components) (is .good)
 
 pub lower-bounds-spec : {M : Type 1} → statement M
@@ -54,7 +52,7 @@ lower-bounds-spec =
     (tie.spec
     table-hold
     (λ c. sym (length-take-le _ _ (table-hold (c .before))))
-    fill-table-requires
+    (λ c κs. search needs)
     table-within
     (λ c. sym (length-take-le _ _ (table-within (c .before))))
     (λ c κs. search needs)

@@ -11,7 +11,7 @@ use Rattle.limits.specs.Tests.{between}
 use Rattle.order.proofs.Prefix.{back-within, shared-is}
 use Rattle.distance.specs.Values.{valuesFrom}
 use Rattle.table.specs.Table.{boundSum}
-use Rattle.table.specs.TableLaws.{bounds-sum, table-le}
+use Rattle.table.specs.TableLaws.{is-filled, bounds-sum, table-le}
 use Rattle.bounds.proofs.cell.fill_bounds.Statement.{statement}
 use Rattle.bounds.proofs.cell.fill_bounds.Tie as tie
 
@@ -19,11 +19,6 @@ table-holds : tie.Need-array-borrow-prefix-table
 table-holds c =
     let start = c .before .before in
     omega (arith, start .pre .of-marks, table-le (start .args .d) (start .args .b) (start .pre .shaped))
-
-fill-table-requires : tie.Need-fill-table-requires
-fill-table-requires c κs =
-    let start = c .before .before .before in
-    (start .pre .shaped, start .pre .of-marks, length-take-le _ _ (table-holds (c .before)) ∙ start .pre .of-marks)
 
 table-within : tie.Need-array-share-prefix-table
 table-within c =
@@ -50,8 +45,11 @@ returns c =
     let n = length (a .bounds .now) in
     let back = filled .fill-table .last .1 .1 .1 .1 .1 .0 in
     let came-back = shared-is _ _ back (table-holds (filled .before .before)) (filled .fill-table .kept .1 .1 .1 .1 .1 .0) in
+    let full =
+    filled .fill-table .ensures
+    ∙ is-filled (a .d) (a .b) _ _ _ _ (is .shaped) (is .of-marks) (length-take-le _ _ (table-holds (filled .before .before))) in
     summed .sum-all .ensures
-    ∙ ap (λ (table : List ℕ). valuesFrom (boundSum (a .d) (a .b) table (a .codes .now)) 0 n) (came-back ∙ filled .fill-table .ensures)
+    ∙ ap (λ (table : List ℕ). valuesFrom (boundSum (a .d) (a .b) table (a .codes .now)) 0 n) (came-back ∙ full)
     ∙ bounds-sum (a .bound) (a .d) (a .b) (a .marks .now) (a .query .now) (a .codes .now) n (is .shaped) (is .components) (is .good)
 
 pub fill-bounds-spec : {M : Type 1} → statement M
@@ -60,7 +58,7 @@ fill-bounds-spec =
     (tie.spec
     table-holds
     (λ c. sym (length-take-le _ _ (table-holds (c .before))))
-    fill-table-requires
+    (λ c κs. search needs)
     table-within
     (λ c. sym (length-take-le _ _ (table-within (c .before))))
     sum-all-requires

@@ -1,4 +1,4 @@
--- `fill_table` meets its contract: the front of the table, up to the stretch of dimension t + 1, is the table of the first t dimensions.
+-- `fill_dimensions` meets its contract: the front of the table, up to the stretch of dimension t + 1, is the table of the first t dimensions.
 -- Assumes nothing.
 use mathlib.Core.Path.{sym, _∙_}
 use Prim.Native.Nat.{_+_, _-_, _*_, _%_, _^_, _≤_}
@@ -7,10 +7,10 @@ use borrow.Author.Needs.{needs}
 use lib.ListN.{length}
 use Rattle.step.specs.Step.{stepOf}
 use Rattle.step.proofs.Read.{read-back}
 use Rattle.table.specs.Table.{maxTable}
 use Rattle.table.specs.Filling.{Place, place, Filled, filled-none, filled-next, filled-all}
-use Rattle.least_reading.proofs.fill_table.Statement.{statement}
-use Rattle.least_reading.proofs.fill_table.Tie as tie
+use Rattle.table.proofs.fill_dimensions.Statement.{statement}
+use Rattle.table.proofs.fill_dimensions.Tie as tie
 
 abbrev Inv-loop : tie.InvT-loop
 Inv-loop bound d b marks query table₀ t₀ table t = Filled (stepOf bound) d b marks query table t
@@ -24,7 +24,8 @@ here : (c : tie.After-stretch-of Inv-loop μ-loop) → let at = c .before .befor
 here c = place (c .before .before .before .before .pre .0) (c .before .loop-test .taken) (c .stretch-of .ensures)
 
 -- its entries are inside the marks and the table
-inside : (c : tie.After-at Inv-loop μ-loop) → let known = c .before .before in let at = known .before .before in let a = at .before .before .args in
+inside : (c : tie.After-at Inv-loop μ-loop) → let known = c .before .before in let at = known .before .before in
+    let a = at .before .before .args in
     let s = known .stretch-of .result in let end = s .offset + 1 * 2 ^ s .bits % 2 ^ 64 + 1 in
     (s .offset ≤ end) × (end ≤ length (a .marks .now)) × (end ≤ length (at .loop .table)) × (end ≤ maxTable)
 inside c =
@@ -47,10 +48,11 @@ loop-again c =
     let a = at .before .before .args in
     let component = read-back (record { sfits = read .at .ok }) (read .at .ensures) in
     let entries = rw component at (filled .fill-steps .ensures) in
-    filled-next (stepOf (a .bound)) (a .d) (a .b) (a .marks .now) (a .query .now) _ (here known) (known .before .loop-test .taken) entries (at .loop .inv)
+    filled-next (stepOf (a .bound)) (a .d) (a .b) (a .marks .now) (a .query .now) _ (here known)
+    (known .before .loop-test .taken) entries (at .loop .inv)
 
-pub fill-table-spec : {M : Type 1} → statement M
-fill-table-spec =
+pub fill-dimensions-spec : {M : Type 1} → statement M
+fill-dimensions-spec =
     tie.close
     (tie.spec
     Inv-loop
