@@ -30,6 +30,7 @@ use Rattle.scan.specs.Ranked.{values-ranked}
 pub record Vectors (d n : ℕ) (query vectors : List ℤ) : Type 0 where
   pub few : d ≤ maxDimensions
   pub count : n ≤ maxVectors
+  pub size : length query ≡ d
   pub full : length vectors ≡ n * d
   pub of-query : areComponents query ≡ true
   pub of-vectors : areComponents vectors ≡ true
@@ -60,6 +61,7 @@ scannable t query vectors entries accepted =
       vectors-are = record {
         few = between 1 (t .d) maxDimensions (not-false (isDimensionCount (t .d)) (dimensions .fails)) .below;
         count = between 1 (t .n) maxVectors counted .below;
+        size = eqb-true (length query) (t .d) (query-and .0);
         full = eqb-true (length vectors) (t .n * t .d) (vectors-and .0);
         of-query = both .0;
         of-vectors = both .1;

@@ -141,7 +141,7 @@ fn measure_all(d: usize, query: &[i32], vectors: &[i32], keys: &mut [u64])
     while i < keys.len() {
         let start = i * d;
         let end = start + d;
-        keys[i] = distance::squared_distance(d, query, &vectors[start..end]);
+        keys[i] = distance::squared_distance(query, &vectors[start..end]);
         i += 1;
     }
 }

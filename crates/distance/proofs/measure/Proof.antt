@@ -1,5 +1,5 @@
 -- `measure` meets its contract: each return is that of the first cause that holds, and without one the distance is exact. Assumes nothing.
-use mathlib.Core.Path.{_≡_, sym, ap, _∙_}
+use mathlib.Core.Path.{_≡_, refl, sym, ap, _∙_}
 use mathlib.Core.Bool.{true}
 use native.Mathlib.Nat.{mod-eq-of-lt}
 use borrow.Author.Needs.{needs}
@@ -11,6 +11,7 @@ use Rattle.limits.specs.Limits.{isDimensionCount, maxDimensions}
 use Rattle.limits.specs.Tests.{between}
 use Rattle.signed.specs.Components.{areComponents}
 use Rattle.distance.specs.declared.Distance.the-variants.{Squared}
+use Rattle.distance.specs.Distance.{measured-is}
 use Rattle.distance.specs.Small.{distance-small}
 use Rattle.distance.proofs.measure.Statement.{statement}
 use Rattle.distance.proofs.measure.Tie as tie
@@ -59,7 +60,7 @@ returns-5 c =
     let d = length (args .query .now) in
     let few = between 1 d maxDimensions (counted (two .before)) .below in
     rw (counted (two .before), same two, queried three, stored four)
-    (ap Squared (c .squared-distance .ensures ∙ mod-eq-of-lt (distance-small (args .query .now) (queried three) (args .vector .now) (stored four) d few)))
+    (ap Squared (c .squared-distance .ensures ∙ measured-is d _ _ refl (two .if2 .left) ∙ mod-eq-of-lt (distance-small (args .query .now) (queried three) (args .vector .now) (stored four) d few)))
 
 pub measure-spec : {M : Type 1} → statement M
 measure-spec =

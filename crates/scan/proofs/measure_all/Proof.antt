@@ -1,14 +1,15 @@
 -- `measure_all` meets its contract: the first i keys are the distances of the first i vectors. Assumes nothing.
 use mathlib.Core.Path.{_≡_, refl, sym, ap, _∙_}
 use mathlib.Core.List.{List}
-use Prim.Native.Nat.{ℕ, suc, _+_, _-_, _*_, _%_, _^_, _≤_, _<_}
+use Prim.Native.Nat.{ℕ, suc, _+_, _-_, _*_, _≤_, _<_}
 use native.Mathlib.Nat.{mul-le-mul, mod-eq-of-lt, suc-mul, le-refl}
 use native.Mathlib.Omega.{arith}
 use lib.IntN.{ℤ}
-use lib.ListN.{length, take, drop, length-set}
+use lib.ListN.{length, take, drop, length-drop, length-set}
+use lib.Seq.{length-take-le}
 use borrow.Author.Needs.{needs}
 use Rattle.limits.specs.Limits.{maxDimensions, maxVectors}
-use Rattle.distance.specs.Distance.{distanceOf}
+use Rattle.distance.specs.Distance.{measuredOf, measured-is}
 use Rattle.distance.specs.Values.{valuesFrom, values-length, value-at}
 use Rattle.scan.specs.Scanning.{distancesOf}
 use Rattle.scan.specs.Scanned.{Vectors, scanned-small}
@@ -34,6 +35,9 @@ part {d} {n} given i below =
     let small : n * d ≤ maxVectors * maxDimensions = mul-le-mul (given .count) (given .few) in
     record { within = omega (arith, suc-mul i d, given .full); small = omega (arith, given .full) }
 
+part-size : {d i : ℕ} {vectors : List ℤ} → i * d + d ≤ length vectors → length (take d (drop (i * d) vectors)) ≡ d
+part-size {d} {i} {vectors} within = length-take-le d (drop (i * d) vectors) (rw length-drop (omega arith))
+
 here : (c : tie.In-loop Inv-loop μ-loop) → let start =
     c .before .before .before in Part (start .args .d) (c .before .loop .i) (length (start .args .vectors .now))
 here c = part (c .before .before .before .pre) (c .before .loop .i) (omega arith)
@@ -52,7 +56,8 @@ loop-again c =
     let size : at .i * a .d + a .d - at .i * a .d ≡ a .d = omega arith in
     let key =
     c .squared-distance .ensures
-    ∙ ap (λ (m : ℕ). distanceOf (a .d) (a .query .now) (take m (drop (at .i * a .d) (a .vectors .now))) % 2 ^ 64) size
+    ∙ ap (λ (m : ℕ). measuredOf (a .query .now) (take m (drop (at .i * a .d) (a .vectors .now)))) size
+    ∙ measured-is (a .d) (a .query .now) _ (start .pre .size) (part-size {i = at .i} (here (c .before .before) .within))
     ∙ mod-eq-of-lt (scanned-small (start .pre) (at .i)) ∙ sym (value-at f n (at .i) more) in (
       omega arith,
       simp length-set (at .inv .1),

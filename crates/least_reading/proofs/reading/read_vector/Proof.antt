@@ -1,14 +1,11 @@
 -- `read_vector` meets its contract: the part that is lent is the vector, its cell is there, and in it its distance is exact. Assumes nothing.
 use mathlib.Core.Path.{_≡_, sym, ap, _∙_}
-use mathlib.Core.List.{List}
-use Prim.Native.Nat.{ℕ, _+_, _-_, _*_, _%_, _^_, _<_}
+use Prim.Native.Nat.{ℕ, _+_, _-_, _*_, _<_}
 use native.Mathlib.Omega.{arith}
-use lib.IntN.{ℤ}
 use lib.ListN.{take, drop}
-use lib.Seq.{take-all, length-take-le}
 use borrow.Author.Needs.{needs}
 use borrow.Author.Tests.{not-true, not-false, eq-eqb}
-use Rattle.distance.specs.Distance.{distanceOf}
+use Rattle.distance.specs.Distance.{measuredOf, measured-is}
 use Rattle.bounds.specs.Inside.{inCell}
 use Rattle.search.specs.Search.{Index, inOwnCell}
 use Rattle.search.specs.Ready.{indexOf, Place, place}
@@ -41,19 +38,17 @@ returns c =
 
 returns-2 : tie.Need-returns-2
 returns-2 c =
-    let asked = c .before .before .before in
+    let asked = c .before .before in
     let s = asked .before .before .before in
     let a = s .args in
-    let d = a .terms .d in
-    let o = a .number * d in
-    let size : o + d - o ≡ d = omega arith in
-    let in-it = sym (inside asked) ∙ not-false _ (c .before .before .if1 .left) in
-    let whole = take-all d (a .query .now) (omega (arith, s .pre .0 .of-query)) in
+    let o = a .number * a .terms .d in
+    let size : o + a .terms .d - o ≡ a .terms .d = omega arith in
+    let in-it = sym (inside asked) ∙ not-false _ (c .before .if1 .left) in
     rw in-it
     (ap (λ (m : ℕ). Distance m)
     (c .squared-distance .ensures
-    ∙ ap (λ (q : List ℤ). distanceOf d q (take (o + d - o) (drop o (a .vectors .now))) % 2 ^ 64) whole
-    ∙ ap (λ (m : ℕ). distanceOf (a .terms .d) (a .query .now) (take m (drop o (a .vectors .now))) % 2 ^ 64) size
+    ∙ ap (λ (m : ℕ). measuredOf (a .query .now) (take m (drop o (a .vectors .now)))) size
+    ∙ measured-is (a .terms .d) (a .query .now) _ (s .pre .0 .of-query) (its-place s .size)
     ∙ measured (s .pre .0) (a .number) (s .pre .1) in-it))
 
 pub read-vector-spec : {M : Type 1} → statement M
@@ -68,6 +63,5 @@ read-vector-spec =
     (λ c. omega (arith, its-place (c .before) .ends))
     (λ c κs. search needs)
     returns
-    (λ c. sym (length-take-le _ _ (omega (arith, c .before .before .before .before .before .pre .0 .of-query))))
     (λ c κs. search needs)
     returns-2)
