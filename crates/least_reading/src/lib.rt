@@ -89,6 +89,7 @@ fn search_ready(
         &lows[..n],
         &order[..n],
         reads,
+        &mut words,
     )
 }
 
@@ -102,8 +103,10 @@ fn search_ranked(
     lows: &[u64],
     order: &[u32],
     reads: &mut [u32],
+    words: &mut [u64],
 ) -> Found
-    requires { ⌜ (Ready (indexOf terms (now marks) (now codes) (now vectors)) (now query) (terms .k)) × (length (now reads) ≡ terms .n) ⌝ }
+    requires { ⌜ (Ready (indexOf terms (now marks) (now codes) (now vectors)) (now query) (terms .k)) × (length (now reads) ≡ terms .n)
+        × (terms .k ≤ length (now words)) ⌝ }
     requires { ⌜ now lows ≡ valuesFrom (lowIn (indexOf terms (now marks) (now codes) (now vectors)) (now query)) 0 (terms .n) ⌝ }
     requires { let l = indexOf terms (now marks) (now codes) (now vectors) in
         ⌜ now order ≡ readingOrder (lowIn l (now query)) (numbersIn l) ⌝ }
@@ -124,6 +127,7 @@ fn search_ranked(
         order,
         &mut keys[..k],
         &mut best[..k],
+        words,
     );
     let count = read_count(answer);
     put_numbers(order, count, reads);

@@ -87,53 +87,45 @@ order-length s =
 -- ---- the fronts of the two arrays
 
 keys-hold : tie.Need-array-borrow-prefix-keys
-keys-hold c = c .before .before .before .before .pre .0 .0 .few
+keys-hold c = c .before .before .before .before .before .pre .0 .0 .few
 
 best-hold : tie.Need-array-borrow-prefix-best
-best-hold c = c .before .before .before .before .before .pre .0 .0 .few
+best-hold c = c .before .before .before .before .before .before .pre .0 .0 .few
 
 -- as many as were found
-kept-few : (c : tie.After-found-count)
-    → c .found-count .result ≤ c .before .before .before .before .before .before .before .before .before .before .before .before .before
-    .before .before .args .terms .k
-kept-few c = omega (
-  arith,
-  c .found-count .ensures,
-  found-most (c .before .before .before .before .before .before .before .before .read-all .result)
-      (c .before .before .before .before .before .before .before .before .before .before .before .before .before .before .before .args
-      .terms .k),
-)
+kept-few : (c : tie.After-found-count) → c .found-count .result ≤ c .before .before .before .before .before .before .before .before .before .before .before .before .before .before .before .before .before .before .before .args .terms .k
+kept-few c = omega (arith, c .found-count .ensures, found-most (c .before .before .before .before .before .before .before .before .before .before .read-all .result) (c .before .before .before .before .before .before .before .before .before .before .before .before .before .before .before .before .before .before .before .args .terms .k))
 
 keys-within : tie.Need-array-share-prefix-keys
 keys-within c =
-    let read = c .before .before .before .before .before .before .before .before in
+    let read = c .before .before .before .before .before .before .before .before .before .before in
     omega (
       arith,
       kept-few c,
-      back-within _ _ (read .read-all .last .1 .1 .1 .1 .1 .1 .1 .0) (keys-hold (read .before .before .before))
+      back-within _ _ (read .read-all .last .1 .1 .1 .1 .1 .1 .1 .0) (keys-hold (read .before .before .before .before))
           (read .read-all .kept .1 .1 .1 .1 .1 .1 .1 .0),
     )
 
 best-within : tie.Need-array-share-prefix-best
 best-within c =
-    let read = c .before .before .before .before .before .before .before .before .before in
+    let read = c .before .before .before .before .before .before .before .before .before .before .before in
     omega (
       arith,
       kept-few (c .before),
-      back-within _ _ (read .read-all .last .1 .1 .1 .1 .1 .1 .1 .1 .0) (best-hold (read .before .before))
+      back-within _ _ (read .read-all .last .1 .1 .1 .1 .1 .1 .1 .1 .0) (best-hold (read .before .before .before))
           (read .read-all .kept .1 .1 .1 .1 .1 .1 .1 .1 .0),
     )
 
 read-all-requires : tie.Need-read-all-requires
 read-all-requires c κs =
-    let s = c .before .before .before .before .before .before in
-    ((s .pre .0 .0, length-take-le _ _ (keys-hold (c .before .before)), length-take-le _ _ (best-hold (c .before))), s .pre .1)
+    let pre = c .before .before .before .before .before .before .before .before .pre in
+    ((pre .0 .0, length-take-le _ _ (keys-hold (c .before .before .before)), length-take-le _ _ (best-hold (c .before .before)), pre .0 .2), pre .1)
 
 put-numbers-requires : tie.Need-put-numbers-requires
 put-numbers-requires c κs =
     let counted = c .before in
-    let read = counted .before .before .before in
-    let s = read .before .before .before .before .before .before .before in
+    let read = counted .before .before .before .before .before in
+    let s = read .before .before .before .before .before .before .before .before .before in
     let most = count-most (given s) (s .args .query .now) (s .args .terms .k) (read .read-all .result) (read .read-all .ensures) in
     (omega (arith, counted .read-count .ensures, most, order-length s), omega (arith, counted .read-count .ensures, most, s .pre .0 .1))
 
@@ -142,12 +134,12 @@ returns c =
     let found = c .before .before .before in
     let written = found .before .before .before in
     let counted = written .before .before in
-    let read = counted .before .before .before in
-    let s = read .before .before .before .before .before .before .before in
+    let read = counted .before .before .before .before .before in
+    let s = read .before .before .before .before .before .before .before .before .before in
     let a = s .args in
     answers (given s) (a .query .now) (a .terms .k) (read .read-all .result) (read .read-all .ensures)
-    (read .read-all .kept .1 .1 .1 .1 .1 .1 .1 .0 ∙ length-take-le _ _ (keys-hold (read .before .before .before)))
-    (read .read-all .kept .1 .1 .1 .1 .1 .1 .1 .1 .0 ∙ length-take-le _ _ (best-hold (read .before .before))) _ _
+    (read .read-all .kept .1 .1 .1 .1 .1 .1 .1 .0 ∙ length-take-le _ _ (keys-hold (read .before .before .before .before)))
+    (read .read-all .kept .1 .1 .1 .1 .1 .1 .1 .1 .0 ∙ length-take-le _ _ (best-hold (read .before .before .before))) _ _
     (s .pre .1 .1)
     (written .put-numbers .ensures ∙ ap (λ (m : ℕ). take m (a .order .now) ++ drop m (a .reads .now)) (counted .read-count .ensures))
     _ _ (c .entries-of .ensures) (found .found-count .ensures)
@@ -170,4 +162,5 @@ search-ranked-spec =
     (λ c. sym (length-take-le _ _ (best-within (c .before))))
     (λ c κs. tt)
     (λ c. c .before .before .before .before .before .before .put-numbers .kept .1 .1 .0)
+    (λ c. c .before .before .before .before .before .before .before .before .before .before .before .before .before .read-all .kept .1 .1 .1 .1 .1 .1 .1 .1 .1 .0)
     returns)

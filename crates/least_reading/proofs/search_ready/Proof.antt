@@ -1,7 +1,7 @@
 -- `search_ready` meets its contract: the bounds' ranking is the reading order. Assumes nothing.
-use mathlib.Core.Path.{_≡_, sym, ap, _∙_}
+use mathlib.Core.Path.{_≡_, sym, ap, _∙_, subst⁻¹}
 use mathlib.Core.List.{List}
-use Prim.Native.Nat.{ℕ}
+use Prim.Native.Nat.{ℕ, _≤_}
 use native.Mathlib.Omega.{arith}
 use lib.Seq.{length-take-le}
 use borrow.Author.Needs.{needs}
@@ -76,10 +76,10 @@ ordered c =
 
 search-ranked-requires : tie.Need-search-ranked-requires
 search-ranked-requires c κs =
-    let ranked = c .before .before .before .before .before .before in
+    let ranked = c .before .before .before .before .before .before .before in
     let filled = ranked .before .before .before .before .before .before in
     let s = filled .before .before .before .before in (
-      s .pre,
+      (s .pre .0, s .pre .1, subst⁻¹ (λ (m : ℕ). s .args .terms .k ≤ m) (ranked .rank .kept .1 .1 .1 .0) (s .pre .0 .few)),
       (
         shared-is _ _ (filled .lower-bounds .last .1 .1 .1 .1 .1 .0) (lows-hold (filled .before .before)) (filled .lower-bounds .kept .1 .1 .1 .1 .1 .0) ∙ bounded filled,
         shared-is _ _ (ranked .rank .last .1 .0) (order-hold (ranked .before .before .before .before)) (ranked .rank .kept .1 .0) ∙ ordered ranked,
@@ -105,6 +105,7 @@ search-ready-spec =
     (λ c. sym (length-take-le _ _ (lows-within (c .before .before .before .before .before .before .before .before .before))))
     order-within
     (λ c. sym (length-take-le _ _ (order-within (c .before))))
+    (λ c. sym (c .before .before .before .before .before .before .before .rank .kept .1 .1 .1 .0))
     search-ranked-requires
-    (λ c. c .before .before .search-ranked .kept .1 .1 .1 .1 .1 .1 .1 .0)
-    (λ c. c .before .before .search-ranked .ensures))
+    (λ c. c .before .before .before .search-ranked .kept .1 .1 .1 .1 .1 .1 .1 .0)
+    (λ c. c .before .before .before .search-ranked .ensures))

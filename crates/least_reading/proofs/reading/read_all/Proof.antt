@@ -53,32 +53,37 @@ returns c = refused (c .before .before .before .before .before .read-first .ensu
 
 read-rest-requires : tie.Need-read-rest-requires
 read-rest-requires c κs =
-    let sort = c .before .before .before .before .before .before .before in
+    let sort = c .before .before .before .before .before .before .before .before in
     let read = sort .before .before .before .before .before .before .before .before .before in
-    let pre = read .before .before .before .before .before .before .before .before .pre in (
+    let pre = read .before .before .before .before .before .before .before .before .before .pre in (
       pre .0 .0,
       (
         pre .1 .0,
         (
           pre .1 .1,
-          sorted (read .read-first .ensures) (pre .0 .0) (not-false _ (sort .before .before .before .before .if1 .left)) _ (pre .0 .0 .few)
+          sorted (read .read-first .ensures) (pre .0 .0) (not-false _ (sort .before .before .before .before .if1 .left)) _ (pre .0 .3)
               (sort .sort .ensures .1 .0)
               (sort .sort .ensures .1 .1),
         ),
       ),
     )
 
+read-first-requires : tie.Need-read-first-requires
+read-first-requires c κs =
+    let pre = c .before .before .before .before .before .before .before .before .pre in
+    ((pre .0 .0, pre .0 .1, pre .0 .2), pre .1 .1)
+
 pub read-all-spec : {M : Type 1} → statement M
 read-all-spec =
     tie.close
     (tie.spec
-    (λ c κs. (c .before .before .before .before .before .before .before .pre .0, c .before .before .before .before .before .before .before .pre .1 .1))
+    read-first-requires
     (λ c. c .before .before .before .before .before .read-first .kept .1 .1 .1 .1 .1 .1 .0)
     (λ c. c .before .before .before .before .before .read-first .kept .1 .1 .1 .1 .1 .1 .1 .0)
     returns
-    (λ c. search needs)
     (λ c κs. tt)
     read-rest-requires
+    (λ c. search needs)
     (λ c. search needs)
     (λ c. search needs)
     (λ c. c .before .before .before .before .read-rest .ensures))
