@@ -8,8 +8,8 @@ use native.Mathlib.Omega.{arith}
 use borrow.Author.Tests.{lt-ltb}
 use lib.Arith.{digits-lt, digits-mod}
 use lib.IntN.{ℤ, pos}
-use lib.ListN.{length, drop, getD, length-take, length-drop}
-use lib.Seq.{getD-take, getD-drop, length-take-le}
+use lib.ListN.{length, drop, getD, length-take}
+use lib.Seq.{getD-take, getD-drop}
 use Rattle.layout.specs.Layout.{regionCount}
 use Rattle.region.specs.Region.{inRegion, regionOf, inMarks}
 use Rattle.region.specs.Within.{within, within-apart}
@@ -19,6 +19,7 @@ use Rattle.codes.specs.Codes.{nextColumn, regionsFit, packed, codeRegion}
 use Rattle.codes.specs.PackLaws.{next-column, packed-spare, unpacked-packed, code-region}
 use Rattle.approximation.specs.Vectors.{regionsFrom, vectorRegions, insideFrom, vectorsInside, vectorCodes}
 use Rattle.cells.specs.Cells.{vectorAt, inFirst, InCell, hasValue, noneEmpty, noEmptyCodes, goodCodes, Own}
+use Rattle.cells.specs.CellLaws.{vector-size}
 
 -- ---- The region numbers of vectors that lie inside the marks
 
@@ -99,7 +100,7 @@ module _ (d b n : ℕ) (some : 0 < d) (marks vectors : List ℤ) (rows : length 
   in-cell i row =
       let whole : suc i * d ≤ n * d = mul-le-mul-right d row in
       record {
-        components = length-take-le d (drop (i * d) vectors) (simp length-drop (omega (arith, suc-mul i d)));
+        components = vector-size d vectors i (omega (arith, suc-mul i d));
         inside = first-inside i row d (omega arith);
       }
 

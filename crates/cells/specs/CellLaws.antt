@@ -2,12 +2,13 @@
 use mathlib.Core.Path.{_≡_, refl, ap₂, ap, _∙_}
 use mathlib.Core.Bool.{Bool, true, _&&_}
 use mathlib.Core.List.{List}
-use Prim.Native.Nat.{ℕ, zero, suc, _+_, _≤_}
+use Prim.Native.Nat.{ℕ, zero, suc, _+_, _*_, _≤_}
 use native.Mathlib.Nat.{zero-add}
 use native.Mathlib.Omega.{arith}
 use lib.IntN.{ℤ, pos}
 use lib.Signed.{leZ, ltZ}
-use lib.ListN.{length, getD}
+use lib.ListN.{length, drop, getD, length-drop}
+use lib.Seq.{length-take-le}
 use Rattle.refusal.specs.declared.Verdict.the-variants.{Accepted}
 use Rattle.refusal.specs.First.{first}
 use Rattle.limits.specs.Limits.{maxVectors}
@@ -18,8 +19,12 @@ use Rattle.partition.specs.Marks.{dimensionMarks}
 use Rattle.partition.specs.Parts.{part-at}
 use Rattle.codes.specs.Codes.{codeRegion}
 use Rattle.codes.specs.PackLaws.{code-region-fits}
-use Rattle.cells.specs.Cells.{hasValue, noneEmpty}
+use Rattle.cells.specs.Cells.{vectorAt, hasValue, noneEmpty}
 use Rattle.cells.specs.Places.{markPlace, markPlaces, place-at}
+
+-- a vector that is there has d components
+pub vector-size : (d : ℕ) (vectors : List ℤ) (i : ℕ) → i * d + d ≤ length vectors → length (vectorAt d vectors i) ≡ d
+vector-size d vectors i within = length-take-le d (drop (i * d) vectors) (rw length-drop (omega arith))
 
 -- what is known where only the codes are left to test
 pub record Named (d b n : ℕ) (codes : List ℕ) : Type 0 where

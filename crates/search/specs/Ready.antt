@@ -6,8 +6,7 @@ use Prim.Native.Nat.{ℕ, suc, _+_, _*_, _^_, _≤_, _<_}
 use native.Mathlib.Nat.{suc-mul, mul-le-mul, mul-le-mul-right}
 use native.Mathlib.Omega.{arith}
 use lib.IntN.{ℤ}
-use lib.ListN.{length, drop, getD, length-drop}
-use lib.Seq.{length-take-le}
+use lib.ListN.{length, getD}
 use borrow.Author.Tests.{not-false}
 use Rattle.refusal.specs.declared.Verdict.the-variants.{Accepted}
 use Rattle.refusal.specs.First.{first, passed}
@@ -19,6 +18,7 @@ use Rattle.layout.specs.Stretch.{shapeCauses, shape}
 use Rattle.codes.specs.Codes.{codeLength}
 use Rattle.partition.specs.Marks.{goodMarks}
 use Rattle.cells.specs.Cells.{vectorAt, goodCodes}
+use Rattle.cells.specs.CellLaws.{vector-size}
 use Rattle.order.specs.Members.{member-getD}
 use Rattle.order.specs.Counted.{counted, counted-length}
 use Rattle.order.specs.Ranking.{ranked-count, ranked-among}
@@ -108,7 +108,7 @@ place {l} is i below =
     record {
       ends = ends;
       small = omega (arith, suc-mul i (l .d));
-      size = length-take-le (l .d) (drop (i * l .d) (l .vectors)) (rw length-drop (omega arith));
+      size = vector-size (l .d) (l .vectors) i ends;
     }
 
 -- a number of the reading order is one of the library's

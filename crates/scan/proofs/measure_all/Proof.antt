@@ -5,10 +5,10 @@ use Prim.Native.Nat.{ℕ, suc, _+_, _-_, _*_, _≤_, _<_}
 use native.Mathlib.Nat.{mul-le-mul, mod-eq-of-lt, suc-mul, le-refl}
 use native.Mathlib.Omega.{arith}
 use lib.IntN.{ℤ}
-use lib.ListN.{length, take, drop, length-drop, length-set}
-use lib.Seq.{length-take-le}
+use lib.ListN.{length, take, drop, length-set}
 use borrow.Author.Needs.{needs}
 use Rattle.limits.specs.Limits.{maxDimensions, maxVectors}
+use Rattle.cells.specs.CellLaws.{vector-size}
 use Rattle.distance.specs.Distance.{measuredOf, measured-is}
 use Rattle.distance.specs.Values.{valuesFrom, values-length, value-at}
 use Rattle.scan.specs.Scanning.{distancesOf}
@@ -35,9 +35,6 @@ part {d} {n} given i below =
     let small : n * d ≤ maxVectors * maxDimensions = mul-le-mul (given .count) (given .few) in
     record { within = omega (arith, suc-mul i d, given .full); small = omega (arith, given .full) }
 
-part-size : {d i : ℕ} {vectors : List ℤ} → i * d + d ≤ length vectors → length (take d (drop (i * d) vectors)) ≡ d
-part-size {d} {i} {vectors} within = length-take-le d (drop (i * d) vectors) (rw length-drop (omega arith))
-
 here : (c : tie.In-loop Inv-loop μ-loop) → let start =
     c .before .before .before in Part (start .args .d) (c .before .loop .i) (length (start .args .vectors .now))
 here c = part (c .before .before .before .pre) (c .before .loop .i) (omega arith)
@@ -57,7 +54,7 @@ loop-again c =
     let key =
     c .squared-distance .ensures
     ∙ ap (λ (m : ℕ). measuredOf (a .query .now) (take m (drop (at .i * a .d) (a .vectors .now)))) size
-    ∙ measured-is (a .d) (a .query .now) _ (start .pre .size) (part-size {i = at .i} (here (c .before .before) .within))
+    ∙ measured-is (a .d) (a .query .now) _ (start .pre .size) (vector-size (a .d) (a .vectors .now) (at .i) (here (c .before .before) .within))
     ∙ mod-eq-of-lt (scanned-small (start .pre) (at .i)) ∙ sym (value-at f n (at .i) more) in (
       omega arith,
       simp length-set (at .inv .1),
