@@ -118,7 +118,7 @@ impl Call {
         match self {
             Call::Search => answer.count = matcher::search(data, query, entries, reads),
             Call::Scan => matcher::scan(data, query, entries),
-            Call::Marks => matcher::make_marks(data, &mut answer.marks),
+            Call::Marks => matcher::make_marks(data, &data.others[i], &mut answer.marks),
             Call::Pack => matcher::pack(data, &mut answer.codes),
             Call::Codes => matcher::pack_vectors(data, &mut answer.codes),
             Call::Load => matcher::files::load(&data.bytes, &mut answer.loaded),
@@ -137,7 +137,7 @@ impl Call {
                 answer.count = library.search(query, entries, reads);
             }
             Call::Scan => scan::scan(d, query, vectors, entries),
-            Call::Marks => marks::make(d, b, vectors, &mut answer.marks),
+            Call::Marks => marks::make(d, b, &data.others[i], &mut answer.marks),
             Call::Pack => codes::pack(d, b, &data.regions, &mut answer.codes),
             Call::Codes => {
                 let mut regions = vec![0; vectors.len()];

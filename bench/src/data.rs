@@ -34,6 +34,9 @@ pub struct Data {
     pub settings: Vec<u32>,
     pub bytes: Vec<u8>,
     pub queries: Vec<Vec<i32>>,
+    /// As many other sets of vectors as there are queries: marks are made from another set each time, since a processor learns the
+    /// branches of a sort that it sees again.
+    pub others: Vec<Vec<i32>>,
     /// The library, k and each query, as the program reads them.
     pub matches: Vec<Vec<u8>>,
 }
@@ -58,6 +61,7 @@ impl Data {
         };
         let vectors: Vec<i32> = (0..n).flat_map(|_| vector()).collect();
         let queries = (0..Self::QUERIES).map(|_| vector()).collect();
+        let others = (0..Self::QUERIES).map(|_| (0..n).flat_map(|_| vector()).collect()).collect();
         let mut data = Data {
             d,
             b,
@@ -69,6 +73,7 @@ impl Data {
             settings: (1..=n as u32).collect(),
             bytes: Vec::new(),
             queries,
+            others,
             matches: Vec::new(),
         };
         marks::make(d, b, &data.vectors, &mut data.marks);

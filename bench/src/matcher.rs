@@ -121,8 +121,8 @@ pub fn search(data: &Data, query: &[i32], entries: &mut [Entry], reads: &mut [u3
     count
 }
 
-pub fn make_marks(data: &Data, marks: &mut [i32]) {
-    let &Data { d, b, n, ref vectors, .. } = data;
+pub fn make_marks(data: &Data, vectors: &[i32], marks: &mut [i32]) {
+    let &Data { d, b, n, .. } = data;
     accepted(unsafe { matcher_make_marks(d, b, n, vectors.as_ptr(), vectors.len(), marks.as_mut_ptr(), marks.len()) });
 }
 
