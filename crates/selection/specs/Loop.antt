@@ -37,6 +37,12 @@ after k low distance numbers done =
 pub record Reached (k : ℕ) (low distance : ℕ → ℕ) (numbers : List ℕ) (done : ℕ) : Type 0 where
   pub rest : reading k distance (keyed low (drop done (readingOrder low numbers))) (after k low distance numbers done) ≡ read k low distance numbers
 
+-- so many reads are the most: a reading that comes so far ends there
+pub record Ends (k : ℕ) (low distance : ℕ → ℕ) (numbers : List ℕ) (end : ℕ) : Type 0 where
+  pub behind : k ≤ end
+  pub within : end ≤ length numbers
+  pub whole : Reached k low distance numbers end → read k low distance numbers ≡ after k low distance numbers end
+
 module _ (k : ℕ) (low distance : ℕ → ℕ) (numbers : List ℕ) where
   pub after-next : (done : ℕ) → done < length numbers
       → after k low distance numbers (suc done) ≡ readNext k distance (after k low distance numbers done) (getD (readingOrder low numbers) done 0)
@@ -73,6 +79,10 @@ module _ (k : ℕ) (low distance : ℕ → ℕ) (numbers : List ℕ) where
     unfolding keyed reading
     reached-end all =
         sym (rw (drop-of-length-le (readingOrder low numbers) {i = done} (omega (arith, ranked-count low numbers))) at (reached .rest))
+
+  pub ends-all : k ≤ length numbers → Ends k low distance numbers (length numbers)
+  ends-all enough =
+      record { behind = enough; within = omega arith; whole = λ reached. reached-end (length numbers) reached (omega arith) }
 
   -- the first k are read, whatever their lows are, and from then on there are k best
   best-count : (done : ℕ) → done ≤ length numbers → length ((after k low distance numbers done) .best) ≡ min k done
