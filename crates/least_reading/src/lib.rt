@@ -1,4 +1,5 @@
 // The search that reads least.
+mod candidates;
 mod reading;
 
 use crate::reading::read_all;
