@@ -2,7 +2,7 @@
 mod candidates;
 mod reading;
 
-use crate::reading::read_all;
+use crate::reading::read_in_order;
 use bounds::sum::sum_bounds;
 use entries::entries_of;
 use entries::no_entries;
@@ -26,13 +26,12 @@ ghost use Rattle.refusal.specs.declared.Verdict.the-variants.{Accepted};
 ghost use Rattle.refusal.specs.First.{first};
 ghost use Rattle.layout.specs.Layout.{firstMarks};
 ghost use Rattle.layout.specs.Stretch.{shapeCauses};
-ghost use Rattle.selection.specs.Reading.{readingOrder};
 ghost use Rattle.distance.specs.Bounds.{lowerOf};
 ghost use Rattle.distance.specs.Values.{valuesFrom};
 ghost use Rattle.step.specs.Step.{stepOf};
 ghost use Rattle.table.specs.Table.{tableOf};
 ghost use Rattle.bounds.specs.Bounded.{Bounding};
-ghost use Rattle.search.specs.Search.{numbersIn, lowIn, searchCauses};
+ghost use Rattle.search.specs.Search.{lowIn, searchCauses};
 ghost use Rattle.search.specs.Ready.{indexOf, roomOf, Ready};
 ghost use Rattle.least_reading.specs.Searching.{Searches, cellCauses};
 
@@ -80,42 +79,42 @@ fn search_ready(
     let mut lows = [0u64; MAX_VECTORS];
     lower_bounds(terms.d, terms.b, query, marks, codes, &mut lows[..n]);
     let mut order = [0u32; MAX_VECTORS];
-    ranking::rank(&lows[..n], &mut order[..n]);
-    search_ranked(
+    let mut words = [0u64; MAX_VECTORS];
+    search_bounded(
         terms,
         query,
         marks,
         codes,
         vectors,
-        &lows[..n],
-        &order[..n],
+        &mut lows[..n],
+        &mut order[..n],
+        &mut words[..n],
         reads,
     )
 }
 
-// The same with the lower bounds and the vectors' numbers in their order. Nothing is written where a vector that is read refuses.
-fn search_ranked(
+// The same with the lower bounds. Nothing is written where a vector that is read refuses.
+fn search_bounded(
     terms: Terms,
     query: &[i32],
     marks: &[i32],
     codes: &[u8],
     vectors: &[i32],
-    lows: &[u64],
-    order: &[u32],
+    lows: &mut [u64],
+    order: &mut [u32],
+    words: &mut [u64],
     reads: &mut [u32],
 ) -> Found
-    requires { ⌜ (Ready (indexOf terms (now marks) (now codes) (now vectors)) (now query) (terms .k)) × (length (now reads) ≡ terms .n) ⌝ }
+    requires { ⌜ (Ready (indexOf terms (now marks) (now codes) (now vectors)) (now query) (terms .k))
+        × (length (now order) ≡ terms .n) × (length (now words) ≡ terms .n) × (length (now reads) ≡ terms .n) ⌝ }
     requires { ⌜ now lows ≡ valuesFrom (lowIn (indexOf terms (now marks) (now codes) (now vectors)) (now query)) 0 (terms .n) ⌝ }
-    requires { let l = indexOf terms (now marks) (now codes) (now vectors) in
-        ⌜ now order ≡ readingOrder (lowIn l (now query)) (numbersIn l) ⌝ }
     ensures { λ r. let l = indexOf terms (now (marks .entry)) (now (codes .entry)) (now (vectors .entry)) in
         ⌜ Searches (first (cellCauses l (now (query .entry)) (terms .k))) l (now (query .entry)) (terms .k) r
         (now (reads .entry)) (now (reads .exit)) ⌝ }
 {
     let k = terms.k;
-    let mut keys = [0u64; MAX_NEIGHBOURS];
     let mut best = [0u32; MAX_NEIGHBOURS];
-    let answer = read_all(
+    let answer = read_in_order(
         terms,
         query,
         marks,
@@ -123,7 +122,7 @@ fn search_ranked(
         vectors,
         lows,
         order,
-        &mut keys[..k],
+        words,
         &mut best[..k],
     );
     let count = read_count(answer);
@@ -131,7 +130,7 @@ fn search_ranked(
     let kept = found_count(answer, k);
     Found {
         answer,
-        entries: entries_of(&keys[..kept], &best[..kept]),
+        entries: entries_of(&words[..kept], &best[..kept]),
     }
 }
 
