@@ -18,11 +18,22 @@ use Rattle.best_pairs.specs.Gathered.{Gathers}
 use Rattle.best_pairs.specs.Holds.{HoldsBest}
 use Rattle.search.specs.declared.Searched.{Searched}
 use Rattle.search.specs.declared.Searched.the-variants.{Read, Refused}
+use Rattle.distance.specs.Values.{valuesFrom}
+use Rattle.search.specs.Ready.{Ready}
 use Rattle.search.specs.Search.{Index, numbersIn, distanceIn, lowIn, inOwnCell, inOwnCells, searched}
 
--- the outcome of reading: the answer, and the keys and numbers of the best
-pub record Reads (l : Index) (query : List ℤ) (k : ℕ) (r : Searched) (keys numbers : List ℕ) : Type 0 where
+-- what a reading is lent: the lower bounds, and room for the reading order, for the distances of the best and for their numbers
+pub record Lent (l : Index) (query : List ℤ) (k : ℕ) (lows order words best : List ℕ) : Type 0 where
+  pub ready : Ready l query k
+  pub lows-are : lows ≡ valuesFrom (lowIn l query) 0 (l .n)
+  pub order-room : length order ≡ l .n
+  pub words-room : length words ≡ l .n
+  pub best-room : length best ≡ k
+
+-- the outcome of reading: the answer, the numbers read at the front of `order`, and the keys and numbers of the best
+pub record Reads (l : Index) (query : List ℤ) (k : ℕ) (r : Searched) (order keys numbers : List ℕ) : Type 0 where
   pub answer : r ≡ cond (inOwnCells l ((searched l query k) .reads)) (Read (length ((searched l query k) .reads))) (Refused Cell)
+  pub reads-are : inOwnCells l ((searched l query k) .reads) ≡ true → take (length ((searched l query k) .reads)) order ≡ (searched l query k) .reads
   pub keys-are : inOwnCells l ((searched l query k) .reads) ≡ true → keys ≡ keysOf ((searched l query k) .best)
   pub numbers-are : inOwnCells l ((searched l query k) .reads) ≡ true → numbers ≡ numbersOf ((searched l query k) .best)
 
@@ -42,6 +53,12 @@ pub record HasRead (l : Index) (query : List ℤ) (k done : ℕ) (keys numbers :
   pub reached : Reached k (lowIn l query) (distanceIn l query) (numbersIn l) done
   pub holds : HoldsBest k keys numbers k (afterReads l query k done .best)
   pub inside : inOwnCells l (afterReads l query k done .reads) ≡ true
+
+-- a vector outside its cell is all that is told
+pub reads-outside : {l : Index} {query : List ℤ} {k : ℕ} (order keys numbers : List ℕ) → inOwnCells l ((searched l query k) .reads) ≡ false
+    → Reads l query k (Refused Cell) order keys numbers
+reads-outside order keys numbers out =
+    record { answer = rw out; reads-are = λ none. cc; keys-are = λ none. cc; numbers-are = λ none. cc }
 
 -- ---- cells of several vectors
 

@@ -24,7 +24,7 @@ pub(crate) fn select_first(lows: &[u64], first: &mut [u32], least: &mut [u64]) -
 {
     let k = first.len();
     let mut room = [0u64; SELECTED];
-    least::select(lows, first, least);
+    least::select(lows, first, least, &mut room[..k]);
     least[k - 1]
 }
 
@@ -36,7 +36,7 @@ pub(crate) fn sort_few(keys: &mut [u64], numbers: &mut [u32])
 {
     let k = keys.len();
     let mut room = [0u64; SELECTED];
-    sorting::sort(keys, numbers);
+    sorting::sort(keys, numbers, &mut room[..k]);
 }
 
 // Ranks the numbers that can still be read once the first k have been, behind these in `order`, and their lows from the front on; how many
@@ -57,7 +57,7 @@ pub(crate) fn rank_candidates(last: u64, lows: &mut [u64], order: &mut [u32], wo
     let k = best.len();
     let number = order[k - 1];
     let count = gather(last, number, words[k - 1], best[k - 1], lows, &mut order[k..]);
-    sorting::sort(&mut lows[..count], &mut order[k..k + count]);
+    sorting::sort(&mut lows[..count], &mut order[k..k + count], &mut words[k..]);
     count
 }
 

@@ -67,8 +67,8 @@ ordered c =
     (shared-is _ _ (filled .lower-bounds .last .1 .1 .1 .1 .1 .0) (lows-hold (filled .before .before)) (filled .lower-bounds .kept .1 .1 .1 .1 .1 .0) ∙ bounded filled)
     (c .rank .ensures .1) (length-take-le _ _ (order-hold (c .before .before)))
 
-search-ranked-requires : tie.Need-search-ranked-requires
-search-ranked-requires c κs =
+search-bounded-requires : tie.Need-search-bounded-requires
+search-bounded-requires c κs =
     let ranked = c .before .before .before .before in
     let filled = ranked .before .before .before .before in
     let s = filled .before .before .before .before in (
@@ -95,6 +95,6 @@ search-ready-spec =
     (λ c. sym (length-take-le _ _ (lows-within (c .before .before .before .before .before))))
     order-within
     (λ c. sym (length-take-le _ _ (order-within (c .before))))
-    search-ranked-requires
-    (λ c. c .before .before .search-ranked .kept .1 .1 .1 .1 .1 .1 .1 .0)
-    (λ c. c .before .before .search-ranked .ensures))
+    search-bounded-requires
+    (λ c. c .before .before .search-bounded .kept .1 .1 .1 .1 .1 .1 .1 .0)
+    (λ c. c .before .before .search-bounded .ensures))

@@ -1,4 +1,4 @@
--- `search_ranked` meets its contract: what was read is written, and its best are the entries, where each vector read lies in its cell.
+-- `search_bounded` meets its contract: what was read is written, and its best are the entries, where each vector read lies in its cell.
 -- Assumes nothing.
 use mathlib.Core.Path.{_≡_, refl, sym, ap, _∙_}
 use mathlib.Core.Bool.{Bool, cond}
@@ -27,8 +27,8 @@ use Rattle.search.specs.Theorems.{reads-are-the-order}
 use Rattle.search.specs.Ready.{indexOf}
 use Rattle.least_reading.specs.Answered.{Reads}
 use Rattle.least_reading.specs.Searching.{Searches, cellCauses, searches-none, tells-read, tells-refused, cells-accepted, cells-refused}
-use Rattle.least_reading.proofs.search_ranked.Statement.{statement}
-use Rattle.least_reading.proofs.search_ranked.Tie as tie
+use Rattle.least_reading.proofs.search_bounded.Statement.{statement}
+use Rattle.least_reading.proofs.search_bounded.Tie as tie
 
 found-most : (r : Searched) (k : ℕ) → foundCount r k ≤ k
 found-most (Read count) k = omega arith
@@ -152,8 +152,8 @@ returns c =
     (written .put-numbers .ensures ∙ ap (λ (m : ℕ). take m (a .order .now) ++ drop m (a .reads .now)) (counted .read-count .ensures))
     _ _ (c .entries-of .ensures) (found .found-count .ensures)
 
-pub search-ranked-spec : {M : Type 1} → statement M
-search-ranked-spec =
+pub search-bounded-spec : {M : Type 1} → statement M
+search-bounded-spec =
     tie.close
     (tie.spec
     keys-hold
