@@ -48,10 +48,10 @@ module _ {k : ℕ} {ranking : List Pair} {lows order : List ℕ} (aligned : Alig
       ∙ getD-drop k (keysOf ranking) (done - k) 0
       ∙ ap (λ (m : ℕ). getD (keysOf ranking) m 0) same
 
-pub low-at : {k : ℕ} {low : ℕ → ℕ} {numbers lows order : List ℕ} → Aligned k (ranked low numbers) lows order → (done : ℕ) → k ≤ done
+pub low-at : {k : ℕ} (low : ℕ → ℕ) (numbers : List ℕ) {lows order : List ℕ} → Aligned k (ranked low numbers) lows order → (done : ℕ) → k ≤ done
     → done < k + length lows → done < length numbers → getD lows (done - k) 0 ≡ low (getD (readingOrder low numbers) done 0)
 unfolding keysOf leastPair
-low-at {low = low} {numbers} aligned done behind more within =
+low-at low numbers aligned done behind more within =
     key-at aligned done behind more
     ∙ List·getD-map (λ (p : Pair). p .key) (ranked low numbers) done leastPair
     ∙ ap (λ (p : Pair). p .key) (ranked-at low numbers done within)
@@ -83,7 +83,7 @@ module _ (k : ℕ) {ranking : List Pair} (sorted : Sorted ranking) (bound : Pair
   unfolding keysOf
   aligned-candidates {lows} {order} are-lows are-numbers =
       let count : length lows ≡ length (candidates k ranking bound) = ap length are-lows ∙ length-map (candidates k ranking bound) (λ p. p .key) in
-      let numbers = λ (p : Pair). p .number in
+      let numbers : Pair → ℕ = λ p. p .number in
       record {
         numbers-are =
             rw count

@@ -26,7 +26,7 @@ pub fn make_marks(d: usize, b: usize, n: usize, vectors: &[i32], marks: &mut [i3
     let verdict = check_making(d, b, n, vectors, marks.len());
     match verdict {
         Verdict::Accepted => {
-            make_dimensions(d, b, n, vectors, marks);
+            make_ready(d, b, n, vectors, marks);
             Verdict::Accepted
         }
         Verdict::Refused(cause) => Verdict::Refused(cause),
@@ -58,30 +58,64 @@ fn check_making(d: usize, b: usize, n: usize, vectors: &[i32], room: usize) -> V
     Verdict::Accepted
 }
 
-// The marks, where nothing refuses: each dimension's are written into its own stretch of the buffer.
-fn make_dimensions(d: usize, b: usize, n: usize, vectors: &[i32], marks: &mut [i32])
+// The marks, where nothing refuses, with arrays for the most vectors of a library.
+fn make_ready(d: usize, b: usize, n: usize, vectors: &[i32], marks: &mut [i32])
     requires { ⌜ first (makeCauses d b n (now vectors) (length (now marks))) ≡ Accepted ⌝ }
     ensures { λ _. ⌜ now (marks .exit) ≡ madeMarks d b n (now (vectors .entry)) ⌝ }
+{
+    let mut keys = [0u64; MAX_VECTORS];
+    let mut spare = [0u64; MAX_VECTORS];
+    make_dimensions(d, b, vectors, &mut keys[..n], &mut spare, marks);
+}
+
+// The marks, with room for the keys of a dimension and for their sort: each dimension's are written into its own stretch of the buffer.
+fn make_dimensions(
+    d: usize,
+    b: usize,
+    vectors: &[i32],
+    keys: &mut [u64],
+    spare: &mut [u64],
+    marks: &mut [i32],
+)
+    requires { ⌜ first (makeCauses d b (length (now keys)) (now vectors) (length (now marks))) ≡ Accepted ⌝ }
+    requires { ⌜ length (now keys) ≤ length (now spare) ⌝ }
+    ensures { λ _. ⌜ now (marks .exit) ≡ madeMarks d b (length (now (keys .entry))) (now (vectors .entry)) ⌝ }
 {
     let mut t = 0;
     while t < d {
         let stretch = layout::stretch_of(d, b, t + 1);
         let offset = stretch.offset;
-        make_dimension(d, n, t, stretch.bits, vectors, &mut marks[offset..]);
+        make_dimension(
+            d,
+            t,
+            stretch.bits,
+            vectors,
+            keys,
+            spare,
+            &mut marks[offset..],
+        );
         t += 1;
     }
 }
 
 // One dimension's marks, with t dimensions before it and w bits, at the front of the part. The rest of the part keeps its content.
-fn make_dimension(d: usize, n: usize, t: usize, w: usize, vectors: &[i32], part: &mut [i32])
-    requires { ⌜ MarksOf d n t w (now vectors) (length (now part)) ⌝ }
+fn make_dimension(
+    d: usize,
+    t: usize,
+    w: usize,
+    vectors: &[i32],
+    keys: &mut [u64],
+    spare: &mut [u64],
+    part: &mut [i32],
+)
+    requires { ⌜ (MarksOf d (length (now keys)) t w (now vectors) (length (now part))) × (length (now keys) ≤ length (now spare)) ⌝ }
     ensures { λ _. ⌜ now (part .exit)
-        ≡ madeDimension n w (inOrder (column d n (now (vectors .entry)) t)) ++ drop (2 ^ w + 1) (now (part .entry)) ⌝ }
+        ≡ madeDimension (length (now (keys .entry))) w (inOrder (column d (length (now (keys .entry))) (now (vectors .entry)) t))
+        ++ drop (2 ^ w + 1) (now (part .entry)) ⌝ }
 {
-    let mut keys = [0u64; MAX_VECTORS];
-    column_keys(d, t, vectors, &mut keys[..n]);
-    order::sort(&mut keys[..n]);
-    write_marks(w, &keys[..n], part);
+    column_keys(d, t, vectors, keys);
+    order::sort(keys, spare);
+    write_marks(w, keys, part);
 }
 
 // The keys of one dimension's components.

@@ -127,7 +127,8 @@ fn scan_into(
     let k = terms.k;
     let mut numbers = [0u32; MAX_NEIGHBOURS];
     let mut least = [0u64; MAX_NEIGHBOURS];
-    least::select(distances, &mut numbers[..k], &mut least[..k]);
+    let mut words = [0u64; MAX_NEIGHBOURS];
+    least::select(distances, &mut numbers[..k], &mut least[..k], &mut words);
     entries_of(&least[..k], &numbers[..k])
 }
 

@@ -19,11 +19,12 @@ use Rattle.marking.proofs.make_dimensions.Statement.{statement}
 use Rattle.marking.proofs.make_dimensions.Tie as tie
 
 abbrev Inv-loop : tie.InvT-loop
-Inv-loop d b n vectors marks₀ t₀ marks t =
-    (t ≤ d) × (length marks ≡ length marks₀) × (take (firstMarks d b t) marks ≡ madeFirst d b n vectors t)
+Inv-loop d b vectors keys₀ spare₀ marks₀ t₀ keys spare marks t =
+    (t ≤ d) × (length marks ≡ length marks₀) × (take (firstMarks d b t) marks ≡ madeFirst d b (length keys₀) vectors t)
+    × (length keys ≡ length keys₀) × (length spare ≡ length spare₀)
 
 abbrev μ-loop : tie.MeasureT-loop
-μ-loop d b n vectors marks₀ t₀ marks t = d - t
+μ-loop d b vectors keys₀ spare₀ marks₀ t₀ keys spare marks t = d - t
 
 -- ---- a part of the marks, from o on, lent and back
 
@@ -46,10 +47,11 @@ module _ {d b n : ℕ} {vectors : List ℤ} {room : ℕ} (is : Given d b n vecto
   ends : s .offset + (2 ^ s .bits + 1) ≤ room
   ends = omega (arith, stretch .end, stretch .within, is .exact)
 
-  module _ (marks : List ℤ) (same : length marks ≡ room) where
-    asked : MarksOf d n t (s .bits) vectors (length (midOf (s .offset) (length marks - s .offset) marks))
+  module _ (marks : List ℤ) (same : length marks ≡ room) {keys : ℕ} (all : keys ≡ n) where
+    asked : MarksOf d keys t (s .bits) vectors (length (midOf (s .offset) (length marks - s .offset) marks))
     asked =
         let shaped = shape d b (is .shaped) in
+        rw all
         record {
           of-column = record { few = shaped .few; among = among; count = is .count .below };
           shares = record { some = is .count .above; few = is .count .below; bits = stretch .few-bits };
@@ -58,7 +60,7 @@ module _ {d b n : ℕ} {vectors : List ℤ} {room : ℕ} (is : Given d b n vecto
         }
 
     turn : (last : List ℤ) → length last ≡ length (midOf (s .offset) (length marks - s .offset) marks)
-        → last ≡ madeDimension n (s .bits) (inOrder (column d n vectors t)) ++ drop (2 ^ s .bits + 1)
+        → last ≡ madeDimension keys (s .bits) (inOrder (column d keys vectors t)) ++ drop (2 ^ s .bits + 1)
         (midOf (s .offset) (length marks - s .offset) marks)
         → take (firstMarks d b t) marks ≡ madeFirst d b n vectors t
         → take (firstMarks d b (t + 1)) (putMid (s .offset) (length marks - s .offset) marks last) ≡ madeFirst d b n vectors (t + 1)
@@ -68,7 +70,8 @@ module _ {d b n : ℕ} {vectors : List ℤ} {room : ℕ} (is : Given d b n vecto
         let m = 2 ^ s .bits + 1 in
         let start : t + 1 - 1 ≡ t = omega arith in
         let own = made-length n (s .bits) (inOrder (column d n vectors t)) in
-        let front : take m last ≡ madeDimension n (s .bits) (inOrder (column d n vectors t)) = ap (take m) made ∙ take-at _ _ m own in
+        let front : take m last ≡ madeDimension n (s .bits) (inOrder (column d n vectors t)) =
+        ap (take m) (rw all at made) ∙ take-at _ _ m own in
         let before : take o marks ≡ madeFirst d b n vectors t = rw (stretch .offset-is, start) so-far in
         let bits : s .bits ≡ bitsOf d b (suc t) = stretch .bits-are ∙ ap (bitsOf d b) (add-one t) in
         ap (λ (k : ℕ). take k (putMid o (length marks - o) marks last)) (sym (stretch .end))
@@ -78,45 +81,53 @@ module _ {d b n : ℕ} {vectors : List ℤ} {room : ℕ} (is : Given d b n vecto
 
 -- the call's facts, and the stretch's law at a turn
 facts : (c : tie.Start Inv-loop μ-loop)
-    → Given (c .args .d) (c .args .b) (c .args .n) (c .args .vectors .now) (length (c .args .marks .now))
-facts c = given (c .args .d) (c .args .b) (c .args .n) (c .args .vectors .now) (length (c .args .marks .now)) (c .pre)
+    → Given (c .args .d) (c .args .b) (length (c .args .keys .now)) (c .args .vectors .now) (length (c .args .marks .now))
+facts c = given (c .args .d) (c .args .b) (length (c .args .keys .now)) (c .args .vectors .now) (length (c .args .marks .now)) (c .pre .0)
 
 in-buffer : (c : tie.After-stretch-of Inv-loop μ-loop)
     → c .stretch-of .result .offset + (2 ^ c .stretch-of .result .bits + 1) ≤ length (c .before .before .loop .marks)
 in-buffer c =
     let at = c .before .before in
-    rw (at .loop .inv .1) (ends (facts (at .before)) (at .loop .t) (c .before .loop-test .taken) (c .stretch-of .result) (c .stretch-of .ensures))
+    rw (at .loop .inv .1)
+    (ends (facts (at .before .before .before)) (at .loop .t) (c .before .loop-test .taken) (c .stretch-of .result) (c .stretch-of .ensures))
 
 loop-holds : tie.Need-loop-holds Inv-loop μ-loop
 unfolding firstMarks madeFirst
-loop-holds c = (omega arith, refl, refl)
+loop-holds c = (omega arith, refl, refl, refl, refl)
 
 make-dimension-requires : tie.Need-make-dimension-requires Inv-loop μ-loop
 make-dimension-requires c κs =
-    let at = c .before .before .before in
-    asked (facts (at .before)) (at .loop .t) (c .before .before .loop-test .taken) (c .before .stretch-of .result)
-    (c .before .stretch-of .ensures) (at .loop .marks) (at .loop .inv .1)
+    let stretch = c .before .before .before in
+    let at = stretch .before .before in (
+      asked (facts (at .before .before .before)) (at .loop .t) (stretch .before .loop-test .taken) (stretch .stretch-of .result)
+          (stretch .stretch-of .ensures) (at .loop .marks) (at .loop .inv .1) (at .loop .inv .3),
+      omega (arith, at .loop .inv .3, at .loop .inv .4, at .before .before .before .pre .1),
+    )
 
 loop-again : tie.Need-loop-again Inv-loop μ-loop
 loop-again c =
-    let at = c .before .before .before .before .before in
-    let stretch = c .before .before .before in
+    let called = c .before .before .before .before .before .make-dimension in
+    let stretch = c .before .before .before .before .before .before .before .before .before in
+    let at = stretch .before .before in
     let o = stretch .stretch-of .result .offset in
-    let last = c .before .make-dimension .last .1 .1 .1 .1 .1 .0 in
-    let kept = c .before .make-dimension .kept .1 .1 .1 .1 .1 .0 in (
+    let last = called .last .1 .1 .1 .1 .1 .1 .0 in
+    let kept = called .kept .1 .1 .1 .1 .1 .1 .0 in (
       omega arith,
       same-len-mid o (length (at .loop .marks) - o) (at .loop .marks) last kept ∙ at .loop .inv .1,
-      turn (facts (at .before)) (at .loop .t) (stretch .before .loop-test .taken) (stretch .stretch-of .result)
-          (stretch .stretch-of .ensures) (at .loop .marks) (at .loop .inv .1)
-          last kept (c .before .make-dimension .ensures) (at .loop .inv .2),
+      turn (facts (at .before .before .before)) (at .loop .t) (stretch .before .loop-test .taken) (stretch .stretch-of .result)
+          (stretch .stretch-of .ensures) (at .loop .marks) (at .loop .inv .1) (at .loop .inv .3)
+          last kept (called .ensures) (at .loop .inv .2),
+      called .kept .1 .1 .1 .1 .0 ∙ at .loop .inv .3,
+      called .kept .1 .1 .1 .1 .1 .0 ∙ at .loop .inv .4,
     )
 
 returns : tie.Need-returns Inv-loop μ-loop
 returns c =
     let at = c .before in
-    let a = at .before .args in
+    let start = at .before .before .before in
+    let a = start .args in
     let all : at .loop .t ≡ a .d = omega arith in
-    let exact : length (at .loop .marks) ≡ firstMarks (a .d) (a .b) (a .d) = at .loop .inv .1 ∙ facts (at .before) .exact in
+    let exact : length (at .loop .marks) ≡ firstMarks (a .d) (a .b) (a .d) = at .loop .inv .1 ∙ facts start .exact in
     sym (take-all (firstMarks (a .d) (a .b) (a .d)) (at .loop .marks) (omega arith)) ∙ (rw all at (at .loop .inv .2))
 
 pub make-dimensions-spec : {M : Type 1} → statement M
@@ -128,13 +139,15 @@ make-dimensions-spec =
     loop-holds
     (λ c. search needs)
     (λ c κs. search needs)
-    (λ c. omega (arith, in-buffer c))
-    (λ c. omega (arith, in-buffer c))
-    (λ c. omega (arith, in-buffer c))
+    (λ c. omega (arith, in-buffer (c .before .before)))
+    (λ c. omega (arith, in-buffer (c .before .before)))
+    (λ c. omega (arith, in-buffer (c .before .before)))
     (λ c. search needs)
     make-dimension-requires
     (λ c. search needs)
     (λ c. search needs)
     loop-again
+    (λ c. c .before .loop .inv .3)
+    (λ c. c .before .loop .inv .4)
     (λ c. c .before .loop .inv .1)
     returns)

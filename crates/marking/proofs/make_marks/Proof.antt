@@ -14,7 +14,7 @@ accepted c = sym (c .before .before .check-making .ensures) ∙ c .enum-told .gi
 
 returns : tie.Need-returns
 returns c =
-    (sym (accepted (c .before .before .before)), c .before .make-dimensions .ensures ∙ sym (outcome-accepted _ _ (accepted (c .before .before .before))))
+    (sym (accepted (c .before .before .before)), c .before .make-ready .ensures ∙ sym (outcome-accepted _ _ (accepted (c .before .before .before))))
 
 refused : (c : tie.After-known-told) → let a = c .before .before .before .before .args in
     first (makeCauses (a .d) (a .b) (a .n) (a .vectors .now) (length (a .marks .now))) ≡ Refused (c .before .verdict .given .0 .0)

@@ -6,7 +6,7 @@ use native.Mathlib.Omega.{arith}
 use lib.ListN.{length, take}
 use lib.Seq.{length-take-le}
 use borrow.Author.Needs.{needs}
-use borrow.Author.Tests.{le-leb, eq-eqb}
+use borrow.Author.Tests.{le-leb, le-ltb, eq-eqb}
 use Rattle.refusal.specs.declared.Verdict.the-variants.{Accepted}
 use Rattle.refusal.specs.First.{first, outcome, outcome-accepted}
 use Rattle.limits.specs.Limits.{maxVectors}
@@ -37,46 +37,58 @@ least-hold : tie.Need-array-borrow-prefix-least
 least-hold c = c .before .before .before .before .before .before .before .pre .1 .few
 
 least-within : tie.Need-array-share-prefix-least
-least-within c = back-within _ _ (c .before .before .select .last .1 .1 .0) (least-hold (c .before .before .before .before))
-    (c .before .before .select .kept .1 .1 .0)
+least-within c =
+    let chosen = c .before .before .before in
+    back-within _ _ (chosen .select .last .1 .1 .0) (least-hold (chosen .before .before .before)) (chosen .select .kept .1 .1 .0)
 
 numbers-within : tie.Need-array-share-prefix-numbers
 numbers-within c =
-    let chosen = c .before .before .before in
-    back-within _ _ (chosen .select .last .1 .0) (numbers-hold (chosen .before .before .before)) (chosen .select .kept .1 .0)
+    let chosen = c .before .before .before .before in
+    back-within _ _ (chosen .select .last .1 .0) (numbers-hold (chosen .before .before .before .before)) (chosen .select .kept .1 .0)
 
 -- the least of n keys are selected, and their pairs are the scan's
-accepted : (m n numbers least : ℕ) → m ≡ n → n ≤ maxVectors → 1 ≤ numbers → numbers ≤ n → least ≡ numbers
-    → first (leastCauses m numbers least) ≡ Accepted
+accepted : (m n numbers least words : ℕ) → m ≡ n → n ≤ maxVectors → 1 ≤ numbers → numbers ≤ n → least ≡ numbers → numbers ≤ words
+    → first (leastCauses m numbers least words) ≡ Accepted
 unfolding first
-accepted m n numbers least all few some enough same =
-    rw (all, le-leb 1 n (omega arith), le-leb n maxVectors few, le-leb 1 numbers some, le-leb numbers n enough, eq-eqb least numbers same)
+accepted m n numbers least words all few some enough same room =
+    rw (
+      all,
+      le-leb 1 n (omega arith),
+      le-leb n maxVectors few,
+      le-leb 1 numbers some,
+      le-leb numbers n enough,
+      eq-eqb least numbers same,
+      le-ltb words numbers room,
+    )
 
-selected : (f : ℕ → ℕ) (n k : ℕ) (keys numbers least old-numbers old-least : List ℕ) (room more : ℕ) → n ≤ maxVectors → Neighbours n k
+selected : (f : ℕ → ℕ) (n k : ℕ) (keys numbers least old-numbers old-least : List ℕ) (room more words : ℕ) → n ≤ maxVectors
+    → Neighbours n k
     → keys ≡ valuesFrom f 0 n
-    → numbers ≡ outcome (first (leastCauses (length keys) room more)) (take room (ranking keys)) (λ _. old-numbers)
-    → least ≡ outcome (first (leastCauses (length keys) room more)) (map (keyAt keys) (take room (ranking keys))) (λ _. old-least)
-    → room ≡ k → more ≡ k → pairsOf least numbers ≡ scan k f (countFrom 0 n)
-selected f n k keys numbers least old-numbers old-least room more few among are numbers-are least-are of-numbers of-least =
+    → numbers ≡ outcome (first (leastCauses (length keys) room more words)) (take room (ranking keys)) (λ _. old-numbers)
+    → least ≡ outcome (first (leastCauses (length keys) room more words)) (map (keyAt keys) (take room (ranking keys))) (λ _. old-least)
+    → room ≡ k → more ≡ k → k ≤ words → pairsOf least numbers ≡ scan k f (countFrom 0 n)
+selected f n k keys numbers least old-numbers old-least room more words few among are numbers-are least-are of-numbers of-least of-words =
     let none =
-    accepted (length keys) n room more (ap length are ∙ values-length f 0 n) few (omega (arith, of-numbers, among .some))
+    accepted (length keys) n room more words (ap length are ∙ values-length f 0 n) few (omega (arith, of-numbers, among .some))
     (omega (arith, of-numbers, among .enough))
-    (omega (arith, of-numbers, of-least)) in
+    (omega (arith, of-numbers, of-least))
+    (omega (arith, of-numbers, of-words)) in
     rw (numbers-are ∙ outcome-accepted _ _ none, least-are ∙ outcome-accepted _ _ none, of-numbers) (scan-pairs f n k keys are)
 
 returns : tie.Need-returns
 returns c =
-    let chosen = c .before .before .before .before .before in
-    let measured = chosen .before .before .before .before .before .before in
+    let chosen = c .before .before .before .before .before .before in
+    let measured = chosen .before .before .before .before .before .before .before in
     let start = measured .before .before .before in
     let t = start .args .terms in
     let f = distancesOf (t .d) (start .args .query .now) (start .args .vectors .now) in
-    let of-numbers = numbers-hold (chosen .before .before .before) in
-    let of-least = least-hold (chosen .before .before) in
+    let of-numbers = numbers-hold (chosen .before .before .before .before) in
+    let of-least = least-hold (chosen .before .before .before) in
     let pairs =
-    selected f (t .n) (t .k) _ _ _ _ _ _ _ (start .pre .0 .count) (start .pre .1)
+    selected f (t .n) (t .k) _ _ _ _ _ _ _ _ (start .pre .0 .count) (start .pre .1)
     (measured .measure-all .ensures ∙ ap (valuesFrom f 0) (start .pre .2))
-    (chosen .select .ensures .1 .0) (chosen .select .ensures .1 .1) (length-take-le _ _ of-numbers) (length-take-le _ _ of-least) in
+    (chosen .select .ensures .1 .0) (chosen .select .ensures .1 .1) (length-take-le _ _ of-numbers) (length-take-le _ _ of-least)
+    (start .pre .1 .few) in
     c .entries-of .ensures
     ∙ ap (λ (ps : List Pair). inArray (entriesOf ps))
     (rw (
@@ -93,6 +105,7 @@ scan-into-spec =
     (λ c. sym (length-take-le _ _ (numbers-hold (c .before))))
     least-hold
     (λ c. sym (length-take-le _ _ (least-hold (c .before))))
+    (λ c. search needs)
     (λ c κs. tt)
     least-within
     (λ c. sym (length-take-le _ _ (least-within (c .before))))
