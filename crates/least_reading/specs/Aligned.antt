@@ -88,8 +88,7 @@ module _ (k : ℕ) {ranking : List Pair} (sorted : Sorted ranking) (bound : Pair
         numbers-are =
             rw count
             (are-numbers
-            ∙ rw numbersOf-map
-            (ap (λ (r : List ℕ). take k (map numbers ranking) ++ r) (map-candidates numbers)
-            ∙ sym (take-add k (length (candidates k ranking bound)) (map numbers ranking))));
+            ∙ rw (numbersOf-map ranking, numbersOf-map (candidates k ranking bound), map-candidates numbers)
+            (sym (take-add k (length (candidates k ranking bound)) (map numbers ranking))));
         lows-are = rw count (are-lows ∙ map-candidates (λ p. p .key));
       }

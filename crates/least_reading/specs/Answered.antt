@@ -6,15 +6,17 @@ use Prim.Native.Nat.{ℕ, suc, _≤_, _<_}
 use native.Mathlib.Omega.{arith}
 use lib.IntN.{ℤ}
 use lib.ListN.{length, take, getD}
+use lib.Seq.{length-take-le}
 use Rattle.refusal.specs.declared.Refusal.the-variants.{Cell}
-use Rattle.order.specs.Pair.{numbersOf, pairOf}
-use Rattle.order.specs.Pairs.{keysOf}
+use Rattle.order.specs.Pair.{sort, numbersOf, pairOf}
+use Rattle.order.specs.Pairs.{pairsOf, keysOf}
 use Rattle.order.specs.Members.{_∈_}
 use Rattle.order.specs.Counted.{counted-length}
 use Rattle.selection.specs.Reading.{Reading, readNext, goesOn, readingOrder}
-use Rattle.selection.specs.Loop.{Reached, after, after-next, reached-next}
+use Rattle.order.specs.Ranking.{ranked-count}
+use Rattle.selection.specs.Loop.{Reached, after, after-next, reached-next, reached-first}
 use Rattle.selection.specs.Steps.{next-read}
-use Rattle.best_pairs.specs.Gathered.{Gathers}
+use Rattle.best_pairs.specs.Gathered.{Gathers, gathers-sorted}
 use Rattle.best_pairs.specs.Holds.{HoldsBest}
 use Rattle.search.specs.declared.Searched.{Searched}
 use Rattle.search.specs.declared.Searched.the-variants.{Read, Refused}
@@ -103,3 +105,25 @@ module _ (l : Index) (query : List ℤ) (k done : ℕ) (more : done < l .n) wher
       let rest = (reached-next k (lowIn l query) (distanceIn l query) (numbersIn l) done reached within goes) .rest in
       cells-fail l ((searched l query k) .reads) out
       (rw (← rest, after-next k (lowIn l query) (distanceIn l query) (numbersIn l) done within) (next-read k (distanceIn l query) _ _ _))
+
+-- ---- the first k
+
+module _ {l : Index} {query : List ℤ} {k : ℕ} {r : Bool} {keys best : List ℕ} (first-reads : FirstReads l query k r keys best) where
+  -- sorted
+  pub first-sorted : Ready l query k → r ≡ true → {keys-then best-then : List ℕ} → keys-then ≡ keysOf (sort (pairsOf keys best))
+      → best-then ≡ numbersOf (sort (pairsOf keys best)) → HasRead l query k k keys-then best-then
+  unfolding after
+  first-sorted is all sorted-keys sorted-best =
+      let order = readingOrder (lowIn l query) (numbersIn l) in
+      let long : length order ≡ l .n = ranked-count (lowIn l query) (numbersIn l) ∙ counted-length 0 (l .n) in
+      let full : length (take k order) ≡ k = length-take-le k order (omega (arith, is .enough)) in
+      record {
+        within = is .enough;
+        reached = reached-first k (lowIn l query) (distanceIn l query) (numbersIn l) k (omega arith) (omega (arith, is .enough, counted-length 0 (l .n)));
+        holds = gathers-sorted (first-reads .gathered all) full sorted-keys sorted-best;
+        inside = first-reads .inside all;
+      }
+
+  -- one is not in its cell
+  pub first-outside : r ≡ false → (order keys-then best-then : List ℕ) → Reads l query k (Refused Cell) order keys-then best-then
+  first-outside out order keys-then best-then = reads-outside order keys-then best-then (first-reads .outside out)
