@@ -1,12 +1,12 @@
 -- What reading gives: the best where each vector read lies in its cell, and a refusal otherwise. Assumes nothing.
-use mathlib.Core.Path.{_≡_, refl, sym, _∙_}
+use mathlib.Core.Path.{_≡_, refl, sym, ap, _∙_}
 use mathlib.Core.Bool.{Bool, true, false, cond, and-eq-true-iff}
 use mathlib.Core.List.{List, [], _∷_, _++_, List·Memᴰ·head, List·Memᴰ·tail}
 use Prim.Native.Nat.{ℕ, suc, _≤_, _<_}
 use native.Mathlib.Omega.{arith}
 use lib.IntN.{ℤ}
 use lib.ListN.{length, take, getD}
-use lib.Seq.{length-take-le}
+use lib.Seq.{length-take-le, take-at}
 use Rattle.refusal.specs.declared.Refusal.the-variants.{Cell}
 use Rattle.order.specs.Pair.{sort, numbersOf, pairOf}
 use Rattle.order.specs.Pairs.{pairsOf, keysOf}
@@ -20,7 +20,7 @@ use Rattle.best_pairs.specs.Gathered.{Gathers, gathers-sorted}
 use Rattle.best_pairs.specs.Holds.{HoldsBest}
 use Rattle.search.specs.declared.Searched.{Searched}
 use Rattle.search.specs.declared.Searched.the-variants.{Read, Refused}
-use Rattle.distance.specs.Values.{valuesFrom}
+use Rattle.distance.specs.Values.{valuesFrom, values-length}
 use Rattle.search.specs.Ready.{Ready}
 use Rattle.search.specs.Search.{Index, numbersIn, distanceIn, lowIn, inOwnCell, inOwnCells, searched}
 
@@ -31,6 +31,10 @@ pub record Lent (l : Index) (query : List ℤ) (k : ℕ) (lows order words best 
   pub order-room : length order ≡ l .n
   pub words-room : length words ≡ l .n
   pub best-room : length best ≡ k
+
+pub lows-room : {l : Index} {query : List ℤ} {k : ℕ} {lows order words best : List ℕ} → Lent l query k lows order words best
+    → length lows ≡ l .n
+lows-room {l} {query} lent = ap length (lent .lows-are) ∙ values-length (lowIn l query) 0 (l .n)
 
 -- the outcome of reading: the answer, the numbers read at the front of `order`, and the keys and numbers of the best
 pub record Reads (l : Index) (query : List ℤ) (k : ℕ) (r : Searched) (order keys numbers : List ℕ) : Type 0 where
@@ -61,6 +65,11 @@ pub reads-outside : {l : Index} {query : List ℤ} {k : ℕ} (order keys numbers
     → Reads l query k (Refused Cell) order keys numbers
 reads-outside order keys numbers out =
     record { answer = rw out; reads-are = λ none. cc; keys-are = λ none. cc; numbers-are = λ none. cc }
+
+-- the keys lent as the front of a longer list
+pub reads-front : {l : Index} {query : List ℤ} {k : ℕ} {r : Searched} {order keys numbers : List ℕ} (rest : List ℕ)
+    → Reads l query k r order keys numbers → length keys ≡ k → Reads l query k r order (take k (keys ++ rest)) numbers
+reads-front {k = k} {keys = keys} rest reads size = rw (take-at keys rest k size) reads
 
 -- ---- cells of several vectors
 
