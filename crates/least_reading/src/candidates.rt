@@ -42,7 +42,13 @@ pub(crate) fn sort_few(keys: &mut [u64], numbers: &mut [u32])
 // Ranks the numbers that can still be read once the first k have been, behind these in `order`, and their lows from the front on; how many
 // they are. The last of the first has the low `last`, and the k-th best stands last in `best` and at its place in `words`, whose rest is
 // room.
-pub(crate) fn rank_candidates(last: u64, lows: &mut [u64], order: &mut [u32], words: &mut [u64], best: &[u32]) -> usize
+pub(crate) fn rank_candidates(
+    last: u64,
+    lows: &mut [u64],
+    order: &mut [u32],
+    words: &mut [u64],
+    best: &[u32],
+) -> usize
     requires { ⌜ (1 ≤ length (now best)) × (length (now best) ≤ length (now lows)) × (length (now lows) ≤ maxVectors)
         × (length (now order) ≡ length (now lows)) × (length (now words) ≡ length (now lows)) ⌝ }
     requires { let k = length (now best) in
@@ -56,8 +62,19 @@ pub(crate) fn rank_candidates(last: u64, lows: &mut [u64], order: &mut [u32], wo
 {
     let k = best.len();
     let number = order[k - 1];
-    let count = gather(last, number, words[k - 1], best[k - 1], lows, &mut order[k..]);
-    sorting::sort(&mut lows[..count], &mut order[k..k + count], &mut words[k..]);
+    let count = gather(
+        last,
+        number,
+        words[k - 1],
+        best[k - 1],
+        lows,
+        &mut order[k..],
+    );
+    sorting::sort(
+        &mut lows[..count],
+        &mut order[k..k + count],
+        &mut words[k..],
+    );
     count
 }
 
@@ -93,7 +110,14 @@ fn gather(
 }
 
 // Whether a pair is below the bound and behind the last.
-fn is_candidate(last: u64, last_number: u32, bound: u64, bound_number: u32, low: u64, number: u32) -> bool
+fn is_candidate(
+    last: u64,
+    last_number: u32,
+    bound: u64,
+    bound_number: u32,
+    low: u64,
+    number: u32,
+) -> bool
     ensures { λ r. ⌜ r ≡ isCandidate (pair last «last_number») (pair bound «bound_number») (pair low number) ⌝ }
 {
     if !comes_before(low, number, bound, bound_number) {

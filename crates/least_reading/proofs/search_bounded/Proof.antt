@@ -13,9 +13,7 @@ use Rattle.refusal.specs.First.{first, outcome-accepted, outcome-refused}
 use Rattle.order.specs.Pair.{Pair}
 use Rattle.order.specs.Pairs.{pairsOf, pairs-both}
 use Rattle.order.specs.Counted.{counted-length}
-use Rattle.order.specs.Ranking.{ranked-count}
 use Rattle.order.proofs.Prefix.{back-within}
-use Rattle.selection.specs.Reading.{readingOrder}
 use Rattle.selection.specs.Theorems.{reads-count}
 use Rattle.entries.specs.declared.Entry.{Entry}
 use Rattle.entries.specs.Entries.{entriesOf, inArray}
@@ -23,7 +21,6 @@ use Rattle.search.specs.declared.Searched.{Searched}
 use Rattle.search.specs.declared.Searched.the-variants.{Read, Refused}
 use Rattle.search.specs.Answer.{searchedCount, foundCount}
 use Rattle.search.specs.Search.{Index, numbersIn, distanceIn, lowIn, inOwnCells, searched}
-use Rattle.search.specs.Theorems.{reads-are-the-order}
 use Rattle.search.specs.Ready.{indexOf}
 use Rattle.least_reading.specs.Answered.{Reads}
 use Rattle.least_reading.specs.Searching.{Searches, cellCauses, searches-none, tells-read, tells-refused, cells-accepted, cells-refused}
@@ -38,37 +35,35 @@ no-pairs : (numbers : List ℕ) → entriesOf (pairsOf [] numbers) ≡ []
 unfolding entriesOf pairsOf
 no-pairs numbers = refl
 
-module _ (l : Index) (query : List ℤ) (k : ℕ) {keys best : List ℕ} where
-  count-most : (r : Searched) → Reads l query k r keys best → searchedCount r ≤ l .n
+module _ (l : Index) (query : List ℤ) (k : ℕ) (words : List ℕ) {order best : List ℕ} where
+  count-most : (r : Searched) → Reads l query k r order (take k words) best → searchedCount r ≤ l .n
   count-most (Read count) read =
       let told = tells-read (inOwnCells l (searched l query k .reads)) (length (searched l query k .reads)) count (sym (read .answer)) in
       omega (arith, told .all-read, reads-count k (lowIn l query) (distanceIn l query) (numbersIn l), counted-length 0 (l .n))
   count-most (Refused cause) read = omega arith
 
   -- what is written and answered
-  answers : (r : Searched) → Reads l query k r keys best → length keys ≡ k → length best ≡ k → (keys-rest best-rest : List ℕ)
-      → {order reads reads-then : List ℕ} → order ≡ readingOrder (lowIn l query) (numbersIn l)
+  answers : (r : Searched) → Reads l query k r order (take k words) best → length best ≡ k → (best-rest : List ℕ)
+      → {reads reads-then : List ℕ}
       → reads-then ≡ take (searchedCount r) order ++ drop (searchedCount r) reads → (entries : List Entry) (kept : ℕ)
-      → entries ≡ inArray (entriesOf (pairsOf (take kept (keys ++ keys-rest)) (take kept (best ++ best-rest)))) → kept ≡ foundCount r k
+      → entries ≡ inArray (entriesOf (pairsOf (take kept words) (take kept (best ++ best-rest)))) → kept ≡ foundCount r k
       → Searches (first (cellCauses l query k)) l query k (record { answer = r; entries = entries }) reads reads-then
-  answers (Read count) read of-keys of-best keys-rest best-rest {order} {reads} ordered put entries kept are all =
+  answers (Read count) read of-best best-rest {reads} put entries kept are all =
       let told = tells-read _ _ _ (sym (read .answer)) in
       let accepted = cells-accepted l query k (told .in-cells) in
-      let in-front : take (length (searched l query k .reads)) order ≡ searched l query k .reads = rw ordered
-      (sym (reads-are-the-order l query k)) in
-      let pairs : pairsOf keys best ≡ searched l query k .best =
+      let pairs : pairsOf (take k words) best ≡ searched l query k .best =
       rw (read .keys-are (told .in-cells), read .numbers-are (told .in-cells)) (pairs-both (searched l query k .best)) in
       record {
         answer = ap (λ (m : ℕ). Read m) (told .all-read) ∙ sym (outcome-accepted _ _ accepted);
         entries-are = (rw all at are)
-            ∙ rw (take-at keys keys-rest k of-keys, take-at best best-rest k of-best, pairs) refl
+            ∙ rw (take-at best best-rest k of-best, pairs) refl
             ∙ ap inArray (sym (outcome-accepted _ _ accepted));
         reads-are = put
             ∙ ap (λ (m : ℕ). take m order ++ drop m reads) (told .all-read)
-            ∙ ap (λ (front : List ℕ). front ++ drop (length (searched l query k .reads)) reads) in-front
+            ∙ ap (λ (front : List ℕ). front ++ drop (length (searched l query k .reads)) reads) (read .reads-are (told .in-cells))
             ∙ sym (outcome-accepted _ _ accepted);
       }
-  answers (Refused cause) read of-keys of-best keys-rest best-rest {reads = reads} ordered put entries kept are none =
+  answers (Refused cause) read of-best best-rest {reads} put entries kept are none =
       let out = tells-refused _ _ _ (sym (read .answer)) in
       let its : Refused cause ≡ Refused Cell =
       read .answer ∙ ap (λ (cells : Bool). cond cells (Read (length (searched l query k .reads))) (Refused Cell)) out in
@@ -79,95 +74,88 @@ module _ (l : Index) (query : List ℤ) (k : ℕ) {keys best : List ℕ} where
 abbrev given : tie.Start → Index
 given s = indexOf (s .args .terms) (s .args .marks .now) (s .args .codes .now) (s .args .vectors .now)
 
-order-length : (s : tie.Start) → length (s .args .order .now) ≡ s .args .terms .n
-order-length s =
-    ap length (s .pre .1 .1) ∙ ranked-count (lowIn (given s) (s .args .query .now)) (numbersIn (given s))
-    ∙ counted-length 0 (s .args .terms .n)
-
--- ---- the fronts of the two arrays
-
-keys-hold : tie.Need-array-borrow-prefix-keys
-keys-hold c = c .before .before .before .before .pre .0 .0 .few
-
 best-hold : tie.Need-array-borrow-prefix-best
-best-hold c = c .before .before .before .before .before .pre .0 .0 .few
+best-hold c = c .before .before .before .before .before .before .before .before .pre .0 .0 .few
 
--- as many as were found
-kept-few : (c : tie.After-found-count)
-    → c .found-count .result ≤ c .before .before .before .before .before .before .before .before .before .before .before .before .before
-    .before .before .args .terms .k
-kept-few c = omega (
-  arith,
-  c .found-count .ensures,
-  found-most (c .before .before .before .before .before .before .before .before .read-all .result)
-      (c .before .before .before .before .before .before .before .before .before .before .before .before .before .before .before .args
-      .terms .k),
-)
+best-room : tie.Need-slice-aggregate-read-in-order
+best-room c = sym (length-take-le _ _ (best-hold (c .before)))
 
-keys-within : tie.Need-array-share-prefix-keys
-keys-within c =
-    let read = c .before .before .before .before .before .before .before .before in
-    omega (
-      arith,
-      kept-few c,
-      back-within _ _ (read .read-all .last .1 .1 .1 .1 .1 .1 .1 .0) (keys-hold (read .before .before .before))
-          (read .read-all .kept .1 .1 .1 .1 .1 .1 .1 .0),
-    )
-
-best-within : tie.Need-array-share-prefix-best
-best-within c =
-    let read = c .before .before .before .before .before .before .before .before .before in
-    omega (
-      arith,
-      kept-few (c .before),
-      back-within _ _ (read .read-all .last .1 .1 .1 .1 .1 .1 .1 .1 .0) (best-hold (read .before .before))
-          (read .read-all .kept .1 .1 .1 .1 .1 .1 .1 .1 .0),
-    )
-
-read-all-requires : tie.Need-read-all-requires
-read-all-requires c κs =
-    let s = c .before .before .before .before .before .before in
-    ((s .pre .0 .0, length-take-le _ _ (keys-hold (c .before .before)), length-take-le _ _ (best-hold (c .before))), s .pre .1)
+read-in-order-requires : tie.Need-read-in-order-requires
+read-in-order-requires c κs =
+    let s = c .before .before .before .before .before .before .before .before .before in
+    record {
+      ready = s .pre .0 .0;
+      lows-are = s .pre .1;
+      order-room = s .pre .0 .1;
+      words-room = s .pre .0 .2;
+      best-room = sym (best-room c);
+    }
 
 put-numbers-requires : tie.Need-put-numbers-requires
 put-numbers-requires c κs =
-    let counted = c .before in
-    let read = counted .before .before .before in
-    let s = read .before .before .before .before .before .before .before in
-    let most = count-most (given s) (s .args .query .now) (s .args .terms .k) (read .read-all .result) (read .read-all .ensures) in
-    (omega (arith, counted .read-count .ensures, most, order-length s), omega (arith, counted .read-count .ensures, most, s .pre .0 .1))
+    let counted = c .before .before in
+    let read = counted .before .before .before .before .before .before .before .before in
+    let s = read .before .before .before .before .before .before .before .before .before .before in
+    let most = count-most (given s) (s .args .query .now) (s .args .terms .k) (read .read-in-order .last .1 .1 .1 .1 .1 .1 .1 .0) (read .read-in-order .result) (read .read-in-order .ensures) in (
+      omega (arith, counted .read-count .ensures, most, read .read-in-order .kept .1 .1 .1 .1 .1 .1 .0, s .pre .0 .1),
+      omega (arith, counted .read-count .ensures, most, s .pre .0 .3),
+    )
+
+-- as many as were found
+kept-few : (c : tie.After-found-count) → c .found-count .result ≤ c .before .before .before .before .before .before .before .before .before .before .before .before .before .before .before .before .before .before .before .before .before .before .before .before .args .terms .k
+kept-few c =
+    omega (
+      arith,
+      c .found-count .ensures,
+      found-most (c .before .before .before .before .before .before .before .before .before .before .before .before .before .before .read-in-order .result) (c .before .before .before .before .before .before .before .before .before .before .before .before .before .before .before .before .before .before .before .before .before .before .before .before .args .terms .k),
+    )
+
+words-within : tie.Need-slice-reshare-prefix-entries-of
+words-within c =
+    let s = c .before .before .before .before .before .before .before .before .before .before .before .before .before .before .before .before .before .before .before .before .before .before .before .before in
+    omega (arith, kept-few c, c .before .before .before .before .before .before .before .before .before .before .before .before .before .before .read-in-order .kept .1 .1 .1 .1 .1 .1 .1 .0, s .pre .0 .2, s .pre .0 .0 .enough)
+
+best-within : tie.Need-array-share-prefix-best
+best-within c =
+    let read = c .before .before .before .before .before .before .before .before .before .before .before .before .before .before .before in
+    omega (
+      arith,
+      kept-few (c .before),
+      back-within _ _ (read .read-in-order .last .1 .1 .1 .1 .1 .1 .1 .1 .0) (best-hold (read .before .before))
+          (read .read-in-order .kept .1 .1 .1 .1 .1 .1 .1 .1 .0),
+    )
 
 returns : tie.Need-returns
 returns c =
     let found = c .before .before .before in
     let written = found .before .before .before in
-    let counted = written .before .before in
-    let read = counted .before .before .before in
-    let s = read .before .before .before .before .before .before .before in
+    let counted = written .before .before .before in
+    let read = counted .before .before .before .before .before .before .before .before in
+    let s = read .before .before .before .before .before .before .before .before .before .before in
     let a = s .args in
-    answers (given s) (a .query .now) (a .terms .k) (read .read-all .result) (read .read-all .ensures)
-    (read .read-all .kept .1 .1 .1 .1 .1 .1 .1 .0 ∙ length-take-le _ _ (keys-hold (read .before .before .before)))
-    (read .read-all .kept .1 .1 .1 .1 .1 .1 .1 .1 .0 ∙ length-take-le _ _ (best-hold (read .before .before))) _ _
-    (s .pre .1 .1)
-    (written .put-numbers .ensures ∙ ap (λ (m : ℕ). take m (a .order .now) ++ drop m (a .reads .now)) (counted .read-count .ensures))
+    answers (given s) (a .query .now) (a .terms .k) (read .read-in-order .last .1 .1 .1 .1 .1 .1 .1 .0) (read .read-in-order .result) (read .read-in-order .ensures)
+    (read .read-in-order .kept .1 .1 .1 .1 .1 .1 .1 .1 .0 ∙ sym (best-room (read .before))) _
+    (written .put-numbers .ensures
+    ∙ ap (λ (m : ℕ). take m (read .read-in-order .last .1 .1 .1 .1 .1 .1 .0) ++ drop m (a .reads .now)) (counted .read-count .ensures))
     _ _ (c .entries-of .ensures) (found .found-count .ensures)
 
 pub search-bounded-spec : {M : Type 1} → statement M
 search-bounded-spec =
     tie.close
     (tie.spec
-    keys-hold
-    (λ c. sym (length-take-le _ _ (keys-hold (c .before))))
     best-hold
-    (λ c. sym (length-take-le _ _ (best-hold (c .before))))
-    read-all-requires
+    best-room
+    read-in-order-requires
     (λ c κs. tt)
     put-numbers-requires
     (λ c κs. tt)
-    keys-within
-    (λ c. sym (length-take-le _ _ (keys-within (c .before))))
+    words-within
+    (λ c. sym (length-take-le _ _ (words-within (c .before))))
     best-within
     (λ c. sym (length-take-le _ _ (best-within (c .before))))
     (λ c κs. tt)
+    (λ c. c .before .before .before .before .before .before .before .before .before .before .before .before .before .before .before .before .before .read-in-order .kept .1 .1 .1 .1 .1 .0)
+    (λ c. c .before .before .before .before .before .before .before .before .before .before .before .before .before .before .before .before .before .read-in-order .kept .1 .1 .1 .1 .1 .1 .0)
+    (λ c. c .before .before .before .before .before .before .before .before .before .before .before .before .before .before .before .before .before .read-in-order .kept .1 .1 .1 .1 .1 .1 .1 .0)
     (λ c. c .before .before .before .before .before .before .put-numbers .kept .1 .1 .0)
     returns)
