@@ -1,4 +1,5 @@
--- What the reading of the rest is lent: the numbers of a ranking from its front on, and the keys of those behind the first k. Assumes nothing.
+-- What the reading of the rest is lent: the numbers of a ranking from its front on, and the keys of those behind the first k. Assumes
+-- nothing.
 use mathlib.Core.Path.{_≡_, refl, sym, ap, ap₂, _∙_}
 use mathlib.Core.List.{List, [], _∷_, _++_, map}
 use Prim.Native.Nat.{ℕ, zero, suc, _+_, _-_, _≤_, _<_}
@@ -48,7 +49,8 @@ module _ {k : ℕ} {ranking : List Pair} {lows order : List ℕ} (aligned : Alig
       ∙ getD-drop k (keysOf ranking) (done - k) 0
       ∙ ap (λ (m : ℕ). getD (keysOf ranking) m 0) same
 
-pub low-at : {k : ℕ} (low : ℕ → ℕ) (numbers : List ℕ) {lows order : List ℕ} → Aligned k (ranked low numbers) lows order → (done : ℕ) → k ≤ done
+pub low-at : {k : ℕ} (low : ℕ → ℕ) (numbers : List ℕ) {lows order : List ℕ} → Aligned k (ranked low numbers) lows order → (done : ℕ)
+    → k ≤ done
     → done < k + length lows → done < length numbers → getD lows (done - k) 0 ≡ low (getD (readingOrder low numbers) done 0)
 unfolding keysOf leastPair
 low-at low numbers aligned done behind more within =
@@ -82,7 +84,8 @@ module _ (k : ℕ) {ranking : List Pair} (sorted : Sorted ranking) (bound : Pair
       → Aligned k ranking lows order
   unfolding keysOf
   aligned-candidates {lows} {order} are-lows are-numbers =
-      let count : length lows ≡ length (candidates k ranking bound) = ap length are-lows ∙ length-map (candidates k ranking bound) (λ p. p .key) in
+      let count : length lows ≡ length (candidates k ranking bound) = ap length are-lows
+          ∙ length-map (candidates k ranking bound) (λ p. p .key) in
       let numbers : Pair → ℕ = λ p. p .number in
       record {
         numbers-are =

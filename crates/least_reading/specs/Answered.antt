@@ -39,7 +39,8 @@ lows-room {l} {query} lent = ap length (lent .lows-are) ∙ values-length (lowIn
 -- the outcome of reading: the answer, the numbers read at the front of `order`, and the keys and numbers of the best
 pub record Reads (l : Index) (query : List ℤ) (k : ℕ) (r : Searched) (order keys numbers : List ℕ) : Type 0 where
   pub answer : r ≡ cond (inOwnCells l ((searched l query k) .reads)) (Read (length ((searched l query k) .reads))) (Refused Cell)
-  pub reads-are : inOwnCells l ((searched l query k) .reads) ≡ true → take (length ((searched l query k) .reads)) order ≡ (searched l query k) .reads
+  pub reads-are : inOwnCells l ((searched l query k) .reads) ≡ true → take (length ((searched l query k) .reads)) order
+      ≡ (searched l query k) .reads
   pub keys-are : inOwnCells l ((searched l query k) .reads) ≡ true → keys ≡ keysOf ((searched l query k) .best)
   pub numbers-are : inOwnCells l ((searched l query k) .reads) ≡ true → numbers ≡ numbersOf ((searched l query k) .best)
 
@@ -108,7 +109,8 @@ module _ (l : Index) (query : List ℤ) (k done : ℕ) (more : done < l .n) wher
 
   -- the next is read, and not in its cell
   pub next-outside : Reached k (lowIn l query) (distanceIn l query) (numbersIn l) done
-      → goesOn k ((after k (lowIn l query) (distanceIn l query) (numbersIn l) done) .best) (pairOf (lowIn l query) (getD (readingOrder (lowIn l query) (numbersIn l)) done 0)) ≡ true
+      → goesOn k ((after k (lowIn l query) (distanceIn l query) (numbersIn l) done) .best)
+      (pairOf (lowIn l query) (getD (readingOrder (lowIn l query) (numbersIn l)) done 0)) ≡ true
       → inOwnCell l (getD (readingOrder (lowIn l query) (numbersIn l)) done 0) ≡ false → inOwnCells l ((searched l query k) .reads) ≡ false
   next-outside reached goes out =
       let rest = (reached-next k (lowIn l query) (distanceIn l query) (numbersIn l) done reached within goes) .rest in
@@ -128,7 +130,8 @@ module _ {l : Index} {query : List ℤ} {k : ℕ} {r : Bool} {keys best : List �
       let full : length (take k order) ≡ k = length-take-le k order (omega (arith, is .enough)) in
       record {
         within = is .enough;
-        reached = reached-first k (lowIn l query) (distanceIn l query) (numbersIn l) k (omega arith) (omega (arith, is .enough, counted-length 0 (l .n)));
+        reached = reached-first k (lowIn l query) (distanceIn l query) (numbersIn l) k (omega arith)
+            (omega (arith, is .enough, counted-length 0 (l .n)));
         holds = gathers-sorted (first-reads .gathered all) full sorted-keys sorted-best;
         inside = first-reads .inside all;
       }

@@ -3,10 +3,10 @@ use mathlib.Core.Path.{_≡_, refl, ap, _∙_}
 use mathlib.Core.List.{List, [], _∷_, List·Memᴰ·head, List·Memᴰ·tail}
 use Prim.Native.Nat.{ℕ}
 use native.Mathlib.Omega.{arith}
-use Rattle.order.specs.Pair.{countFrom, sort, keyed, ranked, numbersOf}
+use Rattle.order.specs.Pair.{countFrom, sort, keyed, ranked}
 use Rattle.order.specs.Pairs.{pairsOf}
 use Rattle.order.specs.Counted.{counted}
-use Rattle.order.specs.Rank.{keyAt, ranking, keyed-count}
+use Rattle.order.specs.Rank.{keyAt, keyed-count}
 use Rattle.selection.specs.Reading.{scan}
 use Rattle.selection.specs.Settles.{Agree}
 use Rattle.distance.specs.Values.{valuesFrom, values-length, value-at}
@@ -30,10 +30,6 @@ scan-agree k distance other is agree = rw (ranked-agree distance other is agree)
 pub values-ranked : (f : ℕ → ℕ) (n : ℕ) → ranked (keyAt (valuesFrom f 0 n)) (countFrom 0 n) ≡ ranked f (countFrom 0 n)
 values-ranked f n =
     ranked-agree f (keyAt (valuesFrom f 0 n)) (countFrom 0 n) (λ i m. value-at f n i (omega (arith, (counted 0 n m) .below)))
-
-pub values-ranking : (f : ℕ → ℕ) (n : ℕ) → ranking (valuesFrom f 0 n) ≡ numbersOf (ranked f (countFrom 0 n))
-unfolding ranking
-values-ranking f n = rw (values-length f 0 n) (ap numbersOf (values-ranked f n))
 
 -- and so does sorting the values with the numbers
 pub values-sorted : (f : ℕ → ℕ) (n : ℕ) → sort (pairsOf (valuesFrom f 0 n) (countFrom 0 n)) ≡ ranked f (countFrom 0 n)

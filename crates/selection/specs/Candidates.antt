@@ -42,7 +42,8 @@ keyed-passing test key [] = refl
 keyed-passing test key (i ∷ is) = go (test (pairOf key i)) (keyed-passing test key is)
   where
     go : (t : Bool) → keyed key (numbersPassing test key is) ≡ passing test (keyed key is)
-        → keyed key (cond t (i ∷ numbersPassing test key is) (numbersPassing test key is)) ≡ cond t (pairOf key i ∷ passing test (keyed key is)) (passing test (keyed key is))
+        → keyed key (cond t (i ∷ numbersPassing test key is) (numbersPassing test key is))
+        ≡ cond t (pairOf key i ∷ passing test (keyed key is)) (passing test (keyed key is))
     go true rest = ap {B = List Pair} (λ r. pairOf key i ∷ r) rest
     go false rest = rest
 
@@ -90,7 +91,8 @@ module _ (test : Pair → Bool) where
   insert-failing p [] fails = rw fails
   insert-failing p (x ∷ xs) fails = go (below x p) (insert-failing p xs fails)
     where
-      go : (t : Bool) → passing test (insert p xs) ≡ passing test xs → passing test (cond t (x ∷ insert p xs) (p ∷ x ∷ xs)) ≡ passing test (x ∷ xs)
+      go : (t : Bool) → passing test (insert p xs) ≡ passing test xs → passing test (cond t (x ∷ insert p xs) (p ∷ x ∷ xs))
+          ≡ passing test (x ∷ xs)
       go true behind = rw behind
       go false behind = rw fails
 
@@ -146,7 +148,8 @@ module _ (bound : Pair) where
   next-late (more {p = p} {ps = ps} least rest) short = go (below p bound) refl (next-late rest) short
     where
       go : (t : Bool) → below p bound ≡ t
-          → (length (passing (λ q. below q bound) ps) < length ps → AtMost bound (getD ps (length (passing (λ q. below q bound) ps)) leastPair))
+          → (length (passing (λ q. below q bound) ps) < length ps
+          → AtMost bound (getD ps (length (passing (λ q. below q bound) ps)) leastPair))
           → length (passing (λ q. below q bound) (p ∷ ps)) < length (p ∷ ps)
           → AtMost bound (getD (p ∷ ps) (length (passing (λ q. below q bound) (p ∷ ps))) leastPair)
       go true e behind short = rw e (behind (omega (arith, rw e at short)))
@@ -228,7 +231,8 @@ step-up m none within = absurd (omega arith)
 step-up zero (more {ps = xs} least rest) within = least (getD xs 0 leastPair) (member-getD xs 0 leastPair (omega arith))
 step-up (suc m) (more least rest) within = step-up m rest (omega arith)
 
-insert-falls : (m : ℕ) (p : Pair) {xs : List Pair} → Sorted xs → m < length xs → AtMost (getD (insert p xs) m leastPair) (getD xs m leastPair)
+insert-falls : (m : ℕ) (p : Pair) {xs : List Pair} → Sorted xs → m < length xs
+    → AtMost (getD (insert p xs) m leastPair) (getD xs m leastPair)
 unfolding insert
 insert-falls m p none within = absurd (omega arith)
 insert-falls m p (more {p = x} {ps = xs} least rest) within = go m (below x p) refl within (λ m h. insert-falls m p rest h)
@@ -274,7 +278,8 @@ module _ (k : ℕ) (low distance : ℕ → ℕ) (numbers : List ℕ) (some : 1 �
   fallen (suc m) within = simp unary-clauses (at-most-trans (best-falls (k + m) (omega arith) (omega arith)) (fallen m (omega arith)))
 
   -- where the candidates end that the first k leave, the reading ends
-  pub candidates-end : Ends k low distance numbers (k + length (candidates k (ranked low numbers) (getD ((after k low distance numbers k) .best) (k - 1) leastPair)))
+  pub candidates-end : Ends k low distance numbers
+      (k + length (candidates k (ranked low numbers) (getD ((after k low distance numbers k) .best) (k - 1) leastPair)))
   unfolding kthBest goesOn
   candidates-end = record {
     behind = omega arith;
@@ -291,10 +296,12 @@ module _ (k : ℕ) (low distance : ℕ → ℕ) (numbers : List ℕ) (some : 1 �
       stops : k + count < length numbers
           → goesOn k ((after k low distance numbers (k + count)) .best) (pairOf low (getD (readingOrder low numbers) (k + count) 0)) ≡ false
       stops short =
-          let full : length ((after k low distance numbers (k + count)) .best) ≡ k = full-after k low distance numbers (k + count) (omega arith) fits in
+          let full : length ((after k low distance numbers (k + count)) .best)
+              ≡ k = full-after k low distance numbers (k + count) (omega arith) fits in
           let late = rw (ranked-at low numbers (k + count) short) at
           (next-behind k (ranked-sorted low numbers) (kthBest k) (omega (arith, length-ranked low numbers))) in
-          rw (le-ltb (length ((after k low distance numbers (k + count)) .best)) k (omega arith), not-below (at-most-trans (fallen count fits) late))
+          rw (le-ltb (length ((after k low distance numbers (k + count)) .best)) k (omega arith), not-below
+              (at-most-trans (fallen count fits) late))
 
       go : (t : Bool) → ltb (k + count) (length numbers) ≡ t → Reached k low distance numbers (k + count)
           → read k low distance numbers ≡ after k low distance numbers (k + count)

@@ -23,7 +23,8 @@ use Rattle.search.specs.Answer.{searchedCount, foundCount}
 use Rattle.search.specs.Search.{Index, numbersIn, distanceIn, lowIn, inOwnCells, searched}
 use Rattle.search.specs.Ready.{indexOf}
 use Rattle.least_reading.specs.Answered.{Reads}
-use Rattle.least_reading.specs.Searching.{Searches, cellCauses, searches-none, tells-read, tells-refused, cells-accepted, cells-refused}
+use Rattle.least_reading.specs.Searching.{Searches, cellCauses, searches-none, tells-read, tells-refused, cells-accepted,
+    cells-refused}
 use Rattle.least_reading.proofs.search_bounded.Statement.{statement}
 use Rattle.least_reading.proofs.search_bounded.Tie as tie
 
@@ -96,24 +97,30 @@ put-numbers-requires c κs =
     let counted = c .before .before in
     let read = counted .before .before .before .before .before .before .before .before in
     let s = read .before .before .before .before .before .before .before .before .before .before in
-    let most = count-most (given s) (s .args .query .now) (s .args .terms .k) (read .read-in-order .last .1 .1 .1 .1 .1 .1 .1 .0) (read .read-in-order .result) (read .read-in-order .ensures) in (
+    let most = count-most (given s) (s .args .query .now) (s .args .terms .k) (read .read-in-order .last .1 .1 .1 .1 .1 .1 .1 .0)
+        (read .read-in-order .result) (read .read-in-order .ensures) in (
       omega (arith, counted .read-count .ensures, most, read .read-in-order .kept .1 .1 .1 .1 .1 .1 .0, s .pre .0 .1),
       omega (arith, counted .read-count .ensures, most, s .pre .0 .3),
     )
 
 -- as many as were found
-kept-few : (c : tie.After-found-count) → c .found-count .result ≤ c .before .before .before .before .before .before .before .before .before .before .before .before .before .before .before .before .before .before .before .before .before .before .before .before .args .terms .k
+kept-few : (c : tie.After-found-count) → c .found-count .result ≤ c .before .before .before .before .before .before .before .before .before
+    .before .before .before .before .before .before .before .before .before .before .before .before .before .before .before .args .terms .k
 kept-few c =
     omega (
       arith,
       c .found-count .ensures,
-      found-most (c .before .before .before .before .before .before .before .before .before .before .before .before .before .before .read-in-order .result) (c .before .before .before .before .before .before .before .before .before .before .before .before .before .before .before .before .before .before .before .before .before .before .before .before .args .terms .k),
+      found-most (c .before .before .before .before .before .before .before .before .before .before .before .before .before .before
+          .read-in-order .result) (c .before .before .before .before .before .before .before .before .before .before .before .before .before
+          .before .before .before .before .before .before .before .before .before .before .before .args .terms .k),
     )
 
 words-within : tie.Need-slice-reshare-prefix-entries-of
 words-within c =
-    let s = c .before .before .before .before .before .before .before .before .before .before .before .before .before .before .before .before .before .before .before .before .before .before .before .before in
-    omega (arith, kept-few c, c .before .before .before .before .before .before .before .before .before .before .before .before .before .before .read-in-order .kept .1 .1 .1 .1 .1 .1 .1 .0, s .pre .0 .2, s .pre .0 .0 .enough)
+    let s = c .before .before .before .before .before .before .before .before .before .before .before .before .before .before .before
+        .before .before .before .before .before .before .before .before .before in
+    omega (arith, kept-few c, c .before .before .before .before .before .before .before .before .before .before .before .before .before
+        .before .read-in-order .kept .1 .1 .1 .1 .1 .1 .1 .0, s .pre .0 .2, s .pre .0 .0 .enough)
 
 best-within : tie.Need-array-share-prefix-best
 best-within c =
@@ -133,7 +140,8 @@ returns c =
     let read = counted .before .before .before .before .before .before .before .before in
     let s = read .before .before .before .before .before .before .before .before .before .before in
     let a = s .args in
-    answers (given s) (a .query .now) (a .terms .k) (read .read-in-order .last .1 .1 .1 .1 .1 .1 .1 .0) (read .read-in-order .result) (read .read-in-order .ensures)
+    answers (given s) (a .query .now) (a .terms .k) (read .read-in-order .last .1 .1 .1 .1 .1 .1 .1 .0) (read .read-in-order .result)
+        (read .read-in-order .ensures)
     (read .read-in-order .kept .1 .1 .1 .1 .1 .1 .1 .1 .0 ∙ sym (best-room (read .before))) _
     (written .put-numbers .ensures
     ∙ ap (λ (m : ℕ). take m (read .read-in-order .last .1 .1 .1 .1 .1 .1 .0) ++ drop m (a .reads .now)) (counted .read-count .ensures))
@@ -154,8 +162,11 @@ search-bounded-spec =
     best-within
     (λ c. sym (length-take-le _ _ (best-within (c .before))))
     (λ c κs. tt)
-    (λ c. c .before .before .before .before .before .before .before .before .before .before .before .before .before .before .before .before .before .read-in-order .kept .1 .1 .1 .1 .1 .0)
-    (λ c. c .before .before .before .before .before .before .before .before .before .before .before .before .before .before .before .before .before .read-in-order .kept .1 .1 .1 .1 .1 .1 .0)
-    (λ c. c .before .before .before .before .before .before .before .before .before .before .before .before .before .before .before .before .before .read-in-order .kept .1 .1 .1 .1 .1 .1 .1 .0)
+    (λ c. c .before .before .before .before .before .before .before .before .before .before .before .before .before .before .before .before
+        .before .read-in-order .kept .1 .1 .1 .1 .1 .0)
+    (λ c. c .before .before .before .before .before .before .before .before .before .before .before .before .before .before .before .before
+        .before .read-in-order .kept .1 .1 .1 .1 .1 .1 .0)
+    (λ c. c .before .before .before .before .before .before .before .before .before .before .before .before .before .before .before .before
+        .before .read-in-order .kept .1 .1 .1 .1 .1 .1 .1 .0)
     (λ c. c .before .before .before .before .before .before .put-numbers .kept .1 .1 .0)
     returns)

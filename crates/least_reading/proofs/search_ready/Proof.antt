@@ -42,7 +42,8 @@ bounded : (c : tie.After-lower-bounds) → let s = c .before .before .before .be
     c .lower-bounds .last .1 .1 .1 .1 .1 .0 ≡ valuesFrom (lowIn (given s) (s .args .query .now)) 0 (s .args .terms .n)
 bounded c =
     let s = c .before .before .before .before in
-    c .lower-bounds .ensures ∙ ap (λ (m : ℕ). valuesFrom (lowIn (given s) (s .args .query .now)) 0 m) (length-take-le _ _ (lows-hold (c .before .before)))
+    c .lower-bounds .ensures ∙ ap (λ (m : ℕ). valuesFrom (lowIn (given s) (s .args .query .now)) 0 m)
+        (length-take-le _ _ (lows-hold (c .before .before)))
 
 search-bounded-requires : tie.Need-search-bounded-requires
 search-bounded-requires c κs =
@@ -54,7 +55,8 @@ search-bounded-requires c κs =
         sym (words-room (c .before)),
         s .pre .1,
       ),
-      shared-is _ _ (filled .lower-bounds .last .1 .1 .1 .1 .1 .0) (lows-hold (filled .before .before)) (filled .lower-bounds .kept .1 .1 .1 .1 .1 .0)
+      shared-is _ _ (filled .lower-bounds .last .1 .1 .1 .1 .1 .0) (lows-hold (filled .before .before))
+          (filled .lower-bounds .kept .1 .1 .1 .1 .1 .0)
           ∙ bounded filled,
     )
 

@@ -53,7 +53,8 @@ begin test lows numbers =
 
 module _ {test : Pair → Bool} {lows₀ : List ℕ} {room : ℕ} {lows numbers : List ℕ} {count i : ℕ}
     (at : State test lows₀ room lows numbers count i) where
-  finish : length lows₀ ≤ i → (count ≡ length (all test lows₀)) × (take count lows ≡ map (keyAt lows₀) (all test lows₀)) × (take count numbers ≡ all test lows₀)
+  finish : length lows₀ ≤ i → (count ≡ length (all test lows₀)) × (take count lows ≡ map (keyAt lows₀) (all test lows₀))
+      × (take count numbers ≡ all test lows₀)
   unfolding numbersPassing countFrom
   finish done =
       let none : length lows₀ - i ≡ 0 = omega arith in
@@ -127,17 +128,20 @@ module _ {test : Pair → Bool} {lows₀ : List ℕ} {room : ℕ} {lows numbers 
             keys =
                 rw (front, map-snoc, its-low)
                 (write-next (map (keyAt lows₀) (take count numbers)) lows count (keyAt lows₀ i)
-                (sym (length-take-le count lows (omega (arith, at .few, at .same))) ∙ ap length (at .keys)) (omega (arith, at .few, at .same)) (at .keys));
+                (sym (length-take-le count lows (omega (arith, at .few, at .same))) ∙ ap length (at .keys))
+                    (omega (arith, at .few, at .same)) (at .keys));
             rest = rw (front, append-snoc) gathered;
           }
 
 -- what the test says of number i
 tested : (c : tie.After-is-candidate Inv-loop μ-loop) → let at = c .before .before .before in let s = at .before .before .before in
-    isCandidate (pair (s .args .last) (s .args .last-number)) (pair (s .args .bound) (s .args .bound-number)) (pairOf (keyAt (s .args .lows .now)) (at .loop .i)) ≡ c .is-candidate .result
+    isCandidate (pair (s .args .last) (s .args .last-number)) (pair (s .args .bound) (s .args .bound-number))
+        (pairOf (keyAt (s .args .lows .now)) (at .loop .i)) ≡ c .is-candidate .result
 tested c =
     let at = c .before .before .before in
     let s = at .before .before .before in
-    ap (λ (low : ℕ). isCandidate (pair (s .args .last) (s .args .last-number)) (pair (s .args .bound) (s .args .bound-number)) (pair low (at .loop .i)))
+    ap (λ (low : ℕ). isCandidate (pair (s .args .last) (s .args .last-number)) (pair (s .args .bound) (s .args .bound-number))
+        (pair low (at .loop .i)))
     (sym (its-low (at .loop .inv) (c .before .before .loop-test .taken)))
     ∙ sym (c .is-candidate .ensures)
 
@@ -160,7 +164,8 @@ has-room c =
     let at = asked .before .before .before in
     omega (
       arith,
-      room-left (at .loop .inv) (asked .before .before .loop-test .taken) (at .before .before .before .pre .1) (tested asked ∙ c .if1 .taken),
+      room-left (at .loop .inv) (asked .before .before .loop-test .taken) (at .before .before .before .pre .1)
+          (tested asked ∙ c .if1 .taken),
       at .loop .inv .rooms,
     )
 

@@ -88,7 +88,9 @@ module _ (lows : List ℕ) (k last number : ℕ) (bound : Pair) (some : 1 ≤ k)
     long = same-len-mid k (length order - k) order numbers₁ room ∙ of-order
 
     of-sorted : (of : List Pair → List ℕ) (old : List ℕ) {new : List ℕ}
-        → new ≡ outcome (first (pairCauses (length (take r lows₁)) (length (take (k + r - k) (drop k order₁))) (length (take (length words - k) (drop k words))))) (of (sort (pairsOf (take r lows₁) (take (k + r - k) (drop k order₁))))) (λ _. old)
+        → new ≡ outcome (first (pairCauses (length (take r lows₁)) (length (take (k + r - k) (drop k order₁)))
+        (length (take (length words - k) (drop k words))))) (of (sort (pairsOf (take r lows₁) (take (k + r - k) (drop k order₁)))))
+        (λ _. old)
         → new ≡ of these
     of-sorted of old is =
         let keys-count : length (take r lows₁) ≡ length all = ap length (gathered .1) ∙ length-map all (keyAt lows) in
@@ -151,7 +153,8 @@ lows-hold c =
     omega (arith, count-fits gathered, gathered .gather .kept .1 .1 .1 .1 .0)
 
 -- the order has its length still
-order-long : (c : tie.After-gather) → let s = c .before .before .before .before .before .before .before .before .before .before in let a = s .args in let k = length (a .best .now) in
+order-long : (c : tie.After-gather) → let s = c .before .before .before .before .before .before .before .before .before .before in let a = s
+    .args in let k = length (a .best .now) in
     length (putMid k (length (a .order .now) - k) (a .order .now) (c .gather .last .1 .1 .1 .1 .1 .0)) ≡ length (a .lows .now)
 order-long c =
     let s = c .before .before .before .before .before .before .before .before .before .before in
@@ -160,12 +163,16 @@ order-long c =
     same-len-mid k (length (a .order .now) - k) (a .order .now) (c .gather .last .1 .1 .1 .1 .1 .0) (c .gather .kept .1 .1 .1 .1 .1 .0)
     ∙ s .pre .0 .3
 
-order-holds : (c : tie.After-sort-arg) → let gathered = c .before .before .before .before .before in let s = gathered .before .before .before .before .before .before .before .before .before .before in let a = s .args in
+order-holds : (c : tie.After-sort-arg) → let gathered = c .before .before .before .before .before in let s = gathered .before .before
+    .before .before .before .before .before .before .before .before in let a = s .args in
     let k = length (a .best .now) in
-    (k + gathered .gather .result ≤ length (putMid k (length (a .order .now) - k) (a .order .now) (gathered .gather .last .1 .1 .1 .1 .1 .0))) × (length (a .lows .now) ≤ maxVectors)
+    (k + gathered .gather .result ≤ length
+        (putMid k (length (a .order .now) - k) (a .order .now) (gathered .gather .last .1 .1 .1 .1 .1 .0)))
+        × (length (a .lows .now) ≤ maxVectors)
 order-holds c =
     let gathered = c .before .before .before .before .before in
-    (omega (arith, count-fits gathered, order-long gathered), gathered .before .before .before .before .before .before .before .before .before .before .pre .0 .2)
+    (omega (arith, count-fits gathered, order-long gathered), gathered .before .before .before .before .before .before .before .before
+        .before .before .pre .0 .2)
 
 -- the slices keep their lengths
 lows-back : tie.Need-same-length
@@ -190,7 +197,8 @@ order-back c =
 words-back : tie.Need-same-length-3
 words-back c =
     let done = c .before .before .before .before .before .before in
-    let s = done .before .before .before .before .before .before .before .before .before .before .before .before .before .before .before .before .before .before in
+    let s = done .before .before .before .before .before .before .before .before .before .before .before .before .before .before .before
+        .before .before .before in
     let k = length (s .args .best .now) in
     same-len-mid k (length (s .args .words .now) - k) (s .args .words .now) (done .sort .last .1 .1 .0) (done .sort .kept .1 .1 .0)
 
@@ -208,10 +216,12 @@ returns c =
     let room = gathered .gather .kept .1 .1 .1 .1 .1 .0 in
     let r = gathered .gather .result in
     let are-keys =
-    of-sorted (a .lows .now) k (a .last) number bound (s .pre .0 .0) (s .pre .0 .1) (s .pre .1) (a .order .now) (a .words .now) (s .pre .0 .3)
+    of-sorted (a .lows .now) k (a .last) number bound (s .pre .0 .0) (s .pre .0 .1) (s .pre .1) (a .order .now) (a .words .now)
+        (s .pre .0 .3)
     (s .pre .0 .4) lows₁ numbers₁ r (gathered .gather .ensures) room keysOf _ (done .sort .ensures .1 .0) in
     let are-numbers =
-    of-sorted (a .lows .now) k (a .last) number bound (s .pre .0 .0) (s .pre .0 .1) (s .pre .1) (a .order .now) (a .words .now) (s .pre .0 .3)
+    of-sorted (a .lows .now) k (a .last) number bound (s .pre .0 .0) (s .pre .0 .1) (s .pre .1) (a .order .now) (a .words .now)
+        (s .pre .0 .3)
     (s .pre .0 .4) lows₁ numbers₁ r (gathered .gather .ensures) room numbersOf _ (done .sort .ensures .1 .1) in
     answer (a .lows .now) k (a .last) number bound (s .pre .0 .0) (s .pre .0 .1) (s .pre .1) (a .order .now) (a .words .now) (s .pre .0 .3)
     (s .pre .0 .4) lows₁ numbers₁ r (gathered .gather .ensures) room (done .sort .last .1 .1 .0) are-keys are-numbers
@@ -236,15 +246,21 @@ rank-candidates-spec =
     gather-requires
     lows-hold
     (λ c. sym (length-take-le _ _ (lows-hold (c .before))))
-    (λ c. omega (arith, count-fits (c .before .before .before .before .before), c .before .before .before .before .before .before .before .before .before .before .before .before .before .before .before .pre .0))
-    (λ c. omega (arith, count-fits (c .before .before .before .before .before), c .before .before .before .before .before .before .before .before .before .before .before .before .before .before .before .pre .0))
+    (λ c. omega (arith, count-fits (c .before .before .before .before .before), c .before .before .before .before .before .before .before
+        .before .before .before .before .before .before .before .before .pre .0))
+    (λ c. omega (arith, count-fits (c .before .before .before .before .before), c .before .before .before .before .before .before .before
+        .before .before .before .before .before .before .before .before .pre .0))
     (λ c. omega arith)
     (λ c. omega (arith, order-holds c))
     (λ c. omega (arith, order-holds c))
-    (λ c. omega (arith, c .before .before .before .before .before .before .before .before .before .before .before .before .before .before .before .before .pre .0))
-    (λ c. omega (arith, c .before .before .before .before .before .before .before .before .before .before .before .before .before .before .before .before .pre .0))
-    (λ c. omega (arith, c .before .before .before .before .before .before .before .before .before .before .before .before .before .before .before .before .pre .0))
-    (λ c. omega (arith, c .before .before .before .before .before .before .before .before .before .before .before .before .before .before .before .before .pre .0))
+    (λ c. omega (arith, c .before .before .before .before .before .before .before .before .before .before .before .before .before .before
+        .before .before .pre .0))
+    (λ c. omega (arith, c .before .before .before .before .before .before .before .before .before .before .before .before .before .before
+        .before .before .pre .0))
+    (λ c. omega (arith, c .before .before .before .before .before .before .before .before .before .before .before .before .before .before
+        .before .before .pre .0))
+    (λ c. omega (arith, c .before .before .before .before .before .before .before .before .before .before .before .before .before .before
+        .before .before .pre .0))
     (λ c κs. tt)
     lows-back
     order-back

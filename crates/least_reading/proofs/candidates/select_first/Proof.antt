@@ -42,7 +42,8 @@ accepted : (keys numbers least : List ℕ) (words : ℕ) → length keys ≤ max
 accepted keys numbers least words few some enough same room =
     none-refuses (length keys) (length numbers) (length least) words few some enough same (omega arith)
 
-least-long : (c : tie.After-room2) → let s = c .before .before .before .before .before .before .before .before .before .before .before .before in length (s .args .first .now) - 1 < length (c .before .before .before .before .before .select .last .1 .1 .0)
+least-long : (c : tie.After-room2) → let s = c .before .before .before .before .before .before .before .before .before .before .before
+    .before in length (s .args .first .now) - 1 < length (c .before .before .before .before .before .select .last .1 .1 .0)
 least-long c =
     let s = c .before .before .before .before .before .before .before .before .before .before .before .before in
     omega (arith, s .pre, c .before .before .before .before .before .select .kept .1 .1 .0)

@@ -21,7 +21,8 @@ room-length c = sym (length-take-le _ _ (room-holds (c .before)))
 
 -- with as many words as keys
 sorts : (of : List Pair → List ℕ) (keys numbers old : List ℕ) (words : ℕ) {new : List ℕ} → length numbers ≡ length keys
-    → words ≡ length keys → new ≡ outcome (first (pairCauses (length keys) (length numbers) words)) (of (sort (pairsOf keys numbers))) (λ _. old)
+    → words ≡ length keys → new ≡ outcome (first (pairCauses (length keys) (length numbers) words)) (of (sort (pairsOf keys numbers)))
+    (λ _. old)
     → new ≡ of (sort (pairsOf keys numbers))
 sorts of keys numbers old words same room = sort-leaves of keys numbers old words same (omega arith)
 

@@ -26,7 +26,8 @@ use Rattle.least_reading.proofs.reading.read_ranked.Tie as tie
 -- the best sorted, their keys as the front of a longer list
 front-sorted : (of : List Pair → List ℕ) (keys best rest old : List ℕ) (k spare : ℕ) {new : List ℕ} → length keys ≡ k → length best ≡ k
     → spare ≡ k
-    → new ≡ outcome (first (pairCauses (length (take k (keys ++ rest))) (length best) spare)) (of (sort (pairsOf (take k (keys ++ rest)) best))) (λ _. old)
+    → new ≡ outcome (first (pairCauses (length (take k (keys ++ rest))) (length best) spare))
+    (of (sort (pairsOf (take k (keys ++ rest)) best))) (λ _. old)
     → new ≡ of (sort (pairsOf keys best))
 front-sorted of keys best rest old k spare of-keys of-best of-spare is =
     let front : take k (keys ++ rest) ≡ keys = take-at keys rest k of-keys in
@@ -58,7 +59,8 @@ module _ {l : Index} {query : List ℤ} {k : ℕ} {lows order words best : List 
         ap (take (length (back ++ drop k lows₂) - k)) (drop-at back (drop k lows₂) k size)
         ∙ take-all (length (back ++ drop k lows₂) - k) (drop k lows₂) (omega (arith, length-append back (drop k lows₂), size))
 
-    aligned : Aligned k (ranked (lowIn l query) (numbersIn l)) (take (length (back ++ drop k lows₂) - k) (drop k (back ++ drop k lows₂))) order₂
+    aligned : Aligned k (ranked (lowIn l query) (numbersIn l)) (take (length (back ++ drop k lows₂) - k) (drop k (back ++ drop k lows₂)))
+        order₂
     aligned = aligned-all of-order (behind ∙ ap (drop k) of-lows)
 
     ends : Ends k (lowIn l query) (distanceIn l query) (numbersIn l)
@@ -71,6 +73,10 @@ module _ {l : Index} {query : List ℤ} {k : ℕ} {lows order words best : List 
 
 -- ---- the steps
 
+-- the library that was handed in
+abbrev given : tie.Start → Index
+given s = indexOf (s .args .terms) (s .args .marks .now) (s .args .codes .now) (s .args .vectors .now)
+
 words-hold : tie.Need-slice-relend-prefix-read-first
 words-hold c =
     let done = c .before .before .before .before .before .before .before in
@@ -78,13 +84,17 @@ words-hold c =
     omega (arith, done .sort .kept .1 .1 .0, lent .words-room, lent .ready .enough)
 
 -- the order and the lows after the sort
-order-is : (c : tie.After-sort) → let s = c .before .before .before .before .before .before .before .before .before .before .before .before .before in let l = indexOf (s .args .terms) (s .args .marks .now) (s .args .codes .now) (s .args .vectors .now) in
+order-is : (c : tie.After-sort) → let s = c .before .before .before .before .before .before .before .before .before .before .before .before
+    .before in let l = given s in
     c .sort .last .1 .0 ≡ numbersOf (ranked (lowIn l (s .args .query .now)) (numbersIn l))
-order-is c = of-ranked (c .before .before .before .before .before .before .before .before .before .before .before .before .before .pre) numbersOf _ _ (c .before .before .before .before .before .before .count-up .ensures) (c .sort .ensures .1 .1)
+order-is c = of-ranked (c .before .before .before .before .before .before .before .before .before .before .before .before .before .pre)
+    numbersOf _ _ (c .before .before .before .before .before .before .count-up .ensures) (c .sort .ensures .1 .1)
 
-lows-are : (c : tie.After-sort) → let s = c .before .before .before .before .before .before .before .before .before .before .before .before .before in let l = indexOf (s .args .terms) (s .args .marks .now) (s .args .codes .now) (s .args .vectors .now) in
+lows-are : (c : tie.After-sort) → let s = c .before .before .before .before .before .before .before .before .before .before .before .before
+    .before in let l = given s in
     c .sort .last .0 ≡ keysOf (ranked (lowIn l (s .args .query .now)) (numbersIn l))
-lows-are c = of-ranked (c .before .before .before .before .before .before .before .before .before .before .before .before .before .pre) keysOf _ _ (c .before .before .before .before .before .before .count-up .ensures) (c .sort .ensures .1 .0)
+lows-are c = of-ranked (c .before .before .before .before .before .before .before .before .before .before .before .before .before .pre)
+    keysOf _ _ (c .before .before .before .before .before .before .count-up .ensures) (c .sort .ensures .1 .0)
 
 read-first-requires : tie.Need-read-first-requires
 read-first-requires c κs =
@@ -95,17 +105,25 @@ read-first-requires c κs =
     )
 
 -- the distances and numbers of the first, as long as they were lent
-keys-long : (c : tie.After-read-first) → length (c .read-first .last .1 .1 .1 .1 .1 .1 .0) ≡ c .before .before .before .before .before .before .before .before .before .before .before .before .before .before .before .before .before .before .before .before .before .before .before .args .terms .k
+keys-long : (c : tie.After-read-first) → length (c .read-first .last .1 .1 .1 .1 .1 .1 .0)
+    ≡ c .before .before .before .before .before .before .before .before .before .before .before .before .before .before .before .before
+    .before .before .before .before .before .before .before .args .terms .k
 keys-long c = c .read-first .kept .1 .1 .1 .1 .1 .1 .0 ∙ length-take-le _ _ (words-hold (c .before .before .before))
 
-best-long : (c : tie.After-read-first) → length (c .read-first .last .1 .1 .1 .1 .1 .1 .1 .0) ≡ c .before .before .before .before .before .before .before .before .before .before .before .before .before .before .before .before .before .before .before .before .before .before .before .args .terms .k
-best-long c = c .read-first .kept .1 .1 .1 .1 .1 .1 .1 .0 ∙ c .before .before .before .before .before .before .before .before .before .before .before .before .before .before .before .before .before .before .before .before .before .before .before .pre .best-room
+best-long : (c : tie.After-read-first) → length (c .read-first .last .1 .1 .1 .1 .1 .1 .1 .0)
+    ≡ c .before .before .before .before .before .before .before .before .before .before .before .before .before .before .before .before
+    .before .before .before .before .before .before .before .args .terms .k
+best-long c = c .read-first .kept .1 .1 .1 .1 .1 .1 .1 .0
+    ∙ c .before .before .before .before .before .before .before .before .before .before .before .before .before .before .before .before
+    .before .before .before .before .before .before .before .pre .best-room
 
 words-back : tie.Need-same-length-3
 words-back c =
     let read = c .before .before .before .before .before in
     let done = read .before .before .before .before .before .before .before .before .before .before in
-    length-front (done .sort .last .1 .1 .0) (read .read-first .last .1 .1 .1 .1 .1 .1 .0) (done .before .before .before .before .before .before .before .before .before .before .before .before .before .args .terms .k) (read .read-first .kept .1 .1 .1 .1 .1 .1 .0)
+    length-front (done .sort .last .1 .1 .0) (read .read-first .last .1 .1 .1 .1 .1 .1 .0)
+        (done .before .before .before .before .before .before .before .before .before .before .before .before .before .args .terms .k)
+        (read .read-first .kept .1 .1 .1 .1 .1 .1 .0)
     ∙ done .sort .kept .1 .1 .0
 
 returns : tie.Need-returns
@@ -118,55 +136,82 @@ words-hold-2 c =
     omega (
       arith,
       keys-long read,
-      length-append (read .read-first .last .1 .1 .1 .1 .1 .1 .0) (drop (done .before .before .before .before .before .before .before .before .before .before .before .before .before .args .terms .k) (done .sort .last .1 .1 .0)),
+      length-append (read .read-first .last .1 .1 .1 .1 .1 .1 .0)
+          (drop (done .before .before .before .before .before .before .before .before .before .before .before .before .before .args .terms
+          .k) (done .sort .last .1 .1 .0)),
     )
 
 lows-hold : tie.Need-slice-relend-prefix-sort-2
 lows-hold c =
-    let done = c .before .before .before .before .before .before .before .before .before .before .before .before .before .before .before .before .before in
+    let done = c .before .before .before .before .before .before .before .before .before .before .before .before .before .before .before
+        .before .before in
     let lent = done .before .before .before .before .before .before .before .before .before .before .before .before .before .pre in
     omega (arith, done .sort .kept .0, lent .ready .enough, lows-room lent)
 
 -- ---- from the sorted first on
 
+-- where the search began, where all were ranked and where the first were read
+abbrev start : tie.After-sort2 → tie.Start
+start c = c .before .before .before .before .before .before .before .before .before .before .before .before .before .before .before .before
+    .before .before .before .before .before .before .before .before .before .before .before .before .before .before .before .before
+
+abbrev ranks : tie.After-sort2 → tie.After-sort
+ranks c = c .before .before .before .before .before .before .before .before .before .before .before .before .before .before .before .before
+    .before .before .before
+
+abbrev first-read : tie.After-sort2 → tie.After-read-first
+first-read c = c .before .before .before .before .before .before .before .before .before
+
+-- the words once these were read
+abbrev words₂ : tie.After-sort2 → List ℕ
+words₂ c = first-read c .read-first .last .1 .1 .1 .1 .1 .1 .0 ++ drop (start c .args .terms .k) (ranks c .sort .last .1 .1 .0)
+
 module _ (c : tie.After-sort2) where
   -- what the second sort was lent and left
-  back-long : length (c .sort2 .last .1 .1 .0) ≡ c .before .before .before .before .before .before .before .before .before .before .before .before .before .before .before .before .before .before .before .before .before .before .before .before .before .before .before .before .before .before .before .before .args .terms .k
+  back-long : length (c .sort2 .last .1 .1 .0) ≡ start c .args .terms .k
   back-long = c .sort2 .kept .1 .1 .0 ∙ length-take-le _ _ (lows-hold (c .before .before))
 
-  keys-long-2 : length (c .sort2 .last .0) ≡ c .before .before .before .before .before .before .before .before .before .before .before .before .before .before .before .before .before .before .before .before .before .before .before .before .before .before .before .before .before .before .before .before .args .terms .k
+  keys-long-2 : length (c .sort2 .last .0) ≡ start c .args .terms .k
   keys-long-2 = c .sort2 .kept .0 ∙ length-take-le _ _ (words-hold-2 (c .before .before .before .before))
 
-  words-long : length (c .sort2 .last .0 ++ drop (c .before .before .before .before .before .before .before .before .before .before .before .before .before .before .before .before .before .before .before .before .before .before .before .before .before .before .before .before .before .before .before .before .args .terms .k) (c .before .before .before .before .before .before .before .before .before .read-first .last .1 .1 .1 .1 .1 .1 .0 ++ drop (c .before .before .before .before .before .before .before .before .before .before .before .before .before .before .before .before .before .before .before .before .before .before .before .before .before .before .before .before .before .before .before .before .args .terms .k) (c .before .before .before .before .before .before .before .before .before .before .before .before .before .before .before .before .before .before .before .sort .last .1 .1 .0))) ≡ length (c .before .before .before .before .before .before .before .before .before .before .before .before .before .before .before .before .before .before .before .before .before .before .before .before .before .before .before .before .before .before .before .before .args .words .now)
+  words-long : length (c .sort2 .last .0 ++ drop (start c .args .terms .k) (words₂ c)) ≡ length (start c .args .words .now)
   words-long =
-      length-front (c .before .before .before .before .before .before .before .before .before .read-first .last .1 .1 .1 .1 .1 .1 .0 ++ drop (c .before .before .before .before .before .before .before .before .before .before .before .before .before .before .before .before .before .before .before .before .before .before .before .before .before .before .before .before .before .before .before .before .args .terms .k) (c .before .before .before .before .before .before .before .before .before .before .before .before .before .before .before .before .before .before .before .sort .last .1 .1 .0)) (c .sort2 .last .0) (c .before .before .before .before .before .before .before .before .before .before .before .before .before .before .before .before .before .before .before .before .before .before .before .before .before .before .before .before .before .before .before .before .args .terms .k) (c .sort2 .kept .0)
-      ∙ length-front (c .before .before .before .before .before .before .before .before .before .before .before .before .before .before .before .before .before .before .before .sort .last .1 .1 .0) (c .before .before .before .before .before .before .before .before .before .read-first .last .1 .1 .1 .1 .1 .1 .0) (c .before .before .before .before .before .before .before .before .before .before .before .before .before .before .before .before .before .before .before .before .before .before .before .before .before .before .before .before .before .before .before .before .args .terms .k) (c .before .before .before .before .before .before .before .before .before .read-first .kept .1 .1 .1 .1 .1 .1 .0)
-      ∙ c .before .before .before .before .before .before .before .before .before .before .before .before .before .before .before .before .before .before .before .sort .kept .1 .1 .0
+      length-front (words₂ c) (c .sort2 .last .0) (start c .args .terms .k) (c .sort2 .kept .0)
+      ∙ length-front (ranks c .sort .last .1 .1 .0) (first-read c .read-first .last .1 .1 .1 .1 .1 .1 .0) (start c .args .terms .k)
+      (first-read c .read-first .kept .1 .1 .1 .1 .1 .1 .0)
+      ∙ ranks c .sort .kept .1 .1 .0
 
-  lows-long : length (c .sort2 .last .1 .1 .0 ++ drop (c .before .before .before .before .before .before .before .before .before .before .before .before .before .before .before .before .before .before .before .before .before .before .before .before .before .before .before .before .before .before .before .before .args .terms .k) (c .before .before .before .before .before .before .before .before .before .before .before .before .before .before .before .before .before .before .before .sort .last .0)) ≡ length (c .before .before .before .before .before .before .before .before .before .before .before .before .before .before .before .before .before .before .before .before .before .before .before .before .before .before .before .before .before .before .before .before .args .lows .now)
+  lows-long : length (c .sort2 .last .1 .1 .0 ++ drop (start c .args .terms .k) (ranks c .sort .last .0))
+      ≡ length (start c .args .lows .now)
   lows-long =
-      length-front (c .before .before .before .before .before .before .before .before .before .before .before .before .before .before .before .before .before .before .before .sort .last .0) (c .sort2 .last .1 .1 .0) (c .before .before .before .before .before .before .before .before .before .before .before .before .before .before .before .before .before .before .before .before .before .before .before .before .before .before .before .before .before .before .before .before .args .terms .k) (c .sort2 .kept .1 .1 .0)
-      ∙ c .before .before .before .before .before .before .before .before .before .before .before .before .before .before .before .before .before .before .before .sort .kept .0
+      length-front (ranks c .sort .last .0) (c .sort2 .last .1 .1 .0) (start c .args .terms .k) (c .sort2 .kept .1 .1 .0)
+      ∙ ranks c .sort .kept .0
 
-  has-read : let s = c .before .before .before .before .before .before .before .before .before .before .before .before .before .before .before .before .before .before .before .before .before .before .before .before .before .before .before .before .before .before .before .before in
-      HasRead (indexOf (s .args .terms) (s .args .marks .now) (s .args .codes .now) (s .args .vectors .now)) (s .args .query .now) (s .args .terms .k) (s .args .terms .k) (c .sort2 .last .0) (c .sort2 .last .1 .0)
+  has-read : let s = start c in
+      HasRead (given s) (s .args .query .now) (s .args .terms .k) (s .args .terms .k) (c .sort2 .last .0) (c .sort2 .last .1 .0)
   has-read =
-      let read = c .before .before .before .before .before .before .before .before .before in
-      let s = c .before .before .before .before .before .before .before .before .before .before .before .before .before .before .before .before .before .before .before .before .before .before .before .before .before .before .before .before .before .before .before .before in
+      let read = first-read c in
+      let s = start c in
       let room = length-take-le _ _ (lows-hold (c .before .before)) in
       first-sorted (read .read-first .ensures) (s .pre .ready) (not-false _ (c .before .before .before .before .if1 .left))
-      (front-sorted keysOf (read .read-first .last .1 .1 .1 .1 .1 .1 .0) (read .read-first .last .1 .1 .1 .1 .1 .1 .1 .0) _ _ (s .args .terms .k) _ (keys-long read) (best-long read) room (c .sort2 .ensures .1 .0))
-      (front-sorted numbersOf (read .read-first .last .1 .1 .1 .1 .1 .1 .0) (read .read-first .last .1 .1 .1 .1 .1 .1 .1 .0) _ _ (s .args .terms .k) _ (keys-long read) (best-long read) room (c .sort2 .ensures .1 .1))
+      (front-sorted keysOf (read .read-first .last .1 .1 .1 .1 .1 .1 .0) (read .read-first .last .1 .1 .1 .1 .1 .1 .1 .0) _ _
+          (s .args .terms .k) _ (keys-long read) (best-long read) room (c .sort2 .ensures .1 .0))
+      (front-sorted numbersOf (read .read-first .last .1 .1 .1 .1 .1 .1 .0) (read .read-first .last .1 .1 .1 .1 .1 .1 .1 .0) _ _
+          (s .args .terms .k) _ (keys-long read) (best-long read) room (c .sort2 .ensures .1 .1))
 
 words-hold-3 : tie.Need-slice-relend-prefix-read-rest
 words-hold-3 c =
-    let s = c .before .before .before .before .before .before .before .before .before .before .before .before .before .before .before .before .before .before .before .before .before .before .before .before .before .before .before .before .before .before .before .before .before .before .before .before .before .before .before .before .before in
-    omega (arith, words-long (c .before .before .before .before .before .before .before .before .before), s .pre .words-room, s .pre .ready .enough)
+    let s = c .before .before .before .before .before .before .before .before .before .before .before .before .before .before .before
+        .before .before .before .before .before .before .before .before .before .before .before .before .before .before .before .before
+        .before .before .before .before .before .before .before .before .before .before in
+    omega (arith, words-long (c .before .before .before .before .before .before .before .before .before), s .pre .words-room, s .pre .ready
+        .enough)
 
 read-rest-requires : tie.Need-read-rest-requires
 read-rest-requires c κs =
     let best = c .before .before .before .before .before .before .before .before .before .before .before in
-    let done = best .before .before .before .before .before .before .before .before .before .before .before .before .before .before .before .before .before .before .before in
+    let done = best .before .before .before .before .before .before .before .before .before .before .before .before .before .before .before
+        .before .before .before .before in
     let lent = done .before .before .before .before .before .before .before .before .before .before .before .before .before .pre in (
       lent .ready,
       (
@@ -182,7 +227,8 @@ words-back-2 : tie.Need-same-length-7
 words-back-2 c =
     let rest = c .before .before .before .before in
     let best = rest .before .before .before .before .before .before .before .before .before .before .before .before in
-    length-front (best .sort2 .last .0 ++ drop (best .before .before .before .before .before .before .before .before .before .before .before .before .before .before .before .before .before .before .before .before .before .before .before .before .before .before .before .before .before .before .before .before .args .terms .k) (best .before .before .before .before .before .before .before .before .before .read-first .last .1 .1 .1 .1 .1 .1 .0 ++ drop (best .before .before .before .before .before .before .before .before .before .before .before .before .before .before .before .before .before .before .before .before .before .before .before .before .before .before .before .before .before .before .before .before .args .terms .k) (best .before .before .before .before .before .before .before .before .before .before .before .before .before .before .before .before .before .before .before .sort .last .1 .1 .0))) (rest .read-rest .last .1 .1 .1 .1 .1 .1 .1 .0) (best .before .before .before .before .before .before .before .before .before .before .before .before .before .before .before .before .before .before .before .before .before .before .before .before .before .before .before .before .before .before .before .before .args .terms .k) (rest .read-rest .kept .1 .1 .1 .1 .1 .1 .1 .0)
+    length-front (best .sort2 .last .0 ++ drop (start best .args .terms .k) (words₂ best)) (rest .read-rest .last .1 .1 .1 .1 .1 .1 .1 .0)
+        (start best .args .terms .k) (rest .read-rest .kept .1 .1 .1 .1 .1 .1 .1 .0)
     ∙ words-long best
 
 best-back : tie.Need-same-length-8
@@ -190,18 +236,20 @@ best-back c =
     let rest = c .before .before .before .before in
     let best = rest .before .before .before .before .before .before .before .before .before .before .before .before in
     rest .read-rest .kept .1 .1 .1 .1 .1 .1 .1 .1 .0 ∙ best .sort2 .kept .1 .0
-    ∙ best .before .before .before .before .before .before .before .before .before .read-first .kept .1 .1 .1 .1 .1 .1 .1 .0
+    ∙ first-read best .read-first .kept .1 .1 .1 .1 .1 .1 .1 .0
 
 returns-2 : tie.Need-returns-2
 returns-2 c =
     let rest = c .before .before .before .before in
-    reads-front _ (rest .read-rest .ensures) (rest .read-rest .kept .1 .1 .1 .1 .1 .1 .1 .0 ∙ length-take-le _ _ (words-hold-3 (rest .before .before .before)))
+    reads-front _ (rest .read-rest .ensures)
+        (rest .read-rest .kept .1 .1 .1 .1 .1 .1 .1 .0 ∙ length-take-le _ _ (words-hold-3 (rest .before .before .before)))
 
 pub read-ranked-spec : {M : Type 1} → statement M
 read-ranked-spec =
     tie.close
     (tie.spec
-    (λ c κs. omega (arith, c .before .before .before .before .before .before .pre .order-room, c .before .before .before .before .before .before .pre .ready .count))
+    (λ c κs. omega (arith, c .before .before .before .before .before .before .pre .order-room, c .before .before .before .before .before
+        .before .pre .ready .count))
     (λ c κs. tt)
     words-hold
     (λ c. sym (length-take-le _ _ (words-hold (c .before))))
@@ -216,15 +264,43 @@ read-ranked-spec =
     lows-hold
     (λ c. sym (length-take-le _ _ (lows-hold (c .before))))
     (λ c κs. tt)
-    (λ c. omega (arith, c .before .before .before .before .before .before .before .before .before .before .before .before .before .before .before .before .before .before .before .before .before .before .before .before .before .before .before .before .before .before .before .before .before .before .before .before .before .before .pre .ready .enough, c .before .before .before .before .before .before .before .before .before .before .before .before .before .before .before .before .before .before .before .before .before .before .before .before .before .before .before .before .before .before .before .before .before .before .before .before .before .before .pre .ready .count))
-    (λ c. omega (arith, lows-long (c .before .before .before .before .before .before), lows-room (c .before .before .before .before .before .before .before .before .before .before .before .before .before .before .before .before .before .before .before .before .before .before .before .before .before .before .before .before .before .before .before .before .before .before .before .before .before .before .pre), c .before .before .before .before .before .before .before .before .before .before .before .before .before .before .before .before .before .before .before .before .before .before .before .before .before .before .before .before .before .before .before .before .before .before .before .before .before .before .pre .ready .enough))
-    (λ c. omega (arith, lows-long (c .before .before .before .before .before .before .before), lows-room (c .before .before .before .before .before .before .before .before .before .before .before .before .before .before .before .before .before .before .before .before .before .before .before .before .before .before .before .before .before .before .before .before .before .before .before .before .before .before .before .pre), c .before .before .before .before .before .before .before .before .before .before .before .before .before .before .before .before .before .before .before .before .before .before .before .before .before .before .before .before .before .before .before .before .before .before .before .before .before .before .before .pre .ready .enough))
-    (λ c. omega (arith, lows-long (c .before .before .before .before .before .before .before), lows-room (c .before .before .before .before .before .before .before .before .before .before .before .before .before .before .before .before .before .before .before .before .before .before .before .before .before .before .before .before .before .before .before .before .before .before .before .before .before .before .before .pre), c .before .before .before .before .before .before .before .before .before .before .before .before .before .before .before .before .before .before .before .before .before .before .before .before .before .before .before .before .before .before .before .before .before .before .before .before .before .before .before .pre .ready .enough))
+    (λ c. omega (arith, c .before .before .before .before .before .before .before .before .before .before .before .before .before .before
+        .before .before .before .before .before .before .before .before .before .before .before .before .before .before .before .before
+        .before .before .before .before .before .before .before .before .pre .ready .enough, c .before .before .before .before .before
+        .before .before .before .before .before .before .before .before .before .before .before .before .before .before .before .before
+        .before .before .before .before .before .before .before .before .before .before .before .before .before .before .before .before
+        .before .pre .ready .count))
+    (λ c. omega (arith, lows-long (c .before .before .before .before .before .before), lows-room
+        (c .before .before .before .before .before .before .before .before .before .before .before .before .before .before .before .before
+        .before .before .before .before .before .before .before .before .before .before .before .before .before .before .before .before
+        .before .before .before .before .before .before .pre), c .before .before .before .before .before .before .before .before .before
+        .before .before .before .before .before .before .before .before .before .before .before .before .before .before .before .before
+        .before .before .before .before .before .before .before .before .before .before .before .before .before .pre .ready .enough))
+    (λ c. omega (arith, lows-long (c .before .before .before .before .before .before .before), lows-room
+        (c .before .before .before .before .before .before .before .before .before .before .before .before .before .before .before .before
+        .before .before .before .before .before .before .before .before .before .before .before .before .before .before .before .before
+        .before .before .before .before .before .before .before .pre), c .before .before .before .before .before .before .before .before
+        .before .before .before .before .before .before .before .before .before .before .before .before .before .before .before .before
+        .before .before .before .before .before .before .before .before .before .before .before .before .before .before .before .pre .ready
+        .enough))
+    (λ c. omega (arith, lows-long (c .before .before .before .before .before .before .before), lows-room
+        (c .before .before .before .before .before .before .before .before .before .before .before .before .before .before .before .before
+        .before .before .before .before .before .before .before .before .before .before .before .before .before .before .before .before
+        .before .before .before .before .before .before .before .pre), c .before .before .before .before .before .before .before .before
+        .before .before .before .before .before .before .before .before .before .before .before .before .before .before .before .before
+        .before .before .before .before .before .before .before .before .before .before .before .before .before .before .before .pre .ready
+        .enough))
     words-hold-3
     (λ c. sym (length-take-le _ _ (words-hold-3 (c .before))))
     read-rest-requires
-    (λ c. lows-long (c .before .before .before .before .before .before .before .before .before .before .before .before .before .before .before .before))
-    (λ c. c .before .before .before .before .before .before .before .before .before .before .before .before .before .before .before .before .before .before .before .before .before .before .before .before .before .before .before .before .before .before .before .before .before .before .before .sort .kept .1 .0 ∙ c .before .before .before .before .before .before .before .before .before .before .before .before .before .before .before .before .before .before .before .before .before .before .before .before .before .before .before .before .before .before .before .before .before .before .before .before .before .before .before .before .before .count-up .kept .0)
+    (λ c. lows-long (c .before .before .before .before .before .before .before .before .before .before .before .before .before .before
+        .before .before))
+    (λ c. c .before .before .before .before .before .before .before .before .before .before .before .before .before .before .before .before
+        .before .before .before .before .before .before .before .before .before .before .before .before .before .before .before .before
+        .before .before .before .sort .kept .1 .0 ∙ c .before .before .before .before .before .before .before .before .before .before
+        .before .before .before .before .before .before .before .before .before .before .before .before .before .before .before .before
+        .before .before .before .before .before .before .before .before .before .before .before .before .before .before .before .count-up
+        .kept .0)
     words-back-2
     best-back
     returns-2)

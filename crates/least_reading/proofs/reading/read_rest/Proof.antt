@@ -76,11 +76,13 @@ module _ {l : Index} {query : List ℤ} {k : ℕ} (is : Ready l query k) {lows o
         arrays-goes-on _ _ _ _ _ (at .holds) (pair low number) its
         (is-low ∙ low-at (lowIn l query) (numbersIn l) aligned done behind more inside ∙ ap (lowIn l query) (sym its)) test
 
-    stop : goesOn k (afterReads l query k done .best) (pairOf (lowIn l query) (getD (readingOrder (lowIn l query) (numbersIn l)) done 0)) ≡ false
+    stop : goesOn k (afterReads l query k done .best) (pairOf (lowIn l query) (getD (readingOrder (lowIn l query) (numbersIn l)) done 0))
+        ≡ false
         → Reads l query k (Read done) order keys best
     stop stops = finish (reached-stop _ _ _ _ _ (at .reached) inside stops)
 
-    module _ (goes : goesOn k (afterReads l query k done .best) (pairOf (lowIn l query) (getD (readingOrder (lowIn l query) (numbersIn l)) done 0)) ≡ true) where
+    module _ (goes : goesOn k (afterReads l query k done .best)
+        (pairOf (lowIn l query) (getD (readingOrder (lowIn l query) (numbersIn l)) done 0)) ≡ true) where
       outside : vectorRead l query number ≡ Outside → Reads l query k (Refused Cell) order keys best
       outside told =
           reads-outside order keys best
@@ -93,7 +95,8 @@ module _ {l : Index} {query : List ℤ} {k : ℕ} (is : Ready l query k) {lows o
       turn full distance told {keys-then} {best-then} {r} keeps =
           let tells = tells-distance (inOwnCell l number) (distanceIn l query number) distance told in
           let holds = arrays-next _ _ _ _ _ (at .holds) (pair distance number) its (tells .is) inside keeps in
-          let same : r ≡ k = holds .counted ∙ full-after k (lowIn l query) (distanceIn l query) (numbersIn l) (suc done) (omega arith) inside in
+          let same : r ≡ k = holds .counted ∙ full-after k (lowIn l query) (distanceIn l query) (numbersIn l) (suc done) (omega arith)
+              inside in
           rw add-one
           (record {
             within = omega (arith, short);
@@ -138,14 +141,16 @@ test c =
     let next = c .before .before .before .before in
     let pre = entry next .pre in
     let inv = next .before .before .loop .inv in
-    tested (pre .0) (pre .1 .0) (pre .1 .1 .0) (inv .2) (inv .1) (next .before .loop-test .taken) _ refl (inv .0) _ refl (c .goes-on .ensures)
+    tested (pre .0) (pre .1 .0) (pre .1 .1 .0) (inv .2) (inv .1) (next .before .loop-test .taken) _ refl (inv .0) _ refl
+        (c .goes-on .ensures)
 
 returns : tie.Need-returns Inv-loop μ-loop
 returns c =
     let next = c .before .before .before .before .before in
     let pre = entry next .pre in
     let inv = next .before .before .loop .inv in
-    stop (pre .0) (pre .1 .0) (pre .1 .1 .0) (inv .2) (inv .1) (next .before .loop-test .taken) _ refl (test (c .before) ∙ not-true _ (c .if1 .taken))
+    stop (pre .0) (pre .1 .0) (pre .1 .1 .0) (inv .2) (inv .1) (next .before .loop-test .taken) _ refl
+        (test (c .before) ∙ not-true _ (c .if1 .taken))
 
 returns-2 : tie.Need-returns-2 Inv-loop μ-loop
 returns-2 c =
@@ -204,8 +209,11 @@ read-rest-spec =
     (λ c. search needs)
     returns-2
     (λ c κs. search needs)
-    (λ c. omega (arith, stands (c .before .before .before .before .before .before .before .before .before .before .before .before .before .before .before .before .before .before .before .before .before .before .before .before), c .before .before .before .before .before .before .before .before .before .before .before .before .before .before .before .before .before .before .loop .inv .1))
-    (λ c. omega (arith, c .before .before .before .before .before .before .before .before .before .before .before .before .before .before .before .before .before .loop-test .taken))
+    (λ c. omega (arith, stands (c .before .before .before .before .before .before .before .before .before .before .before .before .before
+        .before .before .before .before .before .before .before .before .before .before .before), c .before .before .before .before .before
+        .before .before .before .before .before .before .before .before .before .before .before .before .before .loop .inv .1))
+    (λ c. omega (arith, c .before .before .before .before .before .before .before .before .before .before .before .before .before .before
+        .before .before .before .loop-test .taken))
     loop-again
     (λ c. search needs)
     (λ c. search needs)

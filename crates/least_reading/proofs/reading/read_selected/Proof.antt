@@ -103,8 +103,10 @@ module _ {l : Index} {query : List ℤ} {k : ℕ} {lows order words best : List 
       aligned : take k order₁ ≡ take k (readingOrder (lowIn l query) (numbersIn l))
           → Aligned k (ranked (lowIn l query) (numbersIn l)) (take r lows-then) order-then
       aligned first-k =
-          let numbers-are : take (k + length these) order-then ≡ take k order₁ ++ numbersOf these = rw (found-these, same, count) at (told .2) in
-          aligned-candidates k (ranked-sorted (lowIn l query) (numbersIn l)) (getD (afterReads l query k k .best) (k - 1) leastPair) keys-are
+          let numbers-are : take (k + length these) order-then
+              ≡ take k order₁ ++ numbersOf these = rw (found-these, same, count) at (told .2) in
+          aligned-candidates k (ranked-sorted (lowIn l query) (numbersIn l)) (getD (afterReads l query k k .best) (k - 1) leastPair)
+              keys-are
           (numbers-are ∙ ap (λ (front : List ℕ). front ++ numbersOf these) first-k)
 
       ends : Ends k (lowIn l query) (distanceIn l query) (numbersIn l) (k + length (take r lows-then))
@@ -120,6 +122,10 @@ module _ {l : Index} {query : List ℤ} {k : ℕ} {lows order words best : List 
           rw front has
 
 -- ---- the steps
+
+-- the library that was handed in
+abbrev given : tie.Start → Index
+given s = indexOf (s .args .terms) (s .args .marks .now) (s .args .codes .now) (s .args .vectors .now)
 
 order-holds : tie.Need-slice-relend-prefix-select-first
 order-holds c =
@@ -146,7 +152,8 @@ select-first-requires c κs =
     )
 
 -- after the selection
-first-count : (c : tie.After-select-first) → let s = c .before .before .before .before .before .before .before .before .before in length (take (s .args .terms .k) (s .args .order .now)) ≡ s .args .terms .k
+first-count : (c : tie.After-select-first) → let s = c .before .before .before .before .before .before .before .before .before in length
+    (take (s .args .terms .k) (s .args .order .now)) ≡ s .args .terms .k
 first-count c = length-take-le _ _ (order-holds (c .before .before .before))
 
 words-long : (c : tie.After-select-first) → let s = c .before .before .before .before .before .before .before .before .before in
@@ -161,10 +168,12 @@ order-long c =
     let s = c .before .before .before .before .before .before .before .before .before in
     length-front (s .args .order .now) (c .select-first .last .1 .0) (s .args .terms .k) (c .select-first .kept .1 .0)
 
-first-k : (c : tie.After-select-first) → let s = c .before .before .before .before .before .before .before .before .before in let l = (indexOf (s .args .terms) (s .args .marks .now) (s .args .codes .now) (s .args .vectors .now)) in
+first-k : (c : tie.After-select-first) → let s = c .before .before .before .before .before .before .before .before .before in let l = given
+    s in
     take (s .args .terms .k) (c .select-first .last .1 .0 ++ drop (s .args .terms .k) (s .args .order .now))
     ≡ take (s .args .terms .k) (readingOrder (lowIn l (s .args .query .now)) (numbersIn l))
-first-k c = front (c .before .before .before .before .before .before .before .before .before .pre .1) _ (first-count c) (c .select-first .ensures .1) _
+first-k c = front (c .before .before .before .before .before .before .before .before .before .pre .1) _ (first-count c)
+    (c .select-first .ensures .1) _
 
 words-hold-2 : tie.Need-slice-relend-prefix-read-first
 words-hold-2 c =
@@ -173,26 +182,38 @@ words-hold-2 c =
 
 read-first-requires : tie.Need-read-first-requires
 read-first-requires c κs =
-    let s = c .before .before .before .before .before .before .before .before .before .before .before .before .before .before .before .before in (
+    let s = c .before .before .before .before .before .before .before .before .before .before .before .before .before .before .before
+        .before in (
       (s .pre .1 .ready, length-take-le _ _ (words-hold-2 (c .before .before)), s .pre .1 .best-room),
       first-k (c .before .before .before .before .before .before .before),
     )
 
 -- after the first were read
 module _ (c : tie.After-read-first) where
-  keys-long : length (c .read-first .last .1 .1 .1 .1 .1 .1 .0) ≡ c .before .before .before .before .before .before .before .before .before .before .before .before .before .before .before .before .before .args .terms .k
+  keys-long : length (c .read-first .last .1 .1 .1 .1 .1 .1 .0)
+      ≡ c .before .before .before .before .before .before .before .before .before .before .before .before .before .before .before .before
+      .before .args .terms .k
   keys-long = c .read-first .kept .1 .1 .1 .1 .1 .1 .0 ∙ length-take-le _ _ (words-hold-2 (c .before .before .before))
 
-  best-long : length (c .read-first .last .1 .1 .1 .1 .1 .1 .1 .0) ≡ c .before .before .before .before .before .before .before .before .before .before .before .before .before .before .before .before .before .args .terms .k
-  best-long = c .read-first .kept .1 .1 .1 .1 .1 .1 .1 .0 ∙ c .before .before .before .before .before .before .before .before .before .before .before .before .before .before .before .before .before .pre .1 .best-room
+  best-long : length (c .read-first .last .1 .1 .1 .1 .1 .1 .1 .0)
+      ≡ c .before .before .before .before .before .before .before .before .before .before .before .before .before .before .before .before
+      .before .args .terms .k
+  best-long = c .read-first .kept .1 .1 .1 .1 .1 .1 .1 .0
+      ∙ c .before .before .before .before .before .before .before .before .before .before .before .before .before .before .before .before
+      .before .pre .1 .best-room
 
-  words-long-2 : let s = c .before .before .before .before .before .before .before .before .before .before .before .before .before .before .before .before .before in let k = s .args .terms .k in let chosen = c .before .before .before .before .before .before .before .before in
-      length (c .read-first .last .1 .1 .1 .1 .1 .1 .0 ++ drop k (chosen .select-first .last .1 .1 .0 ++ drop k (s .args .words .now))) ≡ length (s .args .words .now)
+  words-long-2 : let s = c .before .before .before .before .before .before .before .before .before .before .before .before .before .before
+      .before .before .before in let k = s .args .terms .k in let chosen = c .before .before .before .before .before .before .before .before
+      in
+      length (c .read-first .last .1 .1 .1 .1 .1 .1 .0 ++ drop k (chosen .select-first .last .1 .1 .0 ++ drop k (s .args .words .now)))
+          ≡ length (s .args .words .now)
   words-long-2 =
-      let s = c .before .before .before .before .before .before .before .before .before .before .before .before .before .before .before .before .before in
+      let s = c .before .before .before .before .before .before .before .before .before .before .before .before .before .before .before
+          .before .before in
       let k = s .args .terms .k in
       let chosen = c .before .before .before .before .before .before .before .before in
-      length-front (chosen .select-first .last .1 .1 .0 ++ drop k (s .args .words .now)) (c .read-first .last .1 .1 .1 .1 .1 .1 .0) k (c .read-first .kept .1 .1 .1 .1 .1 .1 .0)
+      length-front (chosen .select-first .last .1 .1 .0 ++ drop k (s .args .words .now)) (c .read-first .last .1 .1 .1 .1 .1 .1 .0) k
+          (c .read-first .kept .1 .1 .1 .1 .1 .1 .0)
       ∙ words-long chosen
 
 returns : tie.Need-returns
@@ -200,7 +221,8 @@ returns c = first-outside (c .before .before .before .before .before .read-first
 
 words-hold-3 : tie.Need-slice-relend-prefix-sort-few
 words-hold-3 c =
-    let lent = c .before .before .before .before .before .before .before .before .before .before .before .before .before .before .before .before .before .before .before .before .before .before .pre .1 in
+    let lent = c .before .before .before .before .before .before .before .before .before .before .before .before .before .before .before
+        .before .before .before .before .before .before .before .pre .1 in
     omega (arith, words-long-2 (c .before .before .before .before .before), lent .words-room, lent .ready .enough)
 
 front-size : tie.Need-slice-aggregate-sort-few
@@ -208,7 +230,8 @@ front-size c = sym (length-take-le _ _ (words-hold-3 (c .before)))
 
 sort-few-requires : tie.Need-sort-few-requires
 sort-few-requires c κs =
-    let s = c .before .before .before .before .before .before .before .before .before .before .before .before .before .before .before .before .before .before .before .before .before .before .before .before in
+    let s = c .before .before .before .before .before .before .before .before .before .before .before .before .before .before .before
+        .before .before .before .before .before .before .before .before .before in
     let size = front-size (c .before) in (
       rw (sym size) (s .pre .1 .ready .some),
       rw (sym size) (s .pre .0),
@@ -216,32 +239,54 @@ sort-few-requires c κs =
     )
 
 -- after these were sorted
+abbrev start : tie.After-sort-few → tie.Start
+start c = c .before .before .before .before .before .before .before .before .before .before .before .before .before .before .before .before
+    .before .before .before .before .before .before .before .before .before
+
+abbrev selects : tie.After-sort-few → tie.After-select-first
+selects c = c .before .before .before .before .before .before .before .before .before .before .before .before .before .before .before
+    .before
+
+abbrev first-read : tie.After-sort-few → tie.After-read-first
+first-read c = c .before .before .before .before .before .before .before .before
+
+-- the words once the first were selected, and once they were read
+abbrev words₁ : tie.After-sort-few → List ℕ
+words₁ c = selects c .select-first .last .1 .1 .0 ++ drop (start c .args .terms .k) (start c .args .words .now)
+
+abbrev words₂ : tie.After-sort-few → List ℕ
+words₂ c = first-read c .read-first .last .1 .1 .1 .1 .1 .1 .0 ++ drop (start c .args .terms .k) (words₁ c)
+
 module _ (c : tie.After-sort-few) where
-  keys-long-2 : length (c .sort-few .last .0) ≡ c .before .before .before .before .before .before .before .before .before .before .before .before .before .before .before .before .before .before .before .before .before .before .before .before .before .args .terms .k
+  keys-long-2 : length (c .sort-few .last .0) ≡ start c .args .terms .k
   keys-long-2 = c .sort-few .kept .0 ∙ length-take-le _ _ (words-hold-3 (c .before .before .before))
 
-  best-long-2 : length (c .sort-few .last .1 .0) ≡ c .before .before .before .before .before .before .before .before .before .before .before .before .before .before .before .before .before .before .before .before .before .before .before .before .before .args .terms .k
-  best-long-2 = c .sort-few .kept .1 .0 ∙ best-long (c .before .before .before .before .before .before .before .before)
+  best-long-2 : length (c .sort-few .last .1 .0) ≡ start c .args .terms .k
+  best-long-2 = c .sort-few .kept .1 .0 ∙ best-long (first-read c)
 
-  words-long-3 : length (c .sort-few .last .0 ++ drop (c .before .before .before .before .before .before .before .before .before .before .before .before .before .before .before .before .before .before .before .before .before .before .before .before .before .args .terms .k) (c .before .before .before .before .before .before .before .before .read-first .last .1 .1 .1 .1 .1 .1 .0 ++ drop (c .before .before .before .before .before .before .before .before .before .before .before .before .before .before .before .before .before .before .before .before .before .before .before .before .before .args .terms .k) (c .before .before .before .before .before .before .before .before .before .before .before .before .before .before .before .before .select-first .last .1 .1 .0 ++ drop (c .before .before .before .before .before .before .before .before .before .before .before .before .before .before .before .before .before .before .before .before .before .before .before .before .before .args .terms .k) (c .before .before .before .before .before .before .before .before .before .before .before .before .before .before .before .before .before .before .before .before .before .before .before .before .before .args .words .now)))) ≡ length (c .before .before .before .before .before .before .before .before .before .before .before .before .before .before .before .before .before .before .before .before .before .before .before .before .before .args .words .now)
+  words-long-3 : length (c .sort-few .last .0 ++ drop (start c .args .terms .k) (words₂ c)) ≡ length (start c .args .words .now)
   words-long-3 =
-      length-front (c .before .before .before .before .before .before .before .before .read-first .last .1 .1 .1 .1 .1 .1 .0 ++ drop (c .before .before .before .before .before .before .before .before .before .before .before .before .before .before .before .before .before .before .before .before .before .before .before .before .before .args .terms .k) (c .before .before .before .before .before .before .before .before .before .before .before .before .before .before .before .before .select-first .last .1 .1 .0 ++ drop (c .before .before .before .before .before .before .before .before .before .before .before .before .before .before .before .before .before .before .before .before .before .before .before .before .before .args .terms .k) (c .before .before .before .before .before .before .before .before .before .before .before .before .before .before .before .before .before .before .before .before .before .before .before .before .before .args .words .now))) (c .sort-few .last .0) (c .before .before .before .before .before .before .before .before .before .before .before .before .before .before .before .before .before .before .before .before .before .before .before .before .before .args .terms .k) (c .sort-few .kept .0)
-      ∙ words-long-2 (c .before .before .before .before .before .before .before .before)
+      length-front (words₂ c) (c .sort-few .last .0) (start c .args .terms .k) (c .sort-few .kept .0)
+      ∙ words-long-2 (first-read c)
 
-  has-read : let s = c .before .before .before .before .before .before .before .before .before .before .before .before .before .before .before .before .before .before .before .before .before .before .before .before .before in
-      HasRead (indexOf (s .args .terms) (s .args .marks .now) (s .args .codes .now) (s .args .vectors .now)) (s .args .query .now) (s .args .terms .k) (s .args .terms .k) (c .sort-few .last .0) (c .sort-few .last .1 .0)
+  has-read : let s = start c in
+      HasRead (given s) (s .args .query .now) (s .args .terms .k) (s .args .terms .k) (c .sort-few .last .0) (c .sort-few .last .1 .0)
   has-read =
-      let read = c .before .before .before .before .before .before .before .before in
-      let s = c .before .before .before .before .before .before .before .before .before .before .before .before .before .before .before .before .before .before .before .before .before .before .before .before .before in
-      let front = take-at (read .read-first .last .1 .1 .1 .1 .1 .1 .0) (drop (s .args .terms .k) (c .before .before .before .before .before .before .before .before .before .before .before .before .before .before .before .before .select-first .last .1 .1 .0 ++ drop (c .before .before .before .before .before .before .before .before .before .before .before .before .before .before .before .before .before .before .before .before .before .before .before .before .before .args .terms .k) (c .before .before .before .before .before .before .before .before .before .before .before .before .before .before .before .before .before .before .before .before .before .before .before .before .before .args .words .now))) (s .args .terms .k) (keys-long read) in
+      let read = first-read c in
+      let s = start c in
+      let front = take-at (read .read-first .last .1 .1 .1 .1 .1 .1 .0) (drop (s .args .terms .k) (words₁ c)) (s .args .terms .k)
+          (keys-long read) in
       first-sorted (read .read-first .ensures) (s .pre .1 .ready) (not-false _ (c .before .before .before .if1 .left))
-      (c .sort-few .ensures .0 ∙ ap (λ (keys : List ℕ). keysOf (sort (pairsOf keys (read .read-first .last .1 .1 .1 .1 .1 .1 .1 .0)))) front)
-      (c .sort-few .ensures .1 ∙ ap (λ (keys : List ℕ). numbersOf (sort (pairsOf keys (read .read-first .last .1 .1 .1 .1 .1 .1 .1 .0)))) front)
+      (c .sort-few .ensures .0 ∙ ap (λ (keys : List ℕ). keysOf (sort (pairsOf keys (read .read-first .last .1 .1 .1 .1 .1 .1 .1 .0))))
+          front)
+      (c .sort-few .ensures .1 ∙ ap (λ (keys : List ℕ). numbersOf (sort (pairsOf keys (read .read-first .last .1 .1 .1 .1 .1 .1 .1 .0))))
+          front)
 
 rank-candidates-requires : tie.Need-rank-candidates-requires
 rank-candidates-requires c κs =
     let sorted = c .before .before .before .before .before .before .before .before in
-    let chosen = sorted .before .before .before .before .before .before .before .before .before .before .before .before .before .before .before .before in
+    let chosen = sorted .before .before .before .before .before .before .before .before .before .before .before .before .before .before
+        .before .before in
     let lent = chosen .before .before .before .before .before .before .before .before .before .pre .1 in
     let size = best-long-2 sorted in
     let long = lows-room lent in (
@@ -259,21 +304,30 @@ lows-hold : tie.Need-slice-reshare-prefix-read-rest
 lows-hold c =
     let ranked = c .before .before .before .before .before .before in
     let sorted = ranked .before .before .before .before .before .before .before .before .before in
-    fits (sorted .before .before .before .before .before .before .before .before .before .before .before .before .before .before .before .before .before .before .before .before .before .before .before .before .before .pre .1) (has-read sorted) _ _ (best-long-2 sorted) _ _ _ _ _ (ranked .rank-candidates .ensures)
+    fits (sorted .before .before .before .before .before .before .before .before .before .before .before .before .before .before .before
+        .before .before .before .before .before .before .before .before .before .before .pre .1) (has-read sorted) _ _ (best-long-2 sorted)
+        _ _ _ _ _ (ranked .rank-candidates .ensures)
 
-words-long-4 : (c : tie.After-rank-candidates) → length (c .rank-candidates .last .1 .1 .1 .0) ≡ length (c .before .before .before .before .before .before .before .before .before .before .before .before .before .before .before .before .before .before .before .before .before .before .before .before .before .before .before .before .before .before .before .before .before .before .args .words .now)
-words-long-4 c = c .rank-candidates .kept .1 .1 .1 .0 ∙ words-long-3 (c .before .before .before .before .before .before .before .before .before)
+words-long-4 : (c : tie.After-rank-candidates) → length (c .rank-candidates .last .1 .1 .1 .0)
+    ≡ length (c .before .before .before .before .before .before .before .before .before .before .before .before .before .before .before
+    .before .before .before .before .before .before .before .before .before .before .before .before .before .before .before .before .before
+    .before .before .args .words .now)
+words-long-4 c = c .rank-candidates .kept .1 .1 .1 .0
+    ∙ words-long-3 (c .before .before .before .before .before .before .before .before .before)
 
 words-hold-4 : tie.Need-slice-relend-prefix-read-rest
 words-hold-4 c =
-    let lent = c .before .before .before .before .before .before .before .before .before .before .before .before .before .before .before .before .before .before .before .before .before .before .before .before .before .before .before .before .before .before .before .before .before .before .before .before .before .before .before .before .before .before .pre .1 in
+    let lent = c .before .before .before .before .before .before .before .before .before .before .before .before .before .before .before
+        .before .before .before .before .before .before .before .before .before .before .before .before .before .before .before .before
+        .before .before .before .before .before .before .before .before .before .before .before .pre .1 in
     omega (arith, words-long-4 (c .before .before .before .before .before .before .before .before), lent .words-room, lent .ready .enough)
 
 read-rest-requires : tie.Need-read-rest-requires
 read-rest-requires c κs =
     let ranked = c .before .before .before .before .before .before .before .before .before .before in
     let sorted = ranked .before .before .before .before .before .before .before .before .before in
-    let chosen = sorted .before .before .before .before .before .before .before .before .before .before .before .before .before .before .before .before in
+    let chosen = sorted .before .before .before .before .before .before .before .before .before .before .before .before .before .before
+        .before .before in
     let lent = chosen .before .before .before .before .before .before .before .before .before .pre .1 in
     let told = ranked .rank-candidates .ensures in (
       lent .ready,
@@ -290,18 +344,27 @@ words-back : tie.Need-same-length-7
 words-back c =
     let rest = c .before .before .before .before in
     let ranked = rest .before .before .before .before .before .before .before .before .before .before .before in
-    length-front (ranked .rank-candidates .last .1 .1 .1 .0) (rest .read-rest .last .1 .1 .1 .1 .1 .1 .1 .0) (ranked .before .before .before .before .before .before .before .before .before .before .before .before .before .before .before .before .before .before .before .before .before .before .before .before .before .before .before .before .before .before .before .before .before .before .args .terms .k) (rest .read-rest .kept .1 .1 .1 .1 .1 .1 .1 .0)
+    length-front (ranked .rank-candidates .last .1 .1 .1 .0) (rest .read-rest .last .1 .1 .1 .1 .1 .1 .1 .0)
+        (ranked .before .before .before .before .before .before .before .before .before .before .before .before .before .before .before
+        .before .before .before .before .before .before .before .before .before .before .before .before .before .before .before .before
+        .before .before .before .args .terms .k) (rest .read-rest .kept .1 .1 .1 .1 .1 .1 .1 .0)
     ∙ words-long-4 ranked
 
 best-back : tie.Need-same-length-8
 best-back c =
     let rest = c .before .before .before .before in
-    rest .read-rest .kept .1 .1 .1 .1 .1 .1 .1 .1 .0 ∙ best-long-2 (rest .before .before .before .before .before .before .before .before .before .before .before .before .before .before .before .before .before .before .before .before) ∙ sym (rest .before .before .before .before .before .before .before .before .before .before .before .before .before .before .before .before .before .before .before .before .before .before .before .before .before .before .before .before .before .before .before .before .before .before .before .before .before .before .before .before .before .before .before .before .before .pre .1 .best-room)
+    rest .read-rest .kept .1 .1 .1 .1 .1 .1 .1 .1 .0 ∙ best-long-2
+        (rest .before .before .before .before .before .before .before .before .before .before .before .before .before .before .before
+        .before .before .before .before .before) ∙ sym
+        (rest .before .before .before .before .before .before .before .before .before .before .before .before .before .before .before
+        .before .before .before .before .before .before .before .before .before .before .before .before .before .before .before .before
+        .before .before .before .before .before .before .before .before .before .before .before .before .before .before .pre .1 .best-room)
 
 returns-2 : tie.Need-returns-2
 returns-2 c =
     let rest = c .before .before .before .before in
-    reads-front _ (rest .read-rest .ensures) (rest .read-rest .kept .1 .1 .1 .1 .1 .1 .1 .0 ∙ length-take-le _ _ (words-hold-4 (rest .before .before .before)))
+    reads-front _ (rest .read-rest .ensures)
+        (rest .read-rest .kept .1 .1 .1 .1 .1 .1 .1 .0 ∙ length-take-le _ _ (words-hold-4 (rest .before .before .before)))
 
 pub read-selected-spec : {M : Type 1} → statement M
 read-selected-spec =
@@ -329,8 +392,13 @@ read-selected-spec =
     words-hold-4
     (λ c. sym (length-take-le _ _ (words-hold-4 (c .before))))
     read-rest-requires
-    (λ c. c .before .before .before .before .before .before .before .before .before .before .before .before .before .before .before .rank-candidates .kept .1 .0)
-    (λ c. c .before .before .before .before .before .before .before .before .before .before .before .before .before .before .before .rank-candidates .kept .1 .1 .0 ∙ order-long (c .before .before .before .before .before .before .before .before .before .before .before .before .before .before .before .before .before .before .before .before .before .before .before .before .before .before .before .before .before .before .before .before .before .before .before .before .before .before .before .before))
+    (λ c. c .before .before .before .before .before .before .before .before .before .before .before .before .before .before .before
+        .rank-candidates .kept .1 .0)
+    (λ c. c .before .before .before .before .before .before .before .before .before .before .before .before .before .before .before
+        .rank-candidates .kept .1 .1 .0 ∙ order-long
+        (c .before .before .before .before .before .before .before .before .before .before .before .before .before .before .before .before
+        .before .before .before .before .before .before .before .before .before .before .before .before .before .before .before .before
+        .before .before .before .before .before .before .before .before))
     words-back
     best-back
     returns-2)
