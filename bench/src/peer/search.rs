@@ -1,4 +1,5 @@
-//! The vector-approximation search: lower bounds from the codes by a table of the query, ranked, and vectors read in that order.
+//! The vector-approximation search: lower bounds from the codes by a table of the query, and vectors read in their order, of which no
+//! more is found than can be read.
 
 use super::{bits, distance};
 use crate::matcher::Entry;
@@ -19,25 +20,35 @@ struct Steps {
     squares: Vec<u64>,
 }
 
+/// So many of the first are selected, more are found by ranking all.
+const SELECTED: usize = 16;
+
 impl Library<'_> {
     /// The numbers and distances of the nearest, and the numbers of the vectors read, whose count is given.
     pub fn search(&self, query: &[i32], entries: &mut [Entry], reads: &mut [u32]) -> usize {
         let k = entries.len();
         let mut order = self.lower_bounds(&self.table(query));
-        order.sort_unstable();
-        let mut best: BinaryHeap<(u64, u32)> = BinaryHeap::with_capacity(k + 1);
-        let mut count = 0;
-        for &pair in &order {
-            if best.len() == k && best.peek().is_some_and(|&worst| pair >= worst) {
+        rank_first(&mut order, k);
+        let read = |&(_, number): &(u64, u32)| {
+            let at = number as usize * self.d;
+            (distance(query, &self.vectors[at..at + self.d]), number)
+        };
+        let mut best: BinaryHeap<(u64, u32)> = order[..k].iter().map(read).collect();
+        let worst = |best: &BinaryHeap<(u64, u32)>| *best.peek().expect("k is at least 1");
+        if k <= SELECTED {
+            rank_candidates(&mut order, k, worst(&best));
+        }
+        let mut count = k;
+        for pair in &order[k..] {
+            if *pair >= worst(&best) {
                 break;
             }
-            let at = pair.1 as usize * self.d;
-            best.push((distance(query, &self.vectors[at..at + self.d]), pair.1));
-            if best.len() > k {
-                best.pop();
-            }
-            reads[count] = pair.1;
+            best.push(read(pair));
+            best.pop();
             count += 1;
+        }
+        for (number, pair) in reads.iter_mut().zip(&order[..count]) {
+            *number = pair.1;
         }
         for ((distance, number), entry) in best.into_sorted_vec().into_iter().zip(entries) {
             *entry = Entry { number, distance };
@@ -79,4 +90,24 @@ impl Library<'_> {
         }
         lows
     }
+}
+
+/// The first k in order, the others behind them: in order too, where k is large.
+fn rank_first(order: &mut [(u64, u32)], k: usize) {
+    if k <= SELECTED && k < order.len() {
+        order.select_nth_unstable(k - 1);
+        order[..k].sort_unstable();
+    } else {
+        order.sort_unstable();
+    }
+}
+
+/// Behind the first k only the pairs below the k-th best, in order: no other can still be read.
+fn rank_candidates(order: &mut Vec<(u64, u32)>, k: usize, bound: (u64, u32)) {
+    let mut place = 0;
+    order.retain(|&pair| {
+        place += 1;
+        place <= k || pair < bound
+    });
+    order[k..].sort_unstable();
 }

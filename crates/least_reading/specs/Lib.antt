@@ -3,3 +3,5 @@ pub mod Searching
 pub mod Buffers
 pub mod Bounding
 pub mod Vector
+pub mod Selected
+pub mod Aligned

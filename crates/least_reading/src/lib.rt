@@ -1,7 +1,8 @@
 // The search that reads least.
+mod candidates;
 mod reading;
 
-use crate::reading::read_all;
+use crate::reading::read_in_order;
 use bounds::sum::sum_bounds;
 use entries::entries_of;
 use entries::no_entries;
@@ -22,14 +23,10 @@ ghost use mathlib.Core.List.{[], _++_};
 ghost use Prim.Native.Nat.{_≤_};
 ghost use lib.ListN.{length, take, drop};
 ghost use Rattle.refusal.specs.First.{first};
-ghost use Rattle.limits.specs.Limits.{maxVectors};
-ghost use Rattle.order.specs.Pair.{countFrom};
-ghost use Rattle.order.specs.Rank.{ranking};
-ghost use Rattle.selection.specs.Reading.{readingOrder};
 ghost use Rattle.distance.specs.Bounds.{lowerOf};
 ghost use Rattle.distance.specs.Values.{valuesFrom};
 ghost use Rattle.bounds.specs.Bounded.{Bounding};
-ghost use Rattle.search.specs.Search.{numbersIn, lowIn, searchCauses};
+ghost use Rattle.search.specs.Search.{lowIn, searchCauses};
 ghost use Rattle.search.specs.Ready.{indexOf, roomOf, Ready};
 ghost use Rattle.least_reading.specs.Searching.{Searches, cellCauses};
 
@@ -77,47 +74,42 @@ fn search_ready(
     let mut lows = [0u64; MAX_VECTORS];
     lower_bounds(terms.d, terms.b, query, marks, codes, &mut lows[..n]);
     let mut order = [0u32; MAX_VECTORS];
-    let mut sorted = [0u64; MAX_VECTORS];
     let mut words = [0u64; MAX_VECTORS];
-    rank(&lows[..n], &mut order[..n], &mut sorted[..n], &mut words);
-    search_ranked(
+    search_bounded(
         terms,
         query,
         marks,
         codes,
         vectors,
-        &lows[..n],
-        &order[..n],
+        &mut lows[..n],
+        &mut order[..n],
+        &mut words[..n],
         reads,
-        &mut words,
     )
 }
 
-// The same with the lower bounds and the vectors' numbers in their order. Nothing is written where a vector that is read refuses.
-fn search_ranked(
+// The same with the lower bounds. Nothing is written where a vector that is read refuses.
+fn search_bounded(
     terms: Terms,
     query: &[i32],
     marks: &[i32],
     codes: &[u8],
     vectors: &[i32],
-    lows: &[u64],
-    order: &[u32],
-    reads: &mut [u32],
+    lows: &mut [u64],
+    order: &mut [u32],
     words: &mut [u64],
+    reads: &mut [u32],
 ) -> Found
-    requires { ⌜ (Ready (indexOf terms (now marks) (now codes) (now vectors)) (now query) (terms .k)) × (length (now reads) ≡ terms .n)
-        × (terms .k ≤ length (now words)) ⌝ }
+    requires { ⌜ (Ready (indexOf terms (now marks) (now codes) (now vectors)) (now query) (terms .k))
+        × (length (now order) ≡ terms .n) × (length (now words) ≡ terms .n) × (length (now reads) ≡ terms .n) ⌝ }
     requires { ⌜ now lows ≡ valuesFrom (lowIn (indexOf terms (now marks) (now codes) (now vectors)) (now query)) 0 (terms .n) ⌝ }
-    requires { let l = indexOf terms (now marks) (now codes) (now vectors) in
-        ⌜ now order ≡ readingOrder (lowIn l (now query)) (numbersIn l) ⌝ }
     ensures { λ r. let l = indexOf terms (now (marks .entry)) (now (codes .entry)) (now (vectors .entry)) in
         ⌜ Searches (first (cellCauses l (now (query .entry)) (terms .k))) l (now (query .entry)) (terms .k) r
         (now (reads .entry)) (now (reads .exit)) ⌝ }
 {
     let k = terms.k;
-    let mut keys = [0u64; MAX_NEIGHBOURS];
     let mut best = [0u32; MAX_NEIGHBOURS];
-    let answer = read_all(
+    let answer = read_in_order(
         terms,
         query,
         marks,
@@ -125,16 +117,15 @@ fn search_ranked(
         vectors,
         lows,
         order,
-        &mut keys[..k],
-        &mut best[..k],
         words,
+        &mut best[..k],
     );
     let count = read_count(answer);
     put_numbers(order, count, reads);
     let kept = found_count(answer, k);
     Found {
         answer,
-        entries: entries_of(&keys[..kept], &best[..kept]),
+        entries: entries_of(&words[..kept], &best[..kept]),
     }
 }
 
@@ -147,29 +138,6 @@ fn lower_bounds(d: usize, b: usize, query: &[i32], marks: &[i32], codes: &[u8], 
     let mut table = [0u64; MAX_TABLE];
     fill_table(Bound::Lower, d, b, marks, query, &mut table[..size]);
     sum_bounds(d, b, &table[..size], codes, lows);
-}
-
-// The keys' numbers in the order of the keys, ties by lower number. A copy of the keys is sorted with them, with words for the sort.
-fn rank(keys: &[u64], numbers: &mut [u32], copy: &mut [u64], words: &mut [u64])
-    requires { ⌜ (length (now numbers) ≡ length (now keys)) × (length (now keys) ≤ maxVectors)
-        × (length (now copy) ≡ length (now keys)) × (length (now keys) ≤ length (now words)) ⌝ }
-    ensures { λ _. ⌜ now (numbers .exit) ≡ ranking (now (keys .entry)) ⌝ }
-{
-    count_up(keys, copy, numbers);
-    sorting::sort(copy, numbers, words);
-}
-
-// Each key, copied, with its own index.
-fn count_up(keys: &[u64], copy: &mut [u64], numbers: &mut [u32])
-    requires { ⌜ (length (now numbers) ≡ length (now keys)) × (length (now keys) ≤ maxVectors) × (length (now copy) ≡ length (now keys)) ⌝ }
-    ensures { λ _. ⌜ (now (copy .exit) ≡ now (keys .entry)) × (now (numbers .exit) ≡ countFrom 0 (length (now (keys .entry)))) ⌝ }
-{
-    let mut i = 0;
-    while i < keys.len() {
-        copy[i] = keys[i];
-        numbers[i] = i as u32;
-        i += 1;
-    }
 }
 
 // Writes the first numbers over the first of a buffer.

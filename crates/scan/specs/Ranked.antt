@@ -1,11 +1,12 @@
 -- Ranking the values of a function ranks the numbers by the function. Assumes nothing.
-use mathlib.Core.Path.{_≡_, refl, ap}
+use mathlib.Core.Path.{_≡_, refl, ap, _∙_}
 use mathlib.Core.List.{List, [], _∷_, List·Memᴰ·head, List·Memᴰ·tail}
 use Prim.Native.Nat.{ℕ}
 use native.Mathlib.Omega.{arith}
-use Rattle.order.specs.Pair.{countFrom, keyed, ranked, numbersOf}
+use Rattle.order.specs.Pair.{countFrom, sort, keyed, ranked}
+use Rattle.order.specs.Pairs.{pairsOf}
 use Rattle.order.specs.Counted.{counted}
-use Rattle.order.specs.Rank.{keyAt, ranking}
+use Rattle.order.specs.Rank.{keyAt, keyed-count}
 use Rattle.selection.specs.Reading.{scan}
 use Rattle.selection.specs.Settles.{Agree}
 use Rattle.distance.specs.Values.{valuesFrom, values-length, value-at}
@@ -30,6 +31,8 @@ pub values-ranked : (f : ℕ → ℕ) (n : ℕ) → ranked (keyAt (valuesFrom f 
 values-ranked f n =
     ranked-agree f (keyAt (valuesFrom f 0 n)) (countFrom 0 n) (λ i m. value-at f n i (omega (arith, (counted 0 n m) .below)))
 
-pub values-ranking : (f : ℕ → ℕ) (n : ℕ) → ranking (valuesFrom f 0 n) ≡ numbersOf (ranked f (countFrom 0 n))
-unfolding ranking
-values-ranking f n = rw (values-length f 0 n) (ap numbersOf (values-ranked f n))
+-- and so does sorting the values with the numbers
+pub values-sorted : (f : ℕ → ℕ) (n : ℕ) → sort (pairsOf (valuesFrom f 0 n) (countFrom 0 n)) ≡ ranked f (countFrom 0 n)
+unfolding ranked
+values-sorted f n =
+    ap sort (keyed-count (valuesFrom f 0 n) 0 n (omega (arith, values-length f 0 n))) ∙ values-ranked f n

@@ -9,3 +9,4 @@ pub mod Stable
 pub mod Changed
 pub mod Needed
 pub mod Least
+pub mod Candidates

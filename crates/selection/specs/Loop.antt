@@ -35,11 +35,19 @@ after k low distance numbers done =
 
 -- to read the rest from there on is the whole reading
 pub record Reached (k : ℕ) (low distance : ℕ → ℕ) (numbers : List ℕ) (done : ℕ) : Type 0 where
-  pub rest : reading k distance (keyed low (drop done (readingOrder low numbers))) (after k low distance numbers done) ≡ read k low distance numbers
+  pub rest : reading k distance (keyed low (drop done (readingOrder low numbers))) (after k low distance numbers done)
+      ≡ read k low distance numbers
+
+-- so many reads are the most: a reading that comes so far ends there
+pub record Ends (k : ℕ) (low distance : ℕ → ℕ) (numbers : List ℕ) (end : ℕ) : Type 0 where
+  pub behind : k ≤ end
+  pub within : end ≤ length numbers
+  pub whole : Reached k low distance numbers end → read k low distance numbers ≡ after k low distance numbers end
 
 module _ (k : ℕ) (low distance : ℕ → ℕ) (numbers : List ℕ) where
   pub after-next : (done : ℕ) → done < length numbers
-      → after k low distance numbers (suc done) ≡ readNext k distance (after k low distance numbers done) (getD (readingOrder low numbers) done 0)
+      → after k low distance numbers (suc done) ≡ readNext k distance (after k low distance numbers done)
+      (getD (readingOrder low numbers) done 0)
   unfolding after readNext
   after-next done more = rw (take-suc (readingOrder low numbers) done 0 (omega (arith, ranked-count low numbers)), scan-snoc)
 
@@ -48,12 +56,14 @@ module _ (k : ℕ) (low distance : ℕ → ℕ) (numbers : List ℕ) where
   reached-start =
       record {
         rest =
-            rw (keyed-ranked low numbers) (ap (λ (b : List Pair). reading k distance (ranked low numbers) (record { best = b; reads = [] })) (sym (unread-best k distance)));
+            rw (keyed-ranked low numbers) (ap (λ (b : List Pair). reading k distance (ranked low numbers) (record { best = b; reads = [] }))
+            (sym (unread-best k distance)));
       }
 
   module _ (done : ℕ) (reached : Reached k low distance numbers done) where
     rest-split : done < length numbers
-        → reading k distance (pairOf low (getD (readingOrder low numbers) done 0) ∷ keyed low (drop (suc done) (readingOrder low numbers))) (after k low distance numbers done)
+        → reading k distance (pairOf low (getD (readingOrder low numbers) done 0) ∷ keyed low (drop (suc done) (readingOrder low numbers)))
+        (after k low distance numbers done)
         ≡ read k low distance numbers
     unfolding keyed
     rest-split more = rw (drop-cons (readingOrder low numbers) done 0 (omega (arith, ranked-count low numbers))) at (reached .rest)
@@ -62,7 +72,10 @@ module _ (k : ℕ) (low distance : ℕ → ℕ) (numbers : List ℕ) where
         → goesOn k ((after k low distance numbers done) .best) (pairOf low (getD (readingOrder low numbers) done 0)) ≡ true
         → Reached k low distance numbers (suc done)
     reached-next more goes =
-        record { rest = rw (after-next done more) (rw (reading-goes-on k distance _ _ (after k low distance numbers done) goes) at (rest-split more)) }
+        record {
+          rest = rw (after-next done more)
+              (rw (reading-goes-on k distance _ _ (after k low distance numbers done) goes) at (rest-split more));
+        }
 
     pub reached-stop : done < length numbers
         → goesOn k ((after k low distance numbers done) .best) (pairOf low (getD (readingOrder low numbers) done 0)) ≡ false
@@ -73,6 +86,10 @@ module _ (k : ℕ) (low distance : ℕ → ℕ) (numbers : List ℕ) where
     unfolding keyed reading
     reached-end all =
         sym (rw (drop-of-length-le (readingOrder low numbers) {i = done} (omega (arith, ranked-count low numbers))) at (reached .rest))
+
+  pub ends-all : k ≤ length numbers → Ends k low distance numbers (length numbers)
+  ends-all enough =
+      record { behind = enough; within = omega arith; whole = λ reached. reached-end (length numbers) reached (omega arith) }
 
   -- the first k are read, whatever their lows are, and from then on there are k best
   best-count : (done : ℕ) → done ≤ length numbers → length ((after k low distance numbers done) .best) ≡ min k done

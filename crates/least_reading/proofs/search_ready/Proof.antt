@@ -1,36 +1,26 @@
--- `search_ready` meets its contract: the bounds' ranking is the reading order. Assumes nothing.
-use mathlib.Core.Path.{_≡_, sym, ap, _∙_, subst⁻¹}
-use mathlib.Core.List.{List}
-use Prim.Native.Nat.{ℕ, _≤_}
-use native.Mathlib.Omega.{arith}
+-- `search_ready` meets its contract: the lower bounds are those of the codes' cells. Assumes nothing.
+use mathlib.Core.Path.{_≡_, sym, ap, _∙_}
+use Prim.Native.Nat.{ℕ}
+use lib.ListN.{take}
 use lib.Seq.{length-take-le}
-use borrow.Author.Needs.{needs}
-use Rattle.order.specs.Pair.{countFrom}
-use Rattle.order.specs.Rank.{ranking}
 use Rattle.order.proofs.Prefix.{back-within, shared-is}
-use Rattle.selection.specs.Reading.{readingOrder}
 use Rattle.distance.specs.Values.{valuesFrom}
-use Rattle.scan.specs.Ranked.{values-ranking}
-use Rattle.search.specs.Search.{Index, numbersIn, lowIn}
+use Rattle.search.specs.Search.{Index, lowIn}
 use Rattle.search.specs.Ready.{indexOf}
 use Rattle.least_reading.specs.Bounding.{bounding}
 use Rattle.least_reading.proofs.search_ready.Statement.{statement}
 use Rattle.least_reading.proofs.search_ready.Tie as tie
 
-ranks : (low : ℕ → ℕ) (n : ℕ) (lows back : List ℕ) → lows ≡ valuesFrom low 0 n → back ≡ ranking lows
-    → back ≡ readingOrder low (countFrom 0 n)
-ranks low n lows back are is = is ∙ ap ranking are ∙ values-ranking low n
-
 -- the library that was handed in
 abbrev given : tie.Start → Index
 given s = indexOf (s .args .terms) (s .args .marks .now) (s .args .codes .now) (s .args .vectors .now)
 
--- ---- the fronts of the arrays
+-- ---- the fronts of the three arrays
 
 lows-hold : tie.Need-array-borrow-prefix-lows
 lows-hold c = c .before .before .pre .0 .count
 
-lows-within : tie.Need-array-share-prefix-lows
+lows-within : tie.Need-array-borrow-prefix-lows-2
 lows-within c =
     let filled = c .before in
     back-within _ _ (filled .lower-bounds .last .1 .1 .1 .1 .1 .0) (lows-hold (filled .before .before))
@@ -39,51 +29,35 @@ lows-within c =
 order-hold : tie.Need-array-borrow-prefix-order
 order-hold c = c .before .before .before .before .before .before .pre .0 .count
 
-sorted-hold : tie.Need-array-borrow-prefix-sorted
-sorted-hold c = c .before .before .before .before .before .before .before .pre .0 .count
+order-room : tie.Need-slice-aggregate-search-bounded-2
+order-room c = sym (length-take-le _ _ (order-hold (c .before)))
 
-order-within : tie.Need-array-share-prefix-order
-order-within c =
-    let ranked = c .before .before .before .before in
-    back-within _ _ (ranked .rank .last .1 .0) (order-hold (ranked .before .before .before .before)) (ranked .rank .kept .1 .0)
+words-hold : tie.Need-array-borrow-prefix-words
+words-hold c = c .before .before .before .before .before .before .before .pre .0 .count
 
--- ---- the bounds and their ranking
-
-rank-requires : tie.Need-rank-requires
-rank-requires c κs =
-    let keys = length-take-le _ _ (lows-within (c .before .before .before .before)) in
-    let few = lows-hold (c .before .before .before .before .before .before .before) in (
-      length-take-le _ _ (order-hold (c .before .before .before)) ∙ sym keys,
-      omega (arith, keys, few),
-      length-take-le _ _ (sorted-hold (c .before .before)) ∙ sym keys,
-      omega (arith, keys, few),
-    )
+words-room : tie.Need-slice-aggregate-search-bounded-3
+words-room c = sym (length-take-le _ _ (words-hold (c .before)))
 
 bounded : (c : tie.After-lower-bounds) → let s = c .before .before .before .before in
     c .lower-bounds .last .1 .1 .1 .1 .1 .0 ≡ valuesFrom (lowIn (given s) (s .args .query .now)) 0 (s .args .terms .n)
 bounded c =
     let s = c .before .before .before .before in
-    c .lower-bounds .ensures ∙ ap (λ (m : ℕ). valuesFrom (lowIn (given s) (s .args .query .now)) 0 m) (length-take-le _ _ (lows-hold (c .before .before)))
+    c .lower-bounds .ensures ∙ ap (λ (m : ℕ). valuesFrom (lowIn (given s) (s .args .query .now)) 0 m)
+    (length-take-le _ _ (lows-hold (c .before .before)))
 
-ordered : (c : tie.After-rank) → let s = c .before .before .before .before .before .before .before .before .before .before in
-    c .rank .last .1 .0 ≡ readingOrder (lowIn (given s) (s .args .query .now)) (numbersIn (given s))
-ordered c =
-    let filled = c .before .before .before .before .before .before in
-    let s = filled .before .before .before .before in
-    ranks (lowIn (given s) (s .args .query .now)) (s .args .terms .n) _ (c .rank .last .1 .0)
-    (shared-is _ _ (filled .lower-bounds .last .1 .1 .1 .1 .1 .0) (lows-hold (filled .before .before)) (filled .lower-bounds .kept .1 .1 .1 .1 .1 .0) ∙ bounded filled)
-    (c .rank .ensures)
-
-search-ranked-requires : tie.Need-search-ranked-requires
-search-ranked-requires c κs =
-    let ranked = c .before .before .before .before .before .before .before in
-    let filled = ranked .before .before .before .before .before .before in
+search-bounded-requires : tie.Need-search-bounded-requires
+search-bounded-requires c κs =
+    let filled = c .before .before .before .before .before in
     let s = filled .before .before .before .before in (
-      (s .pre .0, s .pre .1, subst⁻¹ (λ (m : ℕ). s .args .terms .k ≤ m) (ranked .rank .kept .1 .1 .1 .0) (s .pre .0 .few)),
       (
-        shared-is _ _ (filled .lower-bounds .last .1 .1 .1 .1 .1 .0) (lows-hold (filled .before .before)) (filled .lower-bounds .kept .1 .1 .1 .1 .1 .0) ∙ bounded filled,
-        shared-is _ _ (ranked .rank .last .1 .0) (order-hold (ranked .before .before .before .before)) (ranked .rank .kept .1 .0) ∙ ordered ranked,
+        s .pre .0,
+        sym (order-room (c .before .before)),
+        sym (words-room (c .before)),
+        s .pre .1,
       ),
+      shared-is _ _ (filled .lower-bounds .last .1 .1 .1 .1 .1 .0) (lows-hold (filled .before .before))
+          (filled .lower-bounds .kept .1 .1 .1 .1 .1 .0)
+          ∙ bounded filled,
     )
 
 pub search-ready-spec : {M : Type 1} → statement M
@@ -96,16 +70,9 @@ search-ready-spec =
     lows-within
     (λ c. sym (length-take-le _ _ (lows-within (c .before))))
     order-hold
-    (λ c. sym (length-take-le _ _ (order-hold (c .before))))
-    sorted-hold
-    (λ c. sym (length-take-le _ _ (sorted-hold (c .before))))
-    (λ c. search needs)
-    rank-requires
-    (λ c. lows-within (c .before .before .before .before .before .before .before .before))
-    (λ c. sym (length-take-le _ _ (lows-within (c .before .before .before .before .before .before .before .before .before))))
-    order-within
-    (λ c. sym (length-take-le _ _ (order-within (c .before))))
-    (λ c. sym (c .before .before .before .before .before .before .before .rank .kept .1 .1 .1 .0))
-    search-ranked-requires
-    (λ c. c .before .before .before .search-ranked .kept .1 .1 .1 .1 .1 .1 .1 .0)
-    (λ c. c .before .before .before .search-ranked .ensures))
+    order-room
+    words-hold
+    words-room
+    search-bounded-requires
+    (λ c. c .before .before .before .before .before .search-bounded .kept .1 .1 .1 .1 .1 .1 .1 .1 .0)
+    (λ c. c .before .before .before .before .before .search-bounded .ensures))

@@ -6,8 +6,6 @@ use native.Mathlib.Omega.{arith}
 use lib.ListN.{length, take}
 use lib.Seq.{length-take-le}
 use borrow.Author.Needs.{needs}
-use borrow.Author.Tests.{le-leb, le-ltb, eq-eqb}
-use Rattle.refusal.specs.declared.Verdict.the-variants.{Accepted}
 use Rattle.refusal.specs.First.{first, outcome, outcome-accepted}
 use Rattle.limits.specs.Limits.{maxVectors}
 use Rattle.limits.specs.Tests.{Neighbours}
@@ -16,7 +14,7 @@ use Rattle.order.specs.Pairs.{pairsOf}
 use Rattle.order.specs.Rank.{keyAt, ranking}
 use Rattle.order.proofs.Prefix.{back-within, shared-is}
 use Rattle.selection.specs.Reading.{scan}
-use Rattle.least.specs.Selected.{leastCauses}
+use Rattle.least.specs.Selected.{leastCauses, none-refuses}
 use Rattle.distance.specs.Values.{valuesFrom, values-length}
 use Rattle.entries.specs.Entries.{entriesOf, inArray}
 use Rattle.scan.specs.Scanning.{distancesOf}
@@ -47,20 +45,6 @@ numbers-within c =
     back-within _ _ (chosen .select .last .1 .0) (numbers-hold (chosen .before .before .before .before)) (chosen .select .kept .1 .0)
 
 -- the least of n keys are selected, and their pairs are the scan's
-accepted : (m n numbers least words : ℕ) → m ≡ n → n ≤ maxVectors → 1 ≤ numbers → numbers ≤ n → least ≡ numbers → numbers ≤ words
-    → first (leastCauses m numbers least words) ≡ Accepted
-unfolding first
-accepted m n numbers least words all few some enough same room =
-    rw (
-      all,
-      le-leb 1 n (omega arith),
-      le-leb n maxVectors few,
-      le-leb 1 numbers some,
-      le-leb numbers n enough,
-      eq-eqb least numbers same,
-      le-ltb words numbers room,
-    )
-
 selected : (f : ℕ → ℕ) (n k : ℕ) (keys numbers least old-numbers old-least : List ℕ) (room more words : ℕ) → n ≤ maxVectors
     → Neighbours n k
     → keys ≡ valuesFrom f 0 n
@@ -68,8 +52,9 @@ selected : (f : ℕ → ℕ) (n k : ℕ) (keys numbers least old-numbers old-lea
     → least ≡ outcome (first (leastCauses (length keys) room more words)) (map (keyAt keys) (take room (ranking keys))) (λ _. old-least)
     → room ≡ k → more ≡ k → k ≤ words → pairsOf least numbers ≡ scan k f (countFrom 0 n)
 selected f n k keys numbers least old-numbers old-least room more words few among are numbers-are least-are of-numbers of-least of-words =
+    let count : length keys ≡ n = ap length are ∙ values-length f 0 n in
     let none =
-    accepted (length keys) n room more words (ap length are ∙ values-length f 0 n) few (omega (arith, of-numbers, among .some))
+    none-refuses (length keys) room more words (omega arith) (omega (arith, of-numbers, among .some))
     (omega (arith, of-numbers, among .enough))
     (omega (arith, of-numbers, of-least))
     (omega (arith, of-numbers, of-words)) in

@@ -6,8 +6,8 @@ use Prim.Native.Nat.{ℕ, _+_, _-_, _≤_, _<_}
 use native.Mathlib.Numerals.{add-one}
 use native.Mathlib.Omega.{arith}
 use lib.IntN.{ℤ}
-use lib.ListN.{length, take, getD, set}
-use lib.Seq.{length-take-le, take-suc}
+use lib.ListN.{length, take, getD, set, length-take}
+use lib.Seq.{length-take-le, take-suc, getD-take}
 use borrow.Author.Needs.{needs}
 use Rattle.order.specs.Counted.{counted-length}
 use Rattle.order.specs.Ranking.{ranked-count}
@@ -43,7 +43,11 @@ module _ {l : Index} {query : List ℤ} {k : ℕ} (is : Ready l query k) {keys b
     finish : k ≤ done → FirstReads l query k true keys best
     finish all =
         let same : done ≡ k = omega (arith, at .within) in
-        record { inside = λ _. rw same at (at .inside); gathered = λ _. rw same at (at .gathers); outside = λ none. absurd (true≢false none) }
+        record {
+          inside = λ _. rw same at (at .inside);
+          gathered = λ _. rw same at (at .gathers);
+          outside = λ none. absurd (true≢false none);
+        }
 
     module _ (more : done < k) (number : ℕ) (its : number ≡ getD (readingOrder (lowIn l query) (numbersIn l)) done 0) where
       below : number < l .n
@@ -89,11 +93,6 @@ loop-holds c =
     let pre = c .before .before .before .before .pre .0 in
     begin (pre .0) (pre .1) (pre .2)
 
-order-length : (s : tie.Start Inv-loop μ-loop) → length (s .args .order .now) ≡ s .args .terms .n
-order-length s =
-    ap length (s .pre .1) ∙ ranked-count (lowIn (given s) (s .args .query .now)) (numbersIn (given s))
-    ∙ counted-length 0 (s .args .terms .n)
-
 -- where the next number is looked up
 abbrev entry : tie.After-shared-slice-known3 Inv-loop μ-loop → tie.Start Inv-loop μ-loop
 entry c = c .before .before .before .before .before .before .before
@@ -101,7 +100,27 @@ entry c = c .before .before .before .before .before .before .before
 -- the number that is read next
 its-number : (c : tie.After-shared-slice-known3 Inv-loop μ-loop) → let s = entry c in let done = c .before .before .loop .done in
     getD (s .args .order .now) done 0 ≡ getD (readingOrder (lowIn (given s) (s .args .query .now)) (numbersIn (given s))) done 0
-its-number c = ap (λ (o : List ℕ). getD o (c .before .before .loop .done) 0) (entry c .pre .1)
+its-number c =
+    let s = entry c in
+    let k = s .args .terms .k in
+    let done = c .before .before .loop .done in
+    let order = readingOrder (lowIn (given s) (s .args .query .now)) (numbersIn (given s)) in
+    sym (getD-take k (s .args .order .now) done 0 (c .before .loop-test .taken))
+    ∙ ap (λ (o : List ℕ). getD o done 0) (s .pre .1)
+    ∙ getD-take k order done 0 (c .before .loop-test .taken)
+
+-- there is one
+order-long : (s : tie.Start Inv-loop μ-loop) → s .args .terms .k ≤ length (s .args .order .now)
+order-long s =
+    let k = s .args .terms .k in
+    let order = readingOrder (lowIn (given s) (s .args .query .now)) (numbersIn (given s)) in
+    omega (
+      arith,
+      sym (length-take k (s .args .order .now)) ∙ ap length (s .pre .1) ∙ length-take k order,
+      ranked-count (lowIn (given s) (s .args .query .now)) (numbersIn (given s)),
+      counted-length 0 (s .args .terms .n),
+      s .pre .0 .0 .enough,
+    )
 
 is-below : (c : tie.After-shared-slice-known3 Inv-loop μ-loop)
     → getD (entry c .args .order .now) (c .before .before .loop .done) 0 < entry c .args .terms .n
@@ -132,7 +151,7 @@ read-first-spec =
     μ-loop
     loop-holds
     (λ c. search needs)
-    (λ c. omega (arith, order-length (entry c), entry c .pre .0 .0 .enough))
+    (λ c. omega (arith, order-long (entry c)))
     (λ c κs. (entry c .pre .0 .0, is-below c))
     (λ c. search needs)
     (λ c. search needs)

@@ -1,5 +1,5 @@
 -- `read_rest` meets its contract: the laws of a loop that reads, and of the cells of the vectors read. Assumes nothing.
-use mathlib.Core.Path.{_≡_, sym, ap, _∙_}
+use mathlib.Core.Path.{_≡_, refl, sym, ap, _∙_}
 use mathlib.Core.Bool.{Bool, true, false}
 use mathlib.Core.List.{List}
 use Prim.Native.Nat.{ℕ, suc, _+_, _-_, _≤_, _<_}
@@ -11,34 +11,36 @@ use lib.Seq.{length-take-le, take-all}
 use borrow.Author.Needs.{needs}
 use borrow.Author.Tests.{not-true, not-false}
 use Rattle.refusal.specs.declared.Refusal.the-variants.{Cell}
-use Rattle.order.specs.Pair.{pairOf}
+use Rattle.limits.specs.Limits.{maxVectors}
+use Rattle.order.specs.Pair.{pairOf, ranked}
 use Rattle.order.specs.Pairs.{pair, pairsOf}
-use Rattle.order.specs.Rank.{keyAt}
 use Rattle.order.specs.Counted.{counted-length}
 use Rattle.order.specs.Ranking.{ranked-count}
 use Rattle.selection.specs.Reading.{readingOrder, goesOn}
-use Rattle.selection.specs.Loop.{after, reached-next, reached-stop, reached-end, full-after}
+use Rattle.selection.specs.Loop.{Ends, after, reached-next, reached-stop, full-after}
 use Rattle.best_pairs.specs.Kept.{Keeps}
 use Rattle.best_pairs.specs.Holds.{holds-keys, holds-numbers, arrays-goes-on, arrays-next}
 use Rattle.search.specs.declared.Searched.the-variants.{Read, Refused}
 use Rattle.search.specs.Search.{Index, numbersIn, distanceIn, lowIn, inOwnCell, searched}
-use Rattle.distance.specs.Values.{valuesFrom, values-length, value-at}
 use Rattle.search.specs.Ready.{indexOf, Ready, ordered-below}
-use Rattle.least_reading.specs.Answered.{Reads, HasRead, afterReads, next-in-cell, next-outside}
+use Rattle.least_reading.specs.Aligned.{Aligned, front-is, order-room, number-at, low-at}
+use Rattle.least_reading.specs.Answered.{Reads, HasRead, afterReads, reads-outside, next-in-cell, next-outside}
 use Rattle.least_reading.specs.declared.reading.VectorRead.the-variants.{Distance, Outside}
 use Rattle.least_reading.specs.Vector.{vectorRead, tells-distance, tells-outside}
 use Rattle.least_reading.proofs.reading.read_rest.Statement.{statement}
 use Rattle.least_reading.proofs.reading.read_rest.Tie as tie
 
 abbrev Inv-loop : tie.InvT-loop
-Inv-loop terms query marks codes vectors lows order keys₀ best₀ n k done₀ keys best done =
-    (terms .k ≤ done) × HasRead (indexOf terms marks codes vectors) query (terms .k) done keys best
+Inv-loop terms query marks codes vectors lows order keys₀ best₀ k end done₀ keys best done =
+    (terms .k ≤ done) × (done ≤ terms .k + length lows) × HasRead (indexOf terms marks codes vectors) query (terms .k) done keys best
 
 abbrev μ-loop : tie.MeasureT-loop
-μ-loop terms query marks codes vectors lows order keys₀ best₀ n k done₀ keys best done = terms .n - done
+μ-loop terms query marks codes vectors lows order keys₀ best₀ k end done₀ keys best done = terms .k + length lows - done
 
-module _ {l : Index} {query : List ℤ} {k : ℕ} (is : Ready l query k) {keys best : List ℕ} {done : ℕ}
-    (at : HasRead l query k done keys best) where
+module _ {l : Index} {query : List ℤ} {k : ℕ} (is : Ready l query k) {lows order : List ℕ}
+    (aligned : Aligned k (ranked (lowIn l query) (numbersIn l)) lows order)
+    (ends : Ends k (lowIn l query) (distanceIn l query) (numbersIn l) (k + length lows)) {keys best : List ℕ} {done : ℕ}
+    (at : HasRead l query k done keys best) (few : done ≤ k + length lows) where
   -- nothing more is read
   reads-count : length (afterReads l query k done .reads) ≡ done
   unfolding after
@@ -46,38 +48,46 @@ module _ {l : Index} {query : List ℤ} {k : ℕ} (is : Ready l query k) {keys b
       length-take-le done (readingOrder (lowIn l query) (numbersIn l))
       (omega (arith, at .within, ranked-count (lowIn l query) (numbersIn l), counted-length 0 (l .n)))
 
-  finish : searched l query k ≡ afterReads l query k done → Reads l query k (Read done) keys best
+  finish : searched l query k ≡ afterReads l query k done → Reads l query k (Read done) order keys best
+  unfolding after
   finish all = record {
     answer = rw (all, at .inside, reads-count);
+    reads-are = λ _. rw (all, reads-count) (front-is aligned done few);
     keys-are = λ _. rw all (sym (take-all k keys (omega (arith, at .holds .keys-room))) ∙ holds-keys (at .holds));
     numbers-are = λ _. rw all (sym (take-all k best (omega (arith, at .holds .numbers-room))) ∙ holds-numbers (at .holds));
   }
 
-  module _ (more : done < l .n) (number : ℕ) (its : number ≡ getD (readingOrder (lowIn l query) (numbersIn l)) done 0) where
+  module _ (more : done < k + length lows) (number : ℕ) (got : number ≡ getD order done 0) where
+    its : number ≡ getD (readingOrder (lowIn l query) (numbersIn l)) done 0
+    its = got ∙ number-at aligned done more
+
+    short : done < l .n
+    short = omega (arith, ends .within, counted-length 0 (l .n))
+
     below : number < l .n
-    below = rw its (ordered-below l (lowIn l query) done more)
+    below = rw its (ordered-below l (lowIn l query) done short)
 
     inside : done < length (numbersIn l)
-    inside = omega (arith, counted-length 0 (l .n))
+    inside = omega (arith, ends .within)
 
-    tested : (low : ℕ) → low ≡ keyAt (valuesFrom (lowIn l query) 0 (l .n)) number → {r : Bool} → r ≡ goesOn k (take k (pairsOf keys best)) (pair low number)
+    tested : k ≤ done → (low : ℕ) → low ≡ getD lows (done - k) 0 → {r : Bool} → r ≡ goesOn k (take k (pairsOf keys best)) (pair low number)
         → goesOn k (afterReads l query k done .best) (pairOf (lowIn l query) (getD (readingOrder (lowIn l query) (numbersIn l)) done 0)) ≡ r
-    tested low is-low test = arrays-goes-on _ _ _ _ _ (at .holds) (pair low number) its (is-low ∙ value-at (lowIn l query) (l .n) number below) test
+    tested behind low is-low test =
+        arrays-goes-on _ _ _ _ _ (at .holds) (pair low number) its
+        (is-low ∙ low-at (lowIn l query) (numbersIn l) aligned done behind more inside ∙ ap (lowIn l query) (sym its)) test
 
-    stop : goesOn k (afterReads l query k done .best) (pairOf (lowIn l query) (getD (readingOrder (lowIn l query) (numbersIn l)) done 0)) ≡ false
-        → Reads l query k (Read done) keys best
+    stop : goesOn k (afterReads l query k done .best) (pairOf (lowIn l query) (getD (readingOrder (lowIn l query) (numbersIn l)) done 0))
+        ≡ false
+        → Reads l query k (Read done) order keys best
     stop stops = finish (reached-stop _ _ _ _ _ (at .reached) inside stops)
 
-    module _ (goes : goesOn k (afterReads l query k done .best) (pairOf (lowIn l query) (getD (readingOrder (lowIn l query) (numbersIn l)) done 0)) ≡ true) where
-      outside : vectorRead l query number ≡ Outside → Reads l query k (Refused Cell) keys best
+    module _ (goes : goesOn k (afterReads l query k done .best)
+        (pairOf (lowIn l query) (getD (readingOrder (lowIn l query) (numbersIn l)) done 0)) ≡ true) where
+      outside : vectorRead l query number ≡ Outside → Reads l query k (Refused Cell) order keys best
       outside told =
-          let some-out = next-outside l query k done more (at .reached) goes
-          (sym (ap (inOwnCell l) its) ∙ tells-outside (inOwnCell l number) (distanceIn l query number) told) in
-          record {
-            answer = rw some-out;
-            keys-are = λ none. cc;
-            numbers-are = λ none. cc;
-          }
+          reads-outside order keys best
+          (next-outside l query k done short (at .reached) goes
+          (sym (ap (inOwnCell l) its) ∙ tells-outside (inOwnCell l number) (distanceIn l query number) told))
 
       turn : k ≤ done → (distance : ℕ) → vectorRead l query number ≡ Distance distance
           → {keys-then best-then : List ℕ} {r : ℕ} → Keeps keys best k (pair distance number) r keys-then best-then
@@ -85,13 +95,14 @@ module _ {l : Index} {query : List ℤ} {k : ℕ} (is : Ready l query k) {keys b
       turn full distance told {keys-then} {best-then} {r} keeps =
           let tells = tells-distance (inOwnCell l number) (distanceIn l query number) distance told in
           let holds = arrays-next _ _ _ _ _ (at .holds) (pair distance number) its (tells .is) inside keeps in
-          let same : r ≡ k = holds .counted ∙ full-after k (lowIn l query) (distanceIn l query) (numbersIn l) (suc done) (omega arith) inside in
+          let same : r ≡ k = holds .counted ∙ full-after k (lowIn l query) (distanceIn l query) (numbersIn l) (suc done) (omega arith)
+          inside in
           rw add-one
           (record {
-            within = omega arith;
+            within = omega (arith, short);
             reached = reached-next _ _ _ _ _ (at .reached) inside goes;
             holds = rw same at holds;
-            inside = next-in-cell l query k done more (at .inside) (sym (ap (inOwnCell l) its) ∙ tells .in-cell);
+            inside = next-in-cell l query k done short (at .inside) (sym (ap (inOwnCell l) its) ∙ tells .in-cell);
           })
 
 -- the library that was handed in
@@ -102,70 +113,77 @@ given s = indexOf (s .args .terms) (s .args .marks .now) (s .args .codes .now) (
 abbrev entry : tie.After-shared-slice-known4 Inv-loop μ-loop → tie.Start Inv-loop μ-loop
 entry c = c .before .before .before .before .before .before .before .before
 
-order-length : (s : tie.Start Inv-loop μ-loop) → length (s .args .order .now) ≡ s .args .terms .n
-order-length s =
-    ap length (s .pre .1 .1 .0) ∙ ranked-count (lowIn (given s) (s .args .query .now)) (numbersIn (given s))
-    ∙ counted-length 0 (s .args .terms .n)
-
--- the number that is read next
-its-number : (c : tie.After-shared-slice-known4 Inv-loop μ-loop) → let s = entry c in let done = c .before .before .loop .done in
-    getD (s .args .order .now) done 0 ≡ getD (readingOrder (lowIn (given s) (s .args .query .now)) (numbersIn (given s))) done 0
-its-number c = ap (λ (o : List ℕ). getD o (c .before .before .loop .done) 0) (entry c .pre .1 .1 .0)
-
 is-below : (c : tie.After-shared-slice-known4 Inv-loop μ-loop)
     → getD (entry c .args .order .now) (c .before .before .loop .done) 0 < entry c .args .terms .n
-is-below c = below (entry c .pre .0) (c .before .before .loop .inv .1) (c .before .loop-test .taken) _ (its-number c)
+is-below c =
+    let pre = entry c .pre in
+    let inv = c .before .before .loop .inv in
+    below (pre .0) (pre .1 .0) (pre .1 .1 .0) (inv .2) (inv .1) (c .before .loop-test .taken) _ refl
 
--- it has a low
-has-low : (c : tie.After-shared-slice-known4 Inv-loop μ-loop) → getD (entry c .args .order .now) (c .before .before .loop .done) 0 < length (entry c .args .lows .now)
-has-low c =
-    let s = entry c in
-    omega (arith, is-below c, ap length (s .pre .1 .0) ∙ values-length (lowIn (given s) (s .args .query .now)) 0 (s .args .terms .n))
+-- it stands in the order, as far as its low is known
+stands : (s : tie.Start Inv-loop μ-loop) → (s .args .terms .k + length (s .args .lows .now) ≤ length (s .args .order .now))
+    × (s .args .terms .k + length (s .args .lows .now) ≤ maxVectors)
+stands s =
+    let l = given s in
+    let counted = counted-length 0 (l .n) in (
+      order-room (s .pre .1 .0) (omega (arith, s .pre .1 .1 .0 .within, ranked-count (lowIn l (s .args .query .now)) (numbersIn l))),
+      omega (arith, s .pre .1 .1 .0 .within, counted, s .pre .0 .count),
+    )
 
 -- and whether it is read
-test : (c : tie.After-goes-on Inv-loop μ-loop) → let next = c .before .before .before .before in let s = entry next in let done = next .before .before .loop .done in
+test : (c : tie.After-goes-on Inv-loop μ-loop) → let next = c .before .before .before .before in let s = entry next in
+    let done = next .before .before .loop .done in
     goesOn (s .args .terms .k) (afterReads (given s) (s .args .query .now) (s .args .terms .k) done .best)
     (pairOf (lowIn (given s) (s .args .query .now))
     (getD (readingOrder (lowIn (given s) (s .args .query .now)) (numbersIn (given s))) done 0))
     ≡ c .goes-on .result
 test c =
     let next = c .before .before .before .before in
-    let s = entry next in
-    tested (s .pre .0) (next .before .before .loop .inv .1) (next .before .loop-test .taken) _ (its-number next) _
-    (ap (λ (ls : List ℕ). keyAt ls (getD (s .args .order .now) (next .before .before .loop .done) 0)) (s .pre .1 .0)) (c .goes-on .ensures)
+    let pre = entry next .pre in
+    let inv = next .before .before .loop .inv in
+    tested (pre .0) (pre .1 .0) (pre .1 .1 .0) (inv .2) (inv .1) (next .before .loop-test .taken) _ refl (inv .0) _ refl
+    (c .goes-on .ensures)
 
 returns : tie.Need-returns Inv-loop μ-loop
 returns c =
     let next = c .before .before .before .before .before in
-    stop (entry next .pre .0) (next .before .before .loop .inv .1) (next .before .loop-test .taken) _ (its-number next) (test (c .before) ∙ not-true _ (c .if1 .taken))
+    let pre = entry next .pre in
+    let inv = next .before .before .loop .inv in
+    stop (pre .0) (pre .1 .0) (pre .1 .1 .0) (inv .2) (inv .1) (next .before .loop-test .taken) _ refl
+    (test (c .before) ∙ not-true _ (c .if1 .taken))
 
 returns-2 : tie.Need-returns-2 Inv-loop μ-loop
 returns-2 c =
     let read = c .before .before in
-    let tested = read .before in
-    let next = tested .before .before .before .before .before in
-    outside (entry next .pre .0) (next .before .before .loop .inv .1) (next .before .loop-test .taken) _ (its-number next)
-    (test (tested .before) ∙ not-false _ (tested .if1 .left)) (sym (read .read-vector .ensures) ∙ c .enum-told .given .1)
+    let goes = read .before in
+    let next = goes .before .before .before .before .before in
+    let pre = entry next .pre in
+    let inv = next .before .before .loop .inv in
+    outside (pre .0) (pre .1 .0) (pre .1 .1 .0) (inv .2) (inv .1) (next .before .loop-test .taken) _ refl
+    (test (goes .before) ∙ not-false _ (goes .if1 .left)) (sym (read .read-vector .ensures) ∙ c .enum-told .given .1)
 
 loop-again : tie.Need-loop-again Inv-loop μ-loop
 loop-again c =
     let kept = c .before .before .before .before in
     let known = kept .before .before .before in
     let read = known .before .before .before in
-    let tested = read .before in
-    let next = tested .before .before .before .before .before in
-    let at = next .before .before .loop .inv in (
-      omega arith,
-      turn (entry next .pre .0) (at .1) (next .before .loop-test .taken) _ (its-number next)
-          (test (tested .before) ∙ not-false _ (tested .if1 .left)) (at .0)
+    let goes = read .before in
+    let next = goes .before .before .before .before .before in
+    let pre = entry next .pre in
+    let inv = next .before .before .loop .inv in (
+      omega (arith, inv .0),
+      omega (arith, next .before .loop-test .taken),
+      turn (pre .0) (pre .1 .0) (pre .1 .1 .0) (inv .2) (inv .1) (next .before .loop-test .taken) _ refl
+          (test (goes .before) ∙ not-false _ (goes .if1 .left)) (inv .0)
           _ (sym (read .read-vector .ensures) ∙ known .before .read .given .1) (kept .keep .ensures),
     )
 
 returns-3 : tie.Need-returns-3 Inv-loop μ-loop
 returns-3 c =
-    let start = c .before .before .before .before .before .before .before in
-    let at = c .before .loop .inv .1 in
-    finish (start .pre .0) at (reached-end _ _ _ _ _ (at .reached) (omega (arith, counted-length 0 (start .args .terms .n))))
+    let s = c .before .before .before .before .before .before .before in
+    let inv = c .before .loop .inv in
+    let all : c .before .loop .done ≡ s .args .terms .k + length (s .args .lows .now) = omega (arith, inv .1) in
+    finish (s .pre .0) (s .pre .1 .0) (s .pre .1 .1 .0) (inv .2) (inv .1) (rw all (s .pre .1 .1 .0 .whole (rw all at (inv .2 .reached))))
 
 pub read-rest-spec : {M : Type 1} → statement M
 read-rest-spec =
@@ -173,12 +191,13 @@ read-rest-spec =
     (tie.spec
     Inv-loop
     μ-loop
-    (λ c. (omega arith, c .before .before .before .before .before .pre .1 .1 .1))
-    (λ c. search needs)
-    (λ c. omega (arith, order-length (entry c)))
-    (λ c. omega (arith, has-low c))
-    (λ c. omega (arith, has-low c))
-    (λ c. has-low (c .before))
+    (λ c. omega (arith, stands (c .before .before .before .before .before)))
+    (λ c. (omega arith, omega arith, c .before .before .before .before .before .pre .1 .1 .1))
+    (λ c. omega (arith, stands (c .before .before .before .before .before .before .before), c .before .loop .inv .1))
+    (λ c. omega (arith, stands (entry c)))
+    (λ c. c .before .before .loop .inv .0)
+    (λ c. omega (arith, stands (entry c), c .before .before .loop .inv .1))
+    (λ c. omega (arith, c .before .before .before .loop .inv .0, c .before .before .loop-test .taken))
     (λ c κs. search needs)
     (λ c. search needs)
     (λ c. search needs)
@@ -190,8 +209,18 @@ read-rest-spec =
     (λ c. search needs)
     returns-2
     (λ c κs. search needs)
-    (λ c. search needs)
-    (λ c. search needs)
+    (λ c. omega (
+      arith,
+      stands (c .before .before .before .before .before .before .before .before .before .before .before .before .before
+          .before .before .before .before .before .before .before .before .before .before .before),
+      c .before .before .before .before .before
+          .before .before .before .before .before .before .before .before .before .before .before .before .before .loop .inv .1,
+    ))
+    (λ c. omega (
+      arith,
+      c .before .before .before .before .before .before .before .before .before .before .before .before .before .before
+          .before .before .before .loop-test .taken,
+    ))
     loop-again
     (λ c. search needs)
     (λ c. search needs)
