@@ -39,7 +39,7 @@ pub record Reached (k : ℕ) (low distance : ℕ → ℕ) (numbers : List ℕ) (
       ≡ read k low distance numbers
 
 -- so many reads are the most: a reading that comes so far ends there
-pub record Ends (k : ℕ) (low distance : ℕ → ℕ) (numbers : List ℕ) (end : ℕ) : Type 0 where
+pub record EndsBy (k : ℕ) (low distance : ℕ → ℕ) (numbers : List ℕ) (end : ℕ) : Type 0 where
   pub behind : k ≤ end
   pub within : end ≤ length numbers
   pub whole : Reached k low distance numbers end → read k low distance numbers ≡ after k low distance numbers end
@@ -57,7 +57,7 @@ module _ (k : ℕ) (low distance : ℕ → ℕ) (numbers : List ℕ) where
       record {
         rest =
             rw (keyed-ranked low numbers) (ap (λ (b : List Pair). reading k distance (ranked low numbers) (record { best = b; reads = [] }))
-                (sym (unread-best k distance)));
+            (sym (unread-best k distance)));
       }
 
   module _ (done : ℕ) (reached : Reached k low distance numbers done) where
@@ -72,8 +72,10 @@ module _ (k : ℕ) (low distance : ℕ → ℕ) (numbers : List ℕ) where
         → goesOn k ((after k low distance numbers done) .best) (pairOf low (getD (readingOrder low numbers) done 0)) ≡ true
         → Reached k low distance numbers (suc done)
     reached-next more goes =
-        record { rest = rw (after-next done more)
-            (rw (reading-goes-on k distance _ _ (after k low distance numbers done) goes) at (rest-split more)) }
+        record {
+          rest = rw (after-next done more)
+              (rw (reading-goes-on k distance _ _ (after k low distance numbers done) goes) at (rest-split more));
+        }
 
     pub reached-stop : done < length numbers
         → goesOn k ((after k low distance numbers done) .best) (pairOf low (getD (readingOrder low numbers) done 0)) ≡ false
@@ -85,7 +87,7 @@ module _ (k : ℕ) (low distance : ℕ → ℕ) (numbers : List ℕ) where
     reached-end all =
         sym (rw (drop-of-length-le (readingOrder low numbers) {i = done} (omega (arith, ranked-count low numbers))) at (reached .rest))
 
-  pub ends-all : k ≤ length numbers → Ends k low distance numbers (length numbers)
+  pub ends-all : k ≤ length numbers → EndsBy k low distance numbers (length numbers)
   ends-all enough =
       record { behind = enough; within = omega arith; whole = λ reached. reached-end (length numbers) reached (omega arith) }
 

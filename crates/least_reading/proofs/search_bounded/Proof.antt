@@ -9,8 +9,7 @@ use lib.IntN.{ℤ}
 use lib.ListN.{length, take, drop}
 use lib.Seq.{length-take-le, take-at}
 use Rattle.refusal.specs.declared.Refusal.the-variants.{Cell}
-use Rattle.refusal.specs.First.{first, outcome-accepted, outcome-refused}
-use Rattle.order.specs.Pair.{Pair}
+use Rattle.refusal.specs.First.{first, outcome-accepted}
 use Rattle.order.specs.Pairs.{pairsOf, pairs-both}
 use Rattle.order.specs.Counted.{counted-length}
 use Rattle.order.proofs.Prefix.{back-within}
@@ -23,8 +22,15 @@ use Rattle.search.specs.Answer.{searchedCount, foundCount}
 use Rattle.search.specs.Search.{Index, numbersIn, distanceIn, lowIn, inOwnCells, searched}
 use Rattle.search.specs.Ready.{indexOf}
 use Rattle.least_reading.specs.Answered.{Reads}
-use Rattle.least_reading.specs.Searching.{Searches, cellCauses, searches-none, tells-read, tells-refused, cells-accepted,
-    cells-refused}
+use Rattle.least_reading.specs.Searching.{
+  Searches,
+  cellCauses,
+  searches-none,
+  tells-read,
+  tells-refused,
+  cells-accepted,
+  cells-refused,
+}
 use Rattle.least_reading.proofs.search_bounded.Statement.{statement}
 use Rattle.least_reading.proofs.search_bounded.Tie as tie
 
@@ -98,7 +104,7 @@ put-numbers-requires c κs =
     let read = counted .before .before .before .before .before .before .before .before in
     let s = read .before .before .before .before .before .before .before .before .before .before in
     let most = count-most (given s) (s .args .query .now) (s .args .terms .k) (read .read-in-order .last .1 .1 .1 .1 .1 .1 .1 .0)
-        (read .read-in-order .result) (read .read-in-order .ensures) in (
+    (read .read-in-order .result) (read .read-in-order .ensures) in (
       omega (arith, counted .read-count .ensures, most, read .read-in-order .kept .1 .1 .1 .1 .1 .1 .0, s .pre .0 .1),
       omega (arith, counted .read-count .ensures, most, s .pre .0 .3),
     )
@@ -118,9 +124,15 @@ kept-few c =
 words-within : tie.Need-slice-reshare-prefix-entries-of
 words-within c =
     let s = c .before .before .before .before .before .before .before .before .before .before .before .before .before .before .before
-        .before .before .before .before .before .before .before .before .before in
-    omega (arith, kept-few c, c .before .before .before .before .before .before .before .before .before .before .before .before .before
-        .before .read-in-order .kept .1 .1 .1 .1 .1 .1 .1 .0, s .pre .0 .2, s .pre .0 .0 .enough)
+    .before .before .before .before .before .before .before .before .before in
+    omega (
+      arith,
+      kept-few c,
+      c .before .before .before .before .before .before .before .before .before .before .before .before .before
+          .before .read-in-order .kept .1 .1 .1 .1 .1 .1 .1 .0,
+      s .pre .0 .2,
+      s .pre .0 .0 .enough,
+    )
 
 best-within : tie.Need-array-share-prefix-best
 best-within c =
@@ -141,7 +153,7 @@ returns c =
     let s = read .before .before .before .before .before .before .before .before .before .before in
     let a = s .args in
     answers (given s) (a .query .now) (a .terms .k) (read .read-in-order .last .1 .1 .1 .1 .1 .1 .1 .0) (read .read-in-order .result)
-        (read .read-in-order .ensures)
+    (read .read-in-order .ensures)
     (read .read-in-order .kept .1 .1 .1 .1 .1 .1 .1 .1 .0 ∙ sym (best-room (read .before))) _
     (written .put-numbers .ensures
     ∙ ap (λ (m : ℕ). take m (read .read-in-order .last .1 .1 .1 .1 .1 .1 .0) ++ drop m (a .reads .now)) (counted .read-count .ensures))
@@ -163,10 +175,10 @@ search-bounded-spec =
     (λ c. sym (length-take-le _ _ (best-within (c .before))))
     (λ c κs. tt)
     (λ c. c .before .before .before .before .before .before .before .before .before .before .before .before .before .before .before .before
-        .before .read-in-order .kept .1 .1 .1 .1 .1 .0)
+    .before .read-in-order .kept .1 .1 .1 .1 .1 .0)
     (λ c. c .before .before .before .before .before .before .before .before .before .before .before .before .before .before .before .before
-        .before .read-in-order .kept .1 .1 .1 .1 .1 .1 .0)
+    .before .read-in-order .kept .1 .1 .1 .1 .1 .1 .0)
     (λ c. c .before .before .before .before .before .before .before .before .before .before .before .before .before .before .before .before
-        .before .read-in-order .kept .1 .1 .1 .1 .1 .1 .1 .0)
+    .before .read-in-order .kept .1 .1 .1 .1 .1 .1 .1 .0)
     (λ c. c .before .before .before .before .before .before .put-numbers .kept .1 .1 .0)
     returns)

@@ -1,7 +1,6 @@
 -- `search_ready` meets its contract: the lower bounds are those of the codes' cells. Assumes nothing.
 use mathlib.Core.Path.{_≡_, sym, ap, _∙_}
 use Prim.Native.Nat.{ℕ}
-use lib.ListN.{take}
 use lib.Seq.{length-take-le}
 use Rattle.order.proofs.Prefix.{back-within, shared-is}
 use Rattle.distance.specs.Values.{valuesFrom}
@@ -43,7 +42,7 @@ bounded : (c : tie.After-lower-bounds) → let s = c .before .before .before .be
 bounded c =
     let s = c .before .before .before .before in
     c .lower-bounds .ensures ∙ ap (λ (m : ℕ). valuesFrom (lowIn (given s) (s .args .query .now)) 0 m)
-        (length-take-le _ _ (lows-hold (c .before .before)))
+    (length-take-le _ _ (lows-hold (c .before .before)))
 
 search-bounded-requires : tie.Need-search-bounded-requires
 search-bounded-requires c κs =

@@ -2,7 +2,7 @@
 use mathlib.Core.Path.{_≡_, refl, sym, ap, _∙_}
 use mathlib.Core.Bool.{Bool, true, false, cond}
 use mathlib.Core.List.{List, [], _∷_, _++_, map, append-nil}
-use Prim.Native.Nat.{ℕ, zero, suc, _+_, _-_, _≤_, _<_}
+use Prim.Native.Nat.{ℕ, suc, _+_, _-_, _≤_, _<_}
 use native.Mathlib.Numerals.{add-one}
 use native.Mathlib.Omega.{arith}
 use lib.ListN.{length, take, drop, getD, set, length-append, length-set}
@@ -129,19 +129,19 @@ module _ {test : Pair → Bool} {lows₀ : List ℕ} {room : ℕ} {lows numbers 
                 rw (front, map-snoc, its-low)
                 (write-next (map (keyAt lows₀) (take count numbers)) lows count (keyAt lows₀ i)
                 (sym (length-take-le count lows (omega (arith, at .few, at .same))) ∙ ap length (at .keys))
-                    (omega (arith, at .few, at .same)) (at .keys));
+                (omega (arith, at .few, at .same)) (at .keys));
             rest = rw (front, append-snoc) gathered;
           }
 
 -- what the test says of number i
 tested : (c : tie.After-is-candidate Inv-loop μ-loop) → let at = c .before .before .before in let s = at .before .before .before in
     isCandidate (pair (s .args .last) (s .args .last-number)) (pair (s .args .bound) (s .args .bound-number))
-        (pairOf (keyAt (s .args .lows .now)) (at .loop .i)) ≡ c .is-candidate .result
+    (pairOf (keyAt (s .args .lows .now)) (at .loop .i)) ≡ c .is-candidate .result
 tested c =
     let at = c .before .before .before in
     let s = at .before .before .before in
     ap (λ (low : ℕ). isCandidate (pair (s .args .last) (s .args .last-number)) (pair (s .args .bound) (s .args .bound-number))
-        (pair low (at .loop .i)))
+    (pair low (at .loop .i)))
     (sym (its-low (at .loop .inv) (c .before .before .loop-test .taken)))
     ∙ sym (c .is-candidate .ensures)
 

@@ -1,15 +1,14 @@
 -- `rank_candidates` meets its contract: what is gathered and sorted are the candidates. Assumes nothing.
-use mathlib.Core.Path.{_≡_, refl, sym, ap, ap₂, _∙_}
+use mathlib.Core.Path.{_≡_, sym, ap, ap₂, _∙_}
 use mathlib.Core.List.{List, _++_, map}
-use Prim.Native.Nat.{ℕ, _+_, _-_, _≤_, _<_}
+use Prim.Native.Nat.{ℕ, _+_, _-_, _≤_}
 use native.Mathlib.Omega.{arith}
 use lib.ListN.{length, take, drop, getD, length-drop, length-take, length-map}
 use lib.Seq.{length-take-le, length-front, take-at, drop-at, take-append-le, take-append-add}
-use borrow.Author.Needs.{needs}
 use borrow.Rule.Slice.PartMut.{putMid, take-put, same-len-mid}
 use Rattle.refusal.specs.First.{first, outcome}
 use Rattle.limits.specs.Limits.{maxVectors}
-use Rattle.order.specs.Pair.{Pair, sort, keyed, ranked, numbersOf, countFrom}
+use Rattle.order.specs.Pair.{Pair, sort, ranked, numbersOf, countFrom}
 use Rattle.order.specs.Pairs.{pair, pairsOf, keysOf, numbersOf-map}
 use Rattle.order.specs.Rank.{keyAt, pairCauses, sort-leaves}
 use Rattle.order.specs.Counted.{counted-length, counted-distinct}
@@ -167,12 +166,14 @@ order-holds : (c : tie.After-sort-arg) → let gathered = c .before .before .bef
     .before .before .before .before .before .before .before .before in let a = s .args in
     let k = length (a .best .now) in
     (k + gathered .gather .result ≤ length
-        (putMid k (length (a .order .now) - k) (a .order .now) (gathered .gather .last .1 .1 .1 .1 .1 .0)))
-        × (length (a .lows .now) ≤ maxVectors)
+    (putMid k (length (a .order .now) - k) (a .order .now) (gathered .gather .last .1 .1 .1 .1 .1 .0)))
+    × (length (a .lows .now) ≤ maxVectors)
 order-holds c =
-    let gathered = c .before .before .before .before .before in
-    (omega (arith, count-fits gathered, order-long gathered), gathered .before .before .before .before .before .before .before .before
-        .before .before .pre .0 .2)
+    let gathered = c .before .before .before .before .before in (
+      omega (arith, count-fits gathered, order-long gathered),
+      gathered .before .before .before .before .before .before .before .before
+          .before .before .pre .0 .2,
+    )
 
 -- the slices keep their lengths
 lows-back : tie.Need-same-length
@@ -198,7 +199,7 @@ words-back : tie.Need-same-length-3
 words-back c =
     let done = c .before .before .before .before .before .before in
     let s = done .before .before .before .before .before .before .before .before .before .before .before .before .before .before .before
-        .before .before .before in
+    .before .before .before in
     let k = length (s .args .best .now) in
     same-len-mid k (length (s .args .words .now) - k) (s .args .words .now) (done .sort .last .1 .1 .0) (done .sort .kept .1 .1 .0)
 
@@ -217,11 +218,11 @@ returns c =
     let r = gathered .gather .result in
     let are-keys =
     of-sorted (a .lows .now) k (a .last) number bound (s .pre .0 .0) (s .pre .0 .1) (s .pre .1) (a .order .now) (a .words .now)
-        (s .pre .0 .3)
+    (s .pre .0 .3)
     (s .pre .0 .4) lows₁ numbers₁ r (gathered .gather .ensures) room keysOf _ (done .sort .ensures .1 .0) in
     let are-numbers =
     of-sorted (a .lows .now) k (a .last) number bound (s .pre .0 .0) (s .pre .0 .1) (s .pre .1) (a .order .now) (a .words .now)
-        (s .pre .0 .3)
+    (s .pre .0 .3)
     (s .pre .0 .4) lows₁ numbers₁ r (gathered .gather .ensures) room numbersOf _ (done .sort .ensures .1 .1) in
     answer (a .lows .now) k (a .last) number bound (s .pre .0 .0) (s .pre .0 .1) (s .pre .1) (a .order .now) (a .words .now) (s .pre .0 .3)
     (s .pre .0 .4) lows₁ numbers₁ r (gathered .gather .ensures) room (done .sort .last .1 .1 .0) are-keys are-numbers
@@ -246,21 +247,41 @@ rank-candidates-spec =
     gather-requires
     lows-hold
     (λ c. sym (length-take-le _ _ (lows-hold (c .before))))
-    (λ c. omega (arith, count-fits (c .before .before .before .before .before), c .before .before .before .before .before .before .before
-        .before .before .before .before .before .before .before .before .pre .0))
-    (λ c. omega (arith, count-fits (c .before .before .before .before .before), c .before .before .before .before .before .before .before
-        .before .before .before .before .before .before .before .before .pre .0))
+    (λ c. omega (
+      arith,
+      count-fits (c .before .before .before .before .before),
+      c .before .before .before .before .before .before .before
+          .before .before .before .before .before .before .before .before .pre .0,
+    ))
+    (λ c. omega (
+      arith,
+      count-fits (c .before .before .before .before .before),
+      c .before .before .before .before .before .before .before
+          .before .before .before .before .before .before .before .before .pre .0,
+    ))
     (λ c. omega arith)
     (λ c. omega (arith, order-holds c))
     (λ c. omega (arith, order-holds c))
-    (λ c. omega (arith, c .before .before .before .before .before .before .before .before .before .before .before .before .before .before
-        .before .before .pre .0))
-    (λ c. omega (arith, c .before .before .before .before .before .before .before .before .before .before .before .before .before .before
-        .before .before .pre .0))
-    (λ c. omega (arith, c .before .before .before .before .before .before .before .before .before .before .before .before .before .before
-        .before .before .pre .0))
-    (λ c. omega (arith, c .before .before .before .before .before .before .before .before .before .before .before .before .before .before
-        .before .before .pre .0))
+    (λ c. omega (
+      arith,
+      c .before .before .before .before .before .before .before .before .before .before .before .before .before .before
+          .before .before .pre .0,
+    ))
+    (λ c. omega (
+      arith,
+      c .before .before .before .before .before .before .before .before .before .before .before .before .before .before
+          .before .before .pre .0,
+    ))
+    (λ c. omega (
+      arith,
+      c .before .before .before .before .before .before .before .before .before .before .before .before .before .before
+          .before .before .pre .0,
+    ))
+    (λ c. omega (
+      arith,
+      c .before .before .before .before .before .before .before .before .before .before .before .before .before .before
+          .before .before .pre .0,
+    ))
     (λ c κs. tt)
     lows-back
     order-back

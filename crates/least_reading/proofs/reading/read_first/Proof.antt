@@ -43,8 +43,11 @@ module _ {l : Index} {query : List ℤ} {k : ℕ} (is : Ready l query k) {keys b
     finish : k ≤ done → FirstReads l query k true keys best
     finish all =
         let same : done ≡ k = omega (arith, at .within) in
-        record { inside = λ _. rw same at (at .inside); gathered = λ _. rw same at (at .gathers); outside = λ none. absurd (true≢false none)
-            }
+        record {
+          inside = λ _. rw same at (at .inside);
+          gathered = λ _. rw same at (at .gathers);
+          outside = λ none. absurd (true≢false none);
+        }
 
     module _ (more : done < k) (number : ℕ) (its : number ≡ getD (readingOrder (lowIn l query) (numbersIn l)) done 0) where
       below : number < l .n

@@ -1,5 +1,5 @@
 -- `read_ranked` meets its contract: the sorted numbers are the reading order, and all of it can be read. Assumes nothing.
-use mathlib.Core.Path.{_≡_, refl, sym, ap, _∙_}
+use mathlib.Core.Path.{_≡_, sym, ap, _∙_}
 use mathlib.Core.List.{List, _++_}
 use Prim.Native.Nat.{ℕ, _+_, _-_, _≤_}
 use native.Mathlib.Omega.{arith}
@@ -14,10 +14,10 @@ use Rattle.order.specs.Pairs.{pairsOf, keysOf}
 use Rattle.order.specs.Counted.{counted-length}
 use Rattle.order.specs.Insertion.{length-ranked}
 use Rattle.order.specs.Rank.{pairCauses, sort-leaves}
-use Rattle.selection.specs.Loop.{Ends, ends-all}
+use Rattle.selection.specs.Loop.{EndsBy, ends-all}
 use Rattle.scan.specs.Ranked.{values-sorted}
 use Rattle.search.specs.Search.{Index, numbersIn, distanceIn, lowIn}
-use Rattle.search.specs.Ready.{indexOf, Ready}
+use Rattle.search.specs.Ready.{indexOf}
 use Rattle.least_reading.specs.Aligned.{Aligned, aligned-all}
 use Rattle.least_reading.specs.Answered.{Lent, HasRead, lows-room, reads-front, first-sorted, first-outside}
 use Rattle.least_reading.proofs.reading.read_ranked.Statement.{statement}
@@ -63,7 +63,7 @@ module _ {l : Index} {query : List ℤ} {k : ℕ} {lows order words best : List 
         order₂
     aligned = aligned-all of-order (behind ∙ ap (drop k) of-lows)
 
-    ends : Ends k (lowIn l query) (distanceIn l query) (numbersIn l)
+    ends : EndsBy k (lowIn l query) (distanceIn l query) (numbersIn l)
         (k + length (take (length (back ++ drop k lows₂) - k) (drop k (back ++ drop k lows₂))))
     ends =
         let enough : k ≤ length (numbersIn l) = omega (arith, lent .ready .enough, counted-length 0 (l .n)) in
@@ -122,8 +122,8 @@ words-back c =
     let read = c .before .before .before .before .before in
     let done = read .before .before .before .before .before .before .before .before .before .before in
     length-front (done .sort .last .1 .1 .0) (read .read-first .last .1 .1 .1 .1 .1 .1 .0)
-        (done .before .before .before .before .before .before .before .before .before .before .before .before .before .args .terms .k)
-        (read .read-first .kept .1 .1 .1 .1 .1 .1 .0)
+    (done .before .before .before .before .before .before .before .before .before .before .before .before .before .args .terms .k)
+    (read .read-first .kept .1 .1 .1 .1 .1 .1 .0)
     ∙ done .sort .kept .1 .1 .0
 
 returns : tie.Need-returns
@@ -144,7 +144,7 @@ words-hold-2 c =
 lows-hold : tie.Need-slice-relend-prefix-sort-2
 lows-hold c =
     let done = c .before .before .before .before .before .before .before .before .before .before .before .before .before .before .before
-        .before .before in
+    .before .before in
     let lent = done .before .before .before .before .before .before .before .before .before .before .before .before .before .pre in
     omega (arith, done .sort .kept .0, lent .ready .enough, lows-room lent)
 
@@ -195,23 +195,28 @@ module _ (c : tie.After-sort2) where
       let room = length-take-le _ _ (lows-hold (c .before .before)) in
       first-sorted (read .read-first .ensures) (s .pre .ready) (not-false _ (c .before .before .before .before .if1 .left))
       (front-sorted keysOf (read .read-first .last .1 .1 .1 .1 .1 .1 .0) (read .read-first .last .1 .1 .1 .1 .1 .1 .1 .0) _ _
-          (s .args .terms .k) _ (keys-long read) (best-long read) room (c .sort2 .ensures .1 .0))
+      (s .args .terms .k) _ (keys-long read) (best-long read) room (c .sort2 .ensures .1 .0))
       (front-sorted numbersOf (read .read-first .last .1 .1 .1 .1 .1 .1 .0) (read .read-first .last .1 .1 .1 .1 .1 .1 .1 .0) _ _
-          (s .args .terms .k) _ (keys-long read) (best-long read) room (c .sort2 .ensures .1 .1))
+      (s .args .terms .k) _ (keys-long read) (best-long read) room (c .sort2 .ensures .1 .1))
 
 words-hold-3 : tie.Need-slice-relend-prefix-read-rest
 words-hold-3 c =
     let s = c .before .before .before .before .before .before .before .before .before .before .before .before .before .before .before
-        .before .before .before .before .before .before .before .before .before .before .before .before .before .before .before .before
-        .before .before .before .before .before .before .before .before .before .before in
-    omega (arith, words-long (c .before .before .before .before .before .before .before .before .before), s .pre .words-room, s .pre .ready
-        .enough)
+    .before .before .before .before .before .before .before .before .before .before .before .before .before .before .before .before
+    .before .before .before .before .before .before .before .before .before .before in
+    omega (
+      arith,
+      words-long (c .before .before .before .before .before .before .before .before .before),
+      s .pre .words-room,
+      s .pre .ready
+          .enough,
+    )
 
 read-rest-requires : tie.Need-read-rest-requires
 read-rest-requires c κs =
     let best = c .before .before .before .before .before .before .before .before .before .before .before in
     let done = best .before .before .before .before .before .before .before .before .before .before .before .before .before .before .before
-        .before .before .before .before in
+    .before .before .before .before in
     let lent = done .before .before .before .before .before .before .before .before .before .before .before .before .before .pre in (
       lent .ready,
       (
@@ -228,7 +233,7 @@ words-back-2 c =
     let rest = c .before .before .before .before in
     let best = rest .before .before .before .before .before .before .before .before .before .before .before .before in
     length-front (best .sort2 .last .0 ++ drop (start best .args .terms .k) (words₂ best)) (rest .read-rest .last .1 .1 .1 .1 .1 .1 .1 .0)
-        (start best .args .terms .k) (rest .read-rest .kept .1 .1 .1 .1 .1 .1 .1 .0)
+    (start best .args .terms .k) (rest .read-rest .kept .1 .1 .1 .1 .1 .1 .1 .0)
     ∙ words-long best
 
 best-back : tie.Need-same-length-8
@@ -242,14 +247,18 @@ returns-2 : tie.Need-returns-2
 returns-2 c =
     let rest = c .before .before .before .before in
     reads-front _ (rest .read-rest .ensures)
-        (rest .read-rest .kept .1 .1 .1 .1 .1 .1 .1 .0 ∙ length-take-le _ _ (words-hold-3 (rest .before .before .before)))
+    (rest .read-rest .kept .1 .1 .1 .1 .1 .1 .1 .0 ∙ length-take-le _ _ (words-hold-3 (rest .before .before .before)))
 
 pub read-ranked-spec : {M : Type 1} → statement M
 read-ranked-spec =
     tie.close
     (tie.spec
-    (λ c κs. omega (arith, c .before .before .before .before .before .before .pre .order-room, c .before .before .before .before .before
-        .before .pre .ready .count))
+    (λ c κs. omega (
+      arith,
+      c .before .before .before .before .before .before .pre .order-room,
+      c .before .before .before .before .before
+          .before .pre .ready .count,
+    ))
     (λ c κs. tt)
     words-hold
     (λ c. sym (length-take-le _ _ (words-hold (c .before))))
@@ -264,43 +273,62 @@ read-ranked-spec =
     lows-hold
     (λ c. sym (length-take-le _ _ (lows-hold (c .before))))
     (λ c κs. tt)
-    (λ c. omega (arith, c .before .before .before .before .before .before .before .before .before .before .before .before .before .before
-        .before .before .before .before .before .before .before .before .before .before .before .before .before .before .before .before
-        .before .before .before .before .before .before .before .before .pre .ready .enough, c .before .before .before .before .before
-        .before .before .before .before .before .before .before .before .before .before .before .before .before .before .before .before
-        .before .before .before .before .before .before .before .before .before .before .before .before .before .before .before .before
-        .before .pre .ready .count))
-    (λ c. omega (arith, lows-long (c .before .before .before .before .before .before), lows-room
-        (c .before .before .before .before .before .before .before .before .before .before .before .before .before .before .before .before
-        .before .before .before .before .before .before .before .before .before .before .before .before .before .before .before .before
-        .before .before .before .before .before .before .pre), c .before .before .before .before .before .before .before .before .before
-        .before .before .before .before .before .before .before .before .before .before .before .before .before .before .before .before
-        .before .before .before .before .before .before .before .before .before .before .before .before .before .pre .ready .enough))
-    (λ c. omega (arith, lows-long (c .before .before .before .before .before .before .before), lows-room
-        (c .before .before .before .before .before .before .before .before .before .before .before .before .before .before .before .before
-        .before .before .before .before .before .before .before .before .before .before .before .before .before .before .before .before
-        .before .before .before .before .before .before .before .pre), c .before .before .before .before .before .before .before .before
-        .before .before .before .before .before .before .before .before .before .before .before .before .before .before .before .before
-        .before .before .before .before .before .before .before .before .before .before .before .before .before .before .before .pre .ready
-        .enough))
-    (λ c. omega (arith, lows-long (c .before .before .before .before .before .before .before), lows-room
-        (c .before .before .before .before .before .before .before .before .before .before .before .before .before .before .before .before
-        .before .before .before .before .before .before .before .before .before .before .before .before .before .before .before .before
-        .before .before .before .before .before .before .before .pre), c .before .before .before .before .before .before .before .before
-        .before .before .before .before .before .before .before .before .before .before .before .before .before .before .before .before
-        .before .before .before .before .before .before .before .before .before .before .before .before .before .before .before .pre .ready
-        .enough))
+    (λ c. omega (
+      arith,
+      c .before .before .before .before .before .before .before .before .before .before .before .before .before .before
+          .before .before .before .before .before .before .before .before .before .before .before .before .before .before .before .before
+          .before .before .before .before .before .before .before .before .pre .ready .enough,
+      c .before .before .before .before .before
+          .before .before .before .before .before .before .before .before .before .before .before .before .before .before .before .before
+          .before .before .before .before .before .before .before .before .before .before .before .before .before .before .before .before
+          .before .pre .ready .count,
+    ))
+    (λ c. omega (
+      arith,
+      lows-long (c .before .before .before .before .before .before),
+      lows-room
+          (c .before .before .before .before .before .before .before .before .before .before .before .before .before .before .before .before
+          .before .before .before .before .before .before .before .before .before .before .before .before .before .before .before .before
+          .before .before .before .before .before .before .pre),
+      c .before .before .before .before .before .before .before .before .before
+          .before .before .before .before .before .before .before .before .before .before .before .before .before .before .before .before
+          .before .before .before .before .before .before .before .before .before .before .before .before .before .pre .ready .enough,
+    ))
+    (λ c. omega (
+      arith,
+      lows-long (c .before .before .before .before .before .before .before),
+      lows-room
+          (c .before .before .before .before .before .before .before .before .before .before .before .before .before .before .before .before
+          .before .before .before .before .before .before .before .before .before .before .before .before .before .before .before .before
+          .before .before .before .before .before .before .before .pre),
+      c .before .before .before .before .before .before .before .before
+          .before .before .before .before .before .before .before .before .before .before .before .before .before .before .before .before
+          .before .before .before .before .before .before .before .before .before .before .before .before .before .before .before .pre .ready
+          .enough,
+    ))
+    (λ c. omega (
+      arith,
+      lows-long (c .before .before .before .before .before .before .before),
+      lows-room
+          (c .before .before .before .before .before .before .before .before .before .before .before .before .before .before .before .before
+          .before .before .before .before .before .before .before .before .before .before .before .before .before .before .before .before
+          .before .before .before .before .before .before .before .pre),
+      c .before .before .before .before .before .before .before .before
+          .before .before .before .before .before .before .before .before .before .before .before .before .before .before .before .before
+          .before .before .before .before .before .before .before .before .before .before .before .before .before .before .before .pre .ready
+          .enough,
+    ))
     words-hold-3
     (λ c. sym (length-take-le _ _ (words-hold-3 (c .before))))
     read-rest-requires
     (λ c. lows-long (c .before .before .before .before .before .before .before .before .before .before .before .before .before .before
-        .before .before))
+    .before .before))
     (λ c. c .before .before .before .before .before .before .before .before .before .before .before .before .before .before .before .before
-        .before .before .before .before .before .before .before .before .before .before .before .before .before .before .before .before
-        .before .before .before .sort .kept .1 .0 ∙ c .before .before .before .before .before .before .before .before .before .before
-        .before .before .before .before .before .before .before .before .before .before .before .before .before .before .before .before
-        .before .before .before .before .before .before .before .before .before .before .before .before .before .before .before .count-up
-        .kept .0)
+    .before .before .before .before .before .before .before .before .before .before .before .before .before .before .before .before
+    .before .before .before .sort .kept .1 .0 ∙ c .before .before .before .before .before .before .before .before .before .before
+    .before .before .before .before .before .before .before .before .before .before .before .before .before .before .before .before
+    .before .before .before .before .before .before .before .before .before .before .before .before .before .before .before .count-up
+    .kept .0)
     words-back-2
     best-back
     returns-2)

@@ -17,7 +17,7 @@ use Rattle.order.specs.Pairs.{pair, pairsOf}
 use Rattle.order.specs.Counted.{counted-length}
 use Rattle.order.specs.Ranking.{ranked-count}
 use Rattle.selection.specs.Reading.{readingOrder, goesOn}
-use Rattle.selection.specs.Loop.{Ends, after, reached-next, reached-stop, full-after}
+use Rattle.selection.specs.Loop.{EndsBy, after, reached-next, reached-stop, full-after}
 use Rattle.best_pairs.specs.Kept.{Keeps}
 use Rattle.best_pairs.specs.Holds.{holds-keys, holds-numbers, arrays-goes-on, arrays-next}
 use Rattle.search.specs.declared.Searched.the-variants.{Read, Refused}
@@ -39,7 +39,7 @@ abbrev μ-loop : tie.MeasureT-loop
 
 module _ {l : Index} {query : List ℤ} {k : ℕ} (is : Ready l query k) {lows order : List ℕ}
     (aligned : Aligned k (ranked (lowIn l query) (numbersIn l)) lows order)
-    (ends : Ends k (lowIn l query) (distanceIn l query) (numbersIn l) (k + length lows)) {keys best : List ℕ} {done : ℕ}
+    (ends : EndsBy k (lowIn l query) (distanceIn l query) (numbersIn l) (k + length lows)) {keys best : List ℕ} {done : ℕ}
     (at : HasRead l query k done keys best) (few : done ≤ k + length lows) where
   -- nothing more is read
   reads-count : length (afterReads l query k done .reads) ≡ done
@@ -96,7 +96,7 @@ module _ {l : Index} {query : List ℤ} {k : ℕ} (is : Ready l query k) {lows o
           let tells = tells-distance (inOwnCell l number) (distanceIn l query number) distance told in
           let holds = arrays-next _ _ _ _ _ (at .holds) (pair distance number) its (tells .is) inside keeps in
           let same : r ≡ k = holds .counted ∙ full-after k (lowIn l query) (distanceIn l query) (numbersIn l) (suc done) (omega arith)
-              inside in
+          inside in
           rw add-one
           (record {
             within = omega (arith, short);
@@ -142,7 +142,7 @@ test c =
     let pre = entry next .pre in
     let inv = next .before .before .loop .inv in
     tested (pre .0) (pre .1 .0) (pre .1 .1 .0) (inv .2) (inv .1) (next .before .loop-test .taken) _ refl (inv .0) _ refl
-        (c .goes-on .ensures)
+    (c .goes-on .ensures)
 
 returns : tie.Need-returns Inv-loop μ-loop
 returns c =
@@ -150,7 +150,7 @@ returns c =
     let pre = entry next .pre in
     let inv = next .before .before .loop .inv in
     stop (pre .0) (pre .1 .0) (pre .1 .1 .0) (inv .2) (inv .1) (next .before .loop-test .taken) _ refl
-        (test (c .before) ∙ not-true _ (c .if1 .taken))
+    (test (c .before) ∙ not-true _ (c .if1 .taken))
 
 returns-2 : tie.Need-returns-2 Inv-loop μ-loop
 returns-2 c =
@@ -209,11 +209,18 @@ read-rest-spec =
     (λ c. search needs)
     returns-2
     (λ c κs. search needs)
-    (λ c. omega (arith, stands (c .before .before .before .before .before .before .before .before .before .before .before .before .before
-        .before .before .before .before .before .before .before .before .before .before .before), c .before .before .before .before .before
-        .before .before .before .before .before .before .before .before .before .before .before .before .before .loop .inv .1))
-    (λ c. omega (arith, c .before .before .before .before .before .before .before .before .before .before .before .before .before .before
-        .before .before .before .loop-test .taken))
+    (λ c. omega (
+      arith,
+      stands (c .before .before .before .before .before .before .before .before .before .before .before .before .before
+          .before .before .before .before .before .before .before .before .before .before .before),
+      c .before .before .before .before .before
+          .before .before .before .before .before .before .before .before .before .before .before .before .before .loop .inv .1,
+    ))
+    (λ c. omega (
+      arith,
+      c .before .before .before .before .before .before .before .before .before .before .before .before .before .before
+          .before .before .before .loop-test .taken,
+    ))
     loop-again
     (λ c. search needs)
     (λ c. search needs)

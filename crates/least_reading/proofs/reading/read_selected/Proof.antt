@@ -15,7 +15,7 @@ use Rattle.order.specs.Rank.{keyAt, ranking}
 use Rattle.order.specs.Ranking.{ranked-count}
 use Rattle.order.specs.Sorted.{ranked-sorted}
 use Rattle.selection.specs.Reading.{leastPair, readingOrder}
-use Rattle.selection.specs.Loop.{Ends}
+use Rattle.selection.specs.Loop.{EndsBy}
 use Rattle.selection.specs.Candidates.{candidates, candidates-end, ranked-at}
 use Rattle.best_pairs.specs.Kept.{held-at}
 use Rattle.distance.specs.Values.{values-length}
@@ -104,12 +104,12 @@ module _ {l : Index} {query : List ℤ} {k : ℕ} {lows order words best : List 
           → Aligned k (ranked (lowIn l query) (numbersIn l)) (take r lows-then) order-then
       aligned first-k =
           let numbers-are : take (k + length these) order-then
-              ≡ take k order₁ ++ numbersOf these = rw (found-these, same, count) at (told .2) in
+          ≡ take k order₁ ++ numbersOf these = rw (found-these, same, count) at (told .2) in
           aligned-candidates k (ranked-sorted (lowIn l query) (numbersIn l)) (getD (afterReads l query k k .best) (k - 1) leastPair)
-              keys-are
+          keys-are
           (numbers-are ∙ ap (λ (front : List ℕ). front ++ numbersOf these) first-k)
 
-      ends : Ends k (lowIn l query) (distanceIn l query) (numbersIn l) (k + length (take r lows-then))
+      ends : EndsBy k (lowIn l query) (distanceIn l query) (numbersIn l) (k + length (take r lows-then))
       ends =
           rw keys-count
           (candidates-end k (lowIn l query) (distanceIn l query) (numbersIn l) (lent .ready .some)
@@ -183,7 +183,7 @@ words-hold-2 c =
 read-first-requires : tie.Need-read-first-requires
 read-first-requires c κs =
     let s = c .before .before .before .before .before .before .before .before .before .before .before .before .before .before .before
-        .before in (
+    .before in (
       (s .pre .1 .ready, length-take-le _ _ (words-hold-2 (c .before .before)), s .pre .1 .best-room),
       first-k (c .before .before .before .before .before .before .before),
     )
@@ -206,14 +206,14 @@ module _ (c : tie.After-read-first) where
       .before .before .before in let k = s .args .terms .k in let chosen = c .before .before .before .before .before .before .before .before
       in
       length (c .read-first .last .1 .1 .1 .1 .1 .1 .0 ++ drop k (chosen .select-first .last .1 .1 .0 ++ drop k (s .args .words .now)))
-          ≡ length (s .args .words .now)
+      ≡ length (s .args .words .now)
   words-long-2 =
       let s = c .before .before .before .before .before .before .before .before .before .before .before .before .before .before .before
-          .before .before in
+      .before .before in
       let k = s .args .terms .k in
       let chosen = c .before .before .before .before .before .before .before .before in
       length-front (chosen .select-first .last .1 .1 .0 ++ drop k (s .args .words .now)) (c .read-first .last .1 .1 .1 .1 .1 .1 .0) k
-          (c .read-first .kept .1 .1 .1 .1 .1 .1 .0)
+      (c .read-first .kept .1 .1 .1 .1 .1 .1 .0)
       ∙ words-long chosen
 
 returns : tie.Need-returns
@@ -222,7 +222,7 @@ returns c = first-outside (c .before .before .before .before .before .read-first
 words-hold-3 : tie.Need-slice-relend-prefix-sort-few
 words-hold-3 c =
     let lent = c .before .before .before .before .before .before .before .before .before .before .before .before .before .before .before
-        .before .before .before .before .before .before .before .pre .1 in
+    .before .before .before .before .before .before .before .pre .1 in
     omega (arith, words-long-2 (c .before .before .before .before .before), lent .words-room, lent .ready .enough)
 
 front-size : tie.Need-slice-aggregate-sort-few
@@ -231,7 +231,7 @@ front-size c = sym (length-take-le _ _ (words-hold-3 (c .before)))
 sort-few-requires : tie.Need-sort-few-requires
 sort-few-requires c κs =
     let s = c .before .before .before .before .before .before .before .before .before .before .before .before .before .before .before
-        .before .before .before .before .before .before .before .before .before in
+    .before .before .before .before .before .before .before .before .before in
     let size = front-size (c .before) in (
       rw (sym size) (s .pre .1 .ready .some),
       rw (sym size) (s .pre .0),
@@ -275,18 +275,18 @@ module _ (c : tie.After-sort-few) where
       let read = first-read c in
       let s = start c in
       let front = take-at (read .read-first .last .1 .1 .1 .1 .1 .1 .0) (drop (s .args .terms .k) (words₁ c)) (s .args .terms .k)
-          (keys-long read) in
+      (keys-long read) in
       first-sorted (read .read-first .ensures) (s .pre .1 .ready) (not-false _ (c .before .before .before .if1 .left))
       (c .sort-few .ensures .0 ∙ ap (λ (keys : List ℕ). keysOf (sort (pairsOf keys (read .read-first .last .1 .1 .1 .1 .1 .1 .1 .0))))
-          front)
+      front)
       (c .sort-few .ensures .1 ∙ ap (λ (keys : List ℕ). numbersOf (sort (pairsOf keys (read .read-first .last .1 .1 .1 .1 .1 .1 .1 .0))))
-          front)
+      front)
 
 rank-candidates-requires : tie.Need-rank-candidates-requires
 rank-candidates-requires c κs =
     let sorted = c .before .before .before .before .before .before .before .before in
     let chosen = sorted .before .before .before .before .before .before .before .before .before .before .before .before .before .before
-        .before .before in
+    .before .before in
     let lent = chosen .before .before .before .before .before .before .before .before .before .pre .1 in
     let size = best-long-2 sorted in
     let long = lows-room lent in (
@@ -305,8 +305,8 @@ lows-hold c =
     let ranked = c .before .before .before .before .before .before in
     let sorted = ranked .before .before .before .before .before .before .before .before .before in
     fits (sorted .before .before .before .before .before .before .before .before .before .before .before .before .before .before .before
-        .before .before .before .before .before .before .before .before .before .before .pre .1) (has-read sorted) _ _ (best-long-2 sorted)
-        _ _ _ _ _ (ranked .rank-candidates .ensures)
+    .before .before .before .before .before .before .before .before .before .before .pre .1) (has-read sorted) _ _ (best-long-2 sorted)
+    _ _ _ _ _ (ranked .rank-candidates .ensures)
 
 words-long-4 : (c : tie.After-rank-candidates) → length (c .rank-candidates .last .1 .1 .1 .0)
     ≡ length (c .before .before .before .before .before .before .before .before .before .before .before .before .before .before .before
@@ -318,8 +318,8 @@ words-long-4 c = c .rank-candidates .kept .1 .1 .1 .0
 words-hold-4 : tie.Need-slice-relend-prefix-read-rest
 words-hold-4 c =
     let lent = c .before .before .before .before .before .before .before .before .before .before .before .before .before .before .before
-        .before .before .before .before .before .before .before .before .before .before .before .before .before .before .before .before
-        .before .before .before .before .before .before .before .before .before .before .before .pre .1 in
+    .before .before .before .before .before .before .before .before .before .before .before .before .before .before .before .before
+    .before .before .before .before .before .before .before .before .before .before .before .pre .1 in
     omega (arith, words-long-4 (c .before .before .before .before .before .before .before .before), lent .words-room, lent .ready .enough)
 
 read-rest-requires : tie.Need-read-rest-requires
@@ -327,7 +327,7 @@ read-rest-requires c κs =
     let ranked = c .before .before .before .before .before .before .before .before .before .before in
     let sorted = ranked .before .before .before .before .before .before .before .before .before in
     let chosen = sorted .before .before .before .before .before .before .before .before .before .before .before .before .before .before
-        .before .before in
+    .before .before in
     let lent = chosen .before .before .before .before .before .before .before .before .before .pre .1 in
     let told = ranked .rank-candidates .ensures in (
       lent .ready,
@@ -345,26 +345,26 @@ words-back c =
     let rest = c .before .before .before .before in
     let ranked = rest .before .before .before .before .before .before .before .before .before .before .before in
     length-front (ranked .rank-candidates .last .1 .1 .1 .0) (rest .read-rest .last .1 .1 .1 .1 .1 .1 .1 .0)
-        (ranked .before .before .before .before .before .before .before .before .before .before .before .before .before .before .before
-        .before .before .before .before .before .before .before .before .before .before .before .before .before .before .before .before
-        .before .before .before .args .terms .k) (rest .read-rest .kept .1 .1 .1 .1 .1 .1 .1 .0)
+    (ranked .before .before .before .before .before .before .before .before .before .before .before .before .before .before .before
+    .before .before .before .before .before .before .before .before .before .before .before .before .before .before .before .before
+    .before .before .before .args .terms .k) (rest .read-rest .kept .1 .1 .1 .1 .1 .1 .1 .0)
     ∙ words-long-4 ranked
 
 best-back : tie.Need-same-length-8
 best-back c =
     let rest = c .before .before .before .before in
     rest .read-rest .kept .1 .1 .1 .1 .1 .1 .1 .1 .0 ∙ best-long-2
-        (rest .before .before .before .before .before .before .before .before .before .before .before .before .before .before .before
-        .before .before .before .before .before) ∙ sym
-        (rest .before .before .before .before .before .before .before .before .before .before .before .before .before .before .before
-        .before .before .before .before .before .before .before .before .before .before .before .before .before .before .before .before
-        .before .before .before .before .before .before .before .before .before .before .before .before .before .before .pre .1 .best-room)
+    (rest .before .before .before .before .before .before .before .before .before .before .before .before .before .before .before
+    .before .before .before .before .before) ∙ sym
+    (rest .before .before .before .before .before .before .before .before .before .before .before .before .before .before .before
+    .before .before .before .before .before .before .before .before .before .before .before .before .before .before .before .before
+    .before .before .before .before .before .before .before .before .before .before .before .before .before .before .pre .1 .best-room)
 
 returns-2 : tie.Need-returns-2
 returns-2 c =
     let rest = c .before .before .before .before in
     reads-front _ (rest .read-rest .ensures)
-        (rest .read-rest .kept .1 .1 .1 .1 .1 .1 .1 .0 ∙ length-take-le _ _ (words-hold-4 (rest .before .before .before)))
+    (rest .read-rest .kept .1 .1 .1 .1 .1 .1 .1 .0 ∙ length-take-le _ _ (words-hold-4 (rest .before .before .before)))
 
 pub read-selected-spec : {M : Type 1} → statement M
 read-selected-spec =
@@ -393,12 +393,12 @@ read-selected-spec =
     (λ c. sym (length-take-le _ _ (words-hold-4 (c .before))))
     read-rest-requires
     (λ c. c .before .before .before .before .before .before .before .before .before .before .before .before .before .before .before
-        .rank-candidates .kept .1 .0)
+    .rank-candidates .kept .1 .0)
     (λ c. c .before .before .before .before .before .before .before .before .before .before .before .before .before .before .before
-        .rank-candidates .kept .1 .1 .0 ∙ order-long
-        (c .before .before .before .before .before .before .before .before .before .before .before .before .before .before .before .before
-        .before .before .before .before .before .before .before .before .before .before .before .before .before .before .before .before
-        .before .before .before .before .before .before .before .before))
+    .rank-candidates .kept .1 .1 .0 ∙ order-long
+    (c .before .before .before .before .before .before .before .before .before .before .before .before .before .before .before .before
+    .before .before .before .before .before .before .before .before .before .before .before .before .before .before .before .before
+    .before .before .before .before .before .before .before .before))
     words-back
     best-back
     returns-2)
