@@ -1,6 +1,6 @@
 -- What the reading of the rest is lent: the numbers of a ranking from its front on, and the keys of those behind the first k. Assumes
 -- nothing.
-use mathlib.Core.Path.{_≡_, refl, sym, ap, ap₂, _∙_}
+use mathlib.Core.Path.{_≡_, refl, sym, ap, _∙_}
 use mathlib.Core.List.{List, [], _∷_, _++_, map}
 use Prim.Native.Nat.{ℕ, zero, suc, _+_, _-_, _≤_, _<_}
 use native.Mathlib.Omega.{arith}
@@ -8,7 +8,6 @@ use lib.ListN.{length, take, drop, getD, length-take, length-map, List·getD-map
 use lib.Seq.{take-length, take-take, take-add, getD-take, getD-drop, length-take-le}
 use Rattle.order.specs.Pair.{Pair, ranked, numbersOf}
 use Rattle.order.specs.Pairs.{keysOf, numbersOf-map}
-use Rattle.order.specs.Ranking.{ranked-count}
 use Rattle.order.specs.Sorted.{Sorted}
 use Rattle.selection.specs.Reading.{leastPair, readingOrder}
 use Rattle.selection.specs.Candidates.{candidates, candidates-first, ranked-at}

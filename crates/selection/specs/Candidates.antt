@@ -1,6 +1,6 @@
 -- After the first k have been read, only numbers whose pair is below the k-th best can still be read: so only those need a ranking.
 -- Ranked, they stand in the reading order right behind the first k, and where they end, the reading ends. Assumes nothing.
-use mathlib.Core.Path.{_≡_, refl, sym, ap, ap₂, _∙_}
+use mathlib.Core.Path.{_≡_, refl, sym, ap, _∙_}
 use mathlib.Core.Bool.{Bool, true, false, cond, _&&_}
 use mathlib.Core.List.{List, [], _∷_, List·Memᴰ·head, List·Memᴰ·tail, Memᴰ·cast}
 use Prim.Native.Nat.{ℕ, zero, suc, _+_, _-_, _≤_, _<_}
@@ -14,13 +14,13 @@ use Rattle.order.specs.AtMost.{AtMost, at-most-refl, at-most-trans, at-most-ant
 use Rattle.order.specs.Members.{_∈_, Distinct, member-getD}
 use Rattle.order.specs.Ranking.{number-member, ranked-count, ranked-distinct}
 use Rattle.order.specs.Members as members
-use Rattle.order.specs.Sorted.{Sorted, none, more, sorted-least, sorted-rest, sort-sorted, ranked-sorted, insert-first}
+use Rattle.order.specs.Sorted.{Sorted, none, more, sorted-least, sort-sorted, ranked-sorted, insert-first}
 use Rattle.order.specs.Insertion.{length-ranked}
 use Rattle.order.specs.Merge.{keyed-ranked}
 use borrow.Author.Tests.{le-ltb, ltb-true, ltb-false}
 use Rattle.selection.specs.Reading.{scan, Reading, leastPair, goesOn, readNext, readingOrder, read}
 use Rattle.selection.specs.Scan.{scan-sorted}
-use Rattle.selection.specs.Loop.{after, after-next, Reached, Ends, reached-stop, reached-end, full-after}
+use Rattle.selection.specs.Loop.{after, after-next, Reached, EndsBy, reached-stop, reached-end, full-after}
 
 -- the pairs of a list that pass a test
 unfoldable pub passing : (Pair → Bool) → List Pair → List Pair
@@ -278,7 +278,7 @@ module _ (k : ℕ) (low distance : ℕ → ℕ) (numbers : List ℕ) (some : 1 �
   fallen (suc m) within = simp unary-clauses (at-most-trans (best-falls (k + m) (omega arith) (omega arith)) (fallen m (omega arith)))
 
   -- where the candidates end that the first k leave, the reading ends
-  pub candidates-end : Ends k low distance numbers
+  pub candidates-end : EndsBy k low distance numbers
       (k + length (candidates k (ranked low numbers) (getD ((after k low distance numbers k) .best) (k - 1) leastPair)))
   unfolding kthBest goesOn
   candidates-end = record {

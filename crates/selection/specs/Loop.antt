@@ -39,7 +39,7 @@ pub record Reached (k : ℕ) (low distance : ℕ → ℕ) (numbers : List ℕ) (
       ≡ read k low distance numbers
 
 -- so many reads are the most: a reading that comes so far ends there
-pub record Ends (k : ℕ) (low distance : ℕ → ℕ) (numbers : List ℕ) (end : ℕ) : Type 0 where
+pub record EndsBy (k : ℕ) (low distance : ℕ → ℕ) (numbers : List ℕ) (end : ℕ) : Type 0 where
   pub behind : k ≤ end
   pub within : end ≤ length numbers
   pub whole : Reached k low distance numbers end → read k low distance numbers ≡ after k low distance numbers end
@@ -87,7 +87,7 @@ module _ (k : ℕ) (low distance : ℕ → ℕ) (numbers : List ℕ) where
     reached-end all =
         sym (rw (drop-of-length-le (readingOrder low numbers) {i = done} (omega (arith, ranked-count low numbers))) at (reached .rest))
 
-  pub ends-all : k ≤ length numbers → Ends k low distance numbers (length numbers)
+  pub ends-all : k ≤ length numbers → EndsBy k low distance numbers (length numbers)
   ends-all enough =
       record { behind = enough; within = omega arith; whole = λ reached. reached-end (length numbers) reached (omega arith) }
 

@@ -9,8 +9,7 @@ use lib.IntN.{ℤ}
 use lib.ListN.{length, take, drop}
 use lib.Seq.{length-take-le, take-at}
 use Rattle.refusal.specs.declared.Refusal.the-variants.{Cell}
-use Rattle.refusal.specs.First.{first, outcome-accepted, outcome-refused}
-use Rattle.order.specs.Pair.{Pair}
+use Rattle.refusal.specs.First.{first, outcome-accepted}
 use Rattle.order.specs.Pairs.{pairsOf, pairs-both}
 use Rattle.order.specs.Counted.{counted-length}
 use Rattle.order.proofs.Prefix.{back-within}

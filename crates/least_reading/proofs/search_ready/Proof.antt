@@ -1,7 +1,6 @@
 -- `search_ready` meets its contract: the lower bounds are those of the codes' cells. Assumes nothing.
 use mathlib.Core.Path.{_≡_, sym, ap, _∙_}
 use Prim.Native.Nat.{ℕ}
-use lib.ListN.{take}
 use lib.Seq.{length-take-le}
 use Rattle.order.proofs.Prefix.{back-within, shared-is}
 use Rattle.distance.specs.Values.{valuesFrom}

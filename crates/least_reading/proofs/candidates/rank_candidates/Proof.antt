@@ -1,15 +1,14 @@
 -- `rank_candidates` meets its contract: what is gathered and sorted are the candidates. Assumes nothing.
-use mathlib.Core.Path.{_≡_, refl, sym, ap, ap₂, _∙_}
+use mathlib.Core.Path.{_≡_, sym, ap, ap₂, _∙_}
 use mathlib.Core.List.{List, _++_, map}
-use Prim.Native.Nat.{ℕ, _+_, _-_, _≤_, _<_}
+use Prim.Native.Nat.{ℕ, _+_, _-_, _≤_}
 use native.Mathlib.Omega.{arith}
 use lib.ListN.{length, take, drop, getD, length-drop, length-take, length-map}
 use lib.Seq.{length-take-le, length-front, take-at, drop-at, take-append-le, take-append-add}
-use borrow.Author.Needs.{needs}
 use borrow.Rule.Slice.PartMut.{putMid, take-put, same-len-mid}
 use Rattle.refusal.specs.First.{first, outcome}
 use Rattle.limits.specs.Limits.{maxVectors}
-use Rattle.order.specs.Pair.{Pair, sort, keyed, ranked, numbersOf, countFrom}
+use Rattle.order.specs.Pair.{Pair, sort, ranked, numbersOf, countFrom}
 use Rattle.order.specs.Pairs.{pair, pairsOf, keysOf, numbersOf-map}
 use Rattle.order.specs.Rank.{keyAt, pairCauses, sort-leaves}
 use Rattle.order.specs.Counted.{counted-length, counted-distinct}

@@ -1,5 +1,5 @@
 -- `read_ranked` meets its contract: the sorted numbers are the reading order, and all of it can be read. Assumes nothing.
-use mathlib.Core.Path.{_≡_, refl, sym, ap, _∙_}
+use mathlib.Core.Path.{_≡_, sym, ap, _∙_}
 use mathlib.Core.List.{List, _++_}
 use Prim.Native.Nat.{ℕ, _+_, _-_, _≤_}
 use native.Mathlib.Omega.{arith}
@@ -14,10 +14,10 @@ use Rattle.order.specs.Pairs.{pairsOf, keysOf}
 use Rattle.order.specs.Counted.{counted-length}
 use Rattle.order.specs.Insertion.{length-ranked}
 use Rattle.order.specs.Rank.{pairCauses, sort-leaves}
-use Rattle.selection.specs.Loop.{Ends, ends-all}
+use Rattle.selection.specs.Loop.{EndsBy, ends-all}
 use Rattle.scan.specs.Ranked.{values-sorted}
 use Rattle.search.specs.Search.{Index, numbersIn, distanceIn, lowIn}
-use Rattle.search.specs.Ready.{indexOf, Ready}
+use Rattle.search.specs.Ready.{indexOf}
 use Rattle.least_reading.specs.Aligned.{Aligned, aligned-all}
 use Rattle.least_reading.specs.Answered.{Lent, HasRead, lows-room, reads-front, first-sorted, first-outside}
 use Rattle.least_reading.proofs.reading.read_ranked.Statement.{statement}
@@ -63,7 +63,7 @@ module _ {l : Index} {query : List ℤ} {k : ℕ} {lows order words best : List 
         order₂
     aligned = aligned-all of-order (behind ∙ ap (drop k) of-lows)
 
-    ends : Ends k (lowIn l query) (distanceIn l query) (numbersIn l)
+    ends : EndsBy k (lowIn l query) (distanceIn l query) (numbersIn l)
         (k + length (take (length (back ++ drop k lows₂) - k) (drop k (back ++ drop k lows₂))))
     ends =
         let enough : k ≤ length (numbersIn l) = omega (arith, lent .ready .enough, counted-length 0 (l .n)) in

@@ -17,7 +17,7 @@ use Rattle.order.specs.Pairs.{pair, pairsOf}
 use Rattle.order.specs.Counted.{counted-length}
 use Rattle.order.specs.Ranking.{ranked-count}
 use Rattle.selection.specs.Reading.{readingOrder, goesOn}
-use Rattle.selection.specs.Loop.{Ends, after, reached-next, reached-stop, full-after}
+use Rattle.selection.specs.Loop.{EndsBy, after, reached-next, reached-stop, full-after}
 use Rattle.best_pairs.specs.Kept.{Keeps}
 use Rattle.best_pairs.specs.Holds.{holds-keys, holds-numbers, arrays-goes-on, arrays-next}
 use Rattle.search.specs.declared.Searched.the-variants.{Read, Refused}
@@ -39,7 +39,7 @@ abbrev μ-loop : tie.MeasureT-loop
 
 module _ {l : Index} {query : List ℤ} {k : ℕ} (is : Ready l query k) {lows order : List ℕ}
     (aligned : Aligned k (ranked (lowIn l query) (numbersIn l)) lows order)
-    (ends : Ends k (lowIn l query) (distanceIn l query) (numbersIn l) (k + length lows)) {keys best : List ℕ} {done : ℕ}
+    (ends : EndsBy k (lowIn l query) (distanceIn l query) (numbersIn l) (k + length lows)) {keys best : List ℕ} {done : ℕ}
     (at : HasRead l query k done keys best) (few : done ≤ k + length lows) where
   -- nothing more is read
   reads-count : length (afterReads l query k done .reads) ≡ done

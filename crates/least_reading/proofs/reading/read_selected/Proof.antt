@@ -15,7 +15,7 @@ use Rattle.order.specs.Rank.{keyAt, ranking}
 use Rattle.order.specs.Ranking.{ranked-count}
 use Rattle.order.specs.Sorted.{ranked-sorted}
 use Rattle.selection.specs.Reading.{leastPair, readingOrder}
-use Rattle.selection.specs.Loop.{Ends}
+use Rattle.selection.specs.Loop.{EndsBy}
 use Rattle.selection.specs.Candidates.{candidates, candidates-end, ranked-at}
 use Rattle.best_pairs.specs.Kept.{held-at}
 use Rattle.distance.specs.Values.{values-length}
@@ -109,7 +109,7 @@ module _ {l : Index} {query : List ℤ} {k : ℕ} {lows order words best : List 
           keys-are
           (numbers-are ∙ ap (λ (front : List ℕ). front ++ numbersOf these) first-k)
 
-      ends : Ends k (lowIn l query) (distanceIn l query) (numbersIn l) (k + length (take r lows-then))
+      ends : EndsBy k (lowIn l query) (distanceIn l query) (numbersIn l) (k + length (take r lows-then))
       ends =
           rw keys-count
           (candidates-end k (lowIn l query) (distanceIn l query) (numbersIn l) (lent .ready .some)
