@@ -45,7 +45,7 @@ ordered : (c : tie.After-sort) → let a = c .before .before .before .before .be
 ordered c =
     let filled = c .before .before .before .before .before in
     let pre = filled .before .before .before .before .pre in
-    sorted (pre .0) (filled .column-keys .ensures) (omega (arith, filled .column-keys .kept .1 .1 .1 .0, pre .1)) (c .sort .ensures .1)
+    sorted (pre .0) (filled .column-keys .ensures) (omega (arith, filled .column-keys .kept .1 .1 .1 .0, pre .1)) (c .sort .ensures .1 .0)
 
 kept : (c : tie.After-sort) → length (c .sort .last .0) ≡ length (c .before .before .before .before .before .before .before .before .before .args .keys .now)
 kept c = c .sort .kept .0 ∙ c .before .before .before .before .before .column-keys .kept .1 .1 .1 .0

@@ -72,7 +72,7 @@ returns c =
     let pairs =
     selected f (t .n) (t .k) _ _ _ _ _ _ _ _ (start .pre .0 .count) (start .pre .1)
     (measured .measure-all .ensures ∙ ap (valuesFrom f 0) (start .pre .2))
-    (chosen .select .ensures .1 .0) (chosen .select .ensures .1 .1) (length-take-le _ _ of-numbers) (length-take-le _ _ of-least)
+    (chosen .select .ensures .1 .0) (chosen .select .ensures .1 .1 .0) (length-take-le _ _ of-numbers) (length-take-le _ _ of-least)
     (start .pre .1 .few) in
     c .entries-of .ensures
     ∙ ap (λ (ps : List Pair). inArray (entriesOf ps))

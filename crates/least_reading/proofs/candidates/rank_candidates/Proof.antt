@@ -223,7 +223,7 @@ returns c =
     let are-numbers =
     of-sorted (a .lows .now) k (a .last) number bound (s .pre .0 .0) (s .pre .0 .1) (s .pre .1) (a .order .now) (a .words .now)
     (s .pre .0 .3)
-    (s .pre .0 .4) lows₁ numbers₁ r (gathered .gather .ensures) room numbersOf _ (done .sort .ensures .1 .1) in
+    (s .pre .0 .4) lows₁ numbers₁ r (gathered .gather .ensures) room numbersOf _ (done .sort .ensures .1 .1 .0) in
     answer (a .lows .now) k (a .last) number bound (s .pre .0 .0) (s .pre .0 .1) (s .pre .1) (a .order .now) (a .words .now) (s .pre .0 .3)
     (s .pre .0 .4) lows₁ numbers₁ r (gathered .gather .ensures) room (done .sort .last .1 .1 .0) are-keys are-numbers
 

@@ -55,7 +55,7 @@ returns c =
     let a = s .args in
     let none = accepted (a .lows .now) (a .first .now) (a .least .now) _ (s .pre .3) (s .pre .0) (s .pre .2) (s .pre .4)
     (sym (room-length (done .before))) in (
-      ap (λ (l : List ℕ). getD l (length (a .first .now) - 1) 0) (done .select .ensures .1 .1 ∙ outcome-accepted _ _ none)
+      ap (λ (l : List ℕ). getD l (length (a .first .now) - 1) 0) (done .select .ensures .1 .1 .0 ∙ outcome-accepted _ _ none)
           ∙ last-key (a .lows .now) (length (a .first .now)) (s .pre .0) (s .pre .2),
       done .select .ensures .1 .0 ∙ outcome-accepted _ _ none,
     )

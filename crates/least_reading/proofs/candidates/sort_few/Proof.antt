@@ -33,7 +33,7 @@ returns c =
     let a = s .args in
     let room = sym (room-length (done .before)) in (
       sorts keysOf (a .keys .now) (a .numbers .now) _ _ (s .pre .2) room (done .sort .ensures .1 .0),
-      sorts numbersOf (a .keys .now) (a .numbers .now) _ _ (s .pre .2) room (done .sort .ensures .1 .1),
+      sorts numbersOf (a .keys .now) (a .numbers .now) _ _ (s .pre .2) room (done .sort .ensures .1 .1 .0),
     )
 
 pub sort-few-spec : {M : Type 1} → statement M

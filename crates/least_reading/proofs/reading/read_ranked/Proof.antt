@@ -88,7 +88,7 @@ order-is : (c : tie.After-sort) → let s = c .before .before .before .before .b
     .before in let l = given s in
     c .sort .last .1 .0 ≡ numbersOf (ranked (lowIn l (s .args .query .now)) (numbersIn l))
 order-is c = of-ranked (c .before .before .before .before .before .before .before .before .before .before .before .before .before .pre)
-    numbersOf _ _ (c .before .before .before .before .before .before .count-up .ensures) (c .sort .ensures .1 .1)
+    numbersOf _ _ (c .before .before .before .before .before .before .count-up .ensures) (c .sort .ensures .1 .1 .0)
 
 lows-are : (c : tie.After-sort) → let s = c .before .before .before .before .before .before .before .before .before .before .before .before
     .before in let l = given s in
@@ -197,7 +197,7 @@ module _ (c : tie.After-sort2) where
       (front-sorted keysOf (read .read-first .last .1 .1 .1 .1 .1 .1 .0) (read .read-first .last .1 .1 .1 .1 .1 .1 .1 .0) _ _
       (s .args .terms .k) _ (keys-long read) (best-long read) room (c .sort2 .ensures .1 .0))
       (front-sorted numbersOf (read .read-first .last .1 .1 .1 .1 .1 .1 .0) (read .read-first .last .1 .1 .1 .1 .1 .1 .1 .0) _ _
-      (s .args .terms .k) _ (keys-long read) (best-long read) room (c .sort2 .ensures .1 .1))
+      (s .args .terms .k) _ (keys-long read) (best-long read) room (c .sort2 .ensures .1 .1 .0))
 
 words-hold-3 : tie.Need-slice-relend-prefix-read-rest
 words-hold-3 c =
