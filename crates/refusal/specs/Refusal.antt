@@ -1,7 +1,7 @@
--- The numbers of document 01's table "When a call says no": one for each cause, 0 where there is none. Assumes nothing.
+-- The numbers of document 01's table "When a call says no", and of document 02's causes: one for each, 0 where there is none. Assumes nothing.
 use Prim.Native.Nat.{ℕ}
 use Rattle.refusal.specs.declared.Refusal.{Refusal}
-use Rattle.refusal.specs.declared.Refusal.the-variants.{Dimension, Bits, Count, Neighbours, Length, Component, Mark, Outside, Code, Cell, Kind, Truncated, Stale, NotANumber, OutOfRange, Trailing, Misplaced}
+use Rattle.refusal.specs.declared.Refusal.the-variants.{Dimension, Bits, Count, Neighbours, Length, Component, Mark, Outside, Code, Cell, Kind, Truncated, Stale, NotANumber, OutOfRange, Trailing, Misplaced, TooFewPresent, PresenceBit}
 use Rattle.refusal.specs.declared.Verdict.{Verdict}
 use Rattle.refusal.specs.declared.Verdict.the-variants.{Accepted, Refused}
 
@@ -40,6 +40,10 @@ numberOf OutOfRange = 15
 numberOf Trailing = 16
 -- known kind in a wrong place
 numberOf Misplaced = 17
+-- too few dimensions present: fewer than four, or fewer than d where d is below four (document 02, Slip 1)
+numberOf TooFewPresent = 18
+-- a bit of the presence word at or above d (Slip 1)
+numberOf PresenceBit = 19
 
 abbrev pub verdictNumber : Verdict → ℕ
 verdictNumber Accepted = 0

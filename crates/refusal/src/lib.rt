@@ -2,7 +2,7 @@
 ghost use mathlib.Core.Path.{_≡_};
 ghost use Rattle.refusal.specs.Refusal.{numberOf, verdictNumber};
 
-// Document 01, "When a call says no": one variant for each row, in the table's order.
+// Document 01, "When a call says no": one variant for each row, in the table's order; then those of document 02.
 pub enum Refusal {
     Dimension,
     Bits,
@@ -21,6 +21,8 @@ pub enum Refusal {
     OutOfRange,
     Trailing,
     Misplaced,
+    TooFewPresent,
+    PresenceBit,
 }
 
 // What a call's tests come to: nothing speaks against it, or the first cause that does.
@@ -30,7 +32,7 @@ pub enum Verdict {
 }
 
 impl Refusal {
-    // The row's number, 1 to 17.
+    // The row's number, 1 to 19.
     pub fn number(self) -> u32
         ensures { λ r. ⌜ r ≡ numberOf self ⌝ }
     {
@@ -52,6 +54,8 @@ impl Refusal {
             Refusal::OutOfRange => 15,
             Refusal::Trailing => 16,
             Refusal::Misplaced => 17,
+            Refusal::TooFewPresent => 18,
+            Refusal::PresenceBit => 19,
         }
     }
 }
