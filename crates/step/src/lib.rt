@@ -1,9 +1,9 @@
 // One dimension's steps. Differences are those of keys.
 ghost use mathlib.Core.Path.{_≡_};
-ghost use Prim.Native.Nat.{_+_, _-_, _%_, _^_, _≤_};
+ghost use Prim.Native.Nat.{_+_, _-_, _^_, _≤_};
 ghost use lib.IntN.{predℤ};
 ghost use Rattle.step.specs.Step as Step;
-ghost use Rattle.step.specs.Step.{shortest, longest, stepOf};
+ghost use Rattle.step.specs.Step.{weighedWord, shortest, longest, stepOf};
 
 // A cell's two bounds: its least distance and its greatest.
 pub enum Bound {
@@ -11,12 +11,11 @@ pub enum Bound {
     Upper,
 }
 
-// The square of how far two numbers are apart.
-pub fn squared_gap(a: i32, b: i32) -> u64
-    ensures { λ r. ⌜ r ≡ Step.squared (Step.gap a b) ⌝ }
+// What a dimension with a factor adds to a distance, where two numbers stand in it.
+pub fn weighed_gap(factor: u32, a: i32, b: i32) -> u64
+    ensures { λ r. ⌜ r ≡ weighedWord factor (Step.gap a b) ⌝ }
 {
-    let apart = gap(a, b) as u64;
-    apart * apart
+    weighed(factor, gap(a, b) as u64)
 }
 
 // How far two numbers are apart.
@@ -45,13 +44,13 @@ fn difference(k: u64, l: u64) -> u64
     k - l
 }
 
-// What the step to the region from low up to, and without, high adds to a bound, modulo 2^64.
-pub fn squared_step(bound: Bound, q: i32, low: i32, high: i32) -> u64
-    ensures { λ r. ⌜ r ≡ Step.squared (stepOf bound q low high) % 2 ^ 64 ⌝ }
+// What a dimension with a factor adds to a bound, by the step to the region from low up to, and without, high.
+pub fn weighed_step(bound: Bound, factor: u32, q: i32, low: i32, high: i32) -> u64
+    ensures { λ r. ⌜ r ≡ weighedWord factor (stepOf bound q low high) ⌝ }
 {
     match bound {
-        Bound::Lower => squared(shortest_step(q, low, high)),
-        Bound::Upper => squared(longest_step(q, low, high)),
+        Bound::Lower => weighed(factor, shortest_step(q, low, high)),
+        Bound::Upper => weighed(factor, longest_step(q, low, high)),
     }
 }
 
@@ -80,13 +79,11 @@ fn longest_step(q: i32, low: i32, high: i32) -> u64
     first
 }
 
-// What a step adds to a distance, modulo 2^64.
-fn squared(step: u64) -> u64
+// What a dimension with a factor adds by its step: the square of their product, which is taken modulo 2^32.
+fn weighed(factor: u32, step: u64) -> u64
     requires { ⌜ step ≤ 2 ^ 32 ⌝ }
-    ensures { λ r. ⌜ r ≡ Step.squared step % 2 ^ 64 ⌝ }
+    ensures { λ r. ⌜ r ≡ weighedWord factor step ⌝ }
 {
-    if step == 0x1_0000_0000 {
-        return 0;
-    }
-    step * step
+    let product = factor as u64 * step % 0x1_0000_0000;
+    product * product
 }
