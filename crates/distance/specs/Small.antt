@@ -1,22 +1,27 @@
--- Distances and bounds are far below 2^64, for components and marks in range: sums of theirs are exact in 64 bits. Assumes nothing.
-use mathlib.Core.Path.{_≡_, refl}
+-- Distances and bounds are far below 2^64, for components and marks in range and for small factors: sums of theirs are exact in 64 bits.
+-- Assumes nothing.
+use mathlib.Core.Path.{_≡_, refl, _∙_}
 use mathlib.Core.Bool.{true, and-eq-true-iff}
 use mathlib.Core.List.{List}
-use Prim.Native.Nat.{ℕ, zero, suc, _+_, _*_, _^_, _≤_, _<_}
+use Prim.Native.Nat.{ℕ, zero, suc, _+_, _*_, _%_, _^_, _≤_, _<_}
+use native.Mathlib.Nat.{mul-le-mul, mod-eq-of-lt}
 use native.Mathlib.Omega.{arith}
 use borrow.Author.Tests.{leb-true}
 use lib.IntN.{ℤ, pos, negsuc, predℤ}
 use lib.Signed.{mag, leZ}
-use lib.ListN.{getD}
+use lib.ListN.{length, getD, replicate}
 use Rattle.limits.specs.Limits.{maxDimensions, leastComponent, greatestComponent, isComponent, leastMark, greatestMark, isMark}
 use Rattle.signed.specs.Components.{areComponents, component-at}
 use Rattle.partition.specs.Marks.{dimensionMarks, goodMarks}
 use Rattle.codes.specs.Codes.{codeRegion}
-use Rattle.step.specs.Step.{gap, squared, shortest, longest, squared-le}
+use Rattle.step.specs.declared.Bound.{Bound}
+use Rattle.step.specs.declared.Bound.the-variants.{Lower, Upper}
+use Rattle.step.specs.Step.{weighed, weighedWord, shortest, longest, stepOf, squared-le, weighed-exact}
 use Rattle.step.specs.Places.{gap-size, pred-size}
 use Rattle.step.specs.Steps.{shortest-le-longest}
-use Rattle.distance.specs.Distance.{firstDistance, distanceOf}
-use Rattle.distance.specs.Bounds.{firstBound, lowerOf, upperOf}
+use Rattle.distance.specs.Distance.{gapAt, firstWeighed, weighedDistance, firstMeasured, measuredOf, measured-is}
+use Rattle.distance.specs.Bounds.{stepTo, stepAt, firstWeighedBound, weighedBound}
+use Rattle.distance.specs.Full.{allPresent}
 use Rattle.distance.specs.CellComponents.{good-mark}
 
 -- ---- sizes
@@ -43,60 +48,98 @@ longest-size q low high hq hl hh = omega (arith, gap-size q low, gap-size q (pre
 shortest-size : (q low high : ℤ) → mag q ≤ 32768 → mag low ≤ 32768 → mag high ≤ 32768 → shortest q low high ≤ 2 ^ 17
 shortest-size q low high hq hl hh = omega (arith, shortest-le-longest q low high, longest-size q low high hq hl hh)
 
--- ---- sums of squares of small steps
+step-size : (bound : Bound) (q low high : ℤ) → mag q ≤ 32768 → mag low ≤ 32768 → mag high ≤ 32768 → stepOf bound q low high ≤ 2 ^ 17
+step-size Lower = shortest-size
+step-size Upper = longest-size
 
-squares-small : (sum step : ℕ → ℕ) → sum 0 ≡ 0 → ((t : ℕ) → sum (suc t) ≡ sum t + squared (step t)) → (n : ℕ)
-    → ((t : ℕ) → t < n → step t ≤ 2 ^ 17) → sum n ≤ n * 2 ^ 34
-squares-small sum step none more zero small = omega (arith, none)
-squares-small sum step none more (suc n) small =
-    let before = squares-small sum step none more n (λ t h. small t (omega arith)) in
-    let here : squared (step n) ≤ 2 ^ 17 * 2 ^ 17 = squared-le (small n (omega arith)) in
+-- ---- factors
+
+-- factors for which sums are exact; those of a presence word are 0 and 1
+abbrev pub greatestFactor : ℕ
+greatestFactor = 255
+
+pub record Factors (factors : List ℕ) : Type 0 where
+  pub small : (t : ℕ) → getD factors t 0 ≤ greatestFactor
+
+ones-le : (n t : ℕ) → getD (replicate n 1) t 0 ≤ 1
+ones-le zero t = omega arith
+ones-le (suc n) zero = omega arith
+ones-le (suc n) (suc t) = ones-le n t
+
+pub all-small : Factors allPresent
+unfolding allPresent
+all-small = record { small = λ t. omega (arith, ones-le maxDimensions t) }
+
+product-small : (factor step : ℕ) → factor ≤ greatestFactor → step ≤ 2 ^ 17 → factor * step ≤ 2 ^ 25
+product-small factor step small near =
+    let product : factor * step ≤ greatestFactor * 2 ^ 17 = mul-le-mul small near in
+    omega arith
+
+-- such a dimension's part is exact
+pub part-exact : (factor step : ℕ) → factor ≤ greatestFactor → step ≤ 2 ^ 17 → weighedWord factor step ≡ weighed factor step
+part-exact factor step small near = weighed-exact factor step (omega (arith, product-small factor step small near))
+
+-- ---- sums of such parts
+
+parts-small : (sum factor step : ℕ → ℕ) → sum 0 ≡ 0 → ((t : ℕ) → sum (suc t) ≡ sum t + weighed (factor t) (step t))
+    → ((t : ℕ) → factor t ≤ greatestFactor) → (n : ℕ)
+    → ((t : ℕ) → t < n → step t ≤ 2 ^ 17) → sum n ≤ n * 2 ^ 50
+parts-small sum factor step none more small zero near = omega (arith, none)
+parts-small sum factor step none more small (suc n) near =
+    let before = parts-small sum factor step none more small n (λ t h. near t (omega arith)) in
+    let here : weighed (factor n) (step n) ≤ 2 ^ 25 * 2 ^ 25 = squared-le (product-small (factor n) (step n) (small n) (near n (omega arith))) in
     omega (arith, more n)
 
 -- ---- distances and bounds
 
-module _ (query : List ℤ) (known : areComponents query ≡ true) where
+module _ (factors : List ℕ) (moderate : Factors factors) (query : List ℤ) (known : areComponents query ≡ true) where
   query-size : (t : ℕ) → mag (getD query t (pos 0)) ≤ 32768
   query-size t = component-size (getD query t (pos 0)) (component-at query known t)
 
-  pub distance-small : (vector : List ℤ) → areComponents vector ≡ true → (d : ℕ) → d ≤ maxDimensions → distanceOf d query vector < 2 ^ 64
-  distance-small vector vectors d few =
-      omega (
-        arith,
-        squares-small (firstDistance query vector) (λ t. gap (getD query t (pos 0)) (getD vector t (pos 0)))
-            (unfold firstDistance in refl) (λ t. unfold firstDistance in refl) d step,
-      )
-    where
-      step : (t : ℕ) → t < d → gap (getD query t (pos 0)) (getD vector t (pos 0)) ≤ 2 ^ 17
-      step t h =
-          omega (
-            arith,
-            gap-size (getD query t (pos 0)) (getD vector t (pos 0)),
-            query-size t,
-            component-size (getD vector t (pos 0)) (component-at vector vectors t),
-          )
-
-  module _ (d b : ℕ) (marks : List ℤ) (good : goodMarks d b marks ≡ true) (few : d ≤ maxDimensions) (codes : List ℕ) (i : ℕ) where
-    bound-small : (step : ℤ → ℤ → ℤ → ℕ)
-        → ((q low high : ℤ) → mag q ≤ 32768 → mag low ≤ 32768 → mag high ≤ 32768 → step q low high ≤ 2 ^ 17)
-        → firstBound step d b marks codes query i d < 2 ^ 64
-    bound-small step small =
+  module _ (vector : List ℤ) (vectors : areComponents vector ≡ true) where
+    gap-small : (t : ℕ) → gapAt query vector t ≤ 2 ^ 17
+    gap-small t =
         omega (
           arith,
-          squares-small (firstBound step d b marks codes query i) (λ t. here t (codeRegion d b codes i t))
-              (unfold firstBound in refl) (λ t. unfold firstBound in refl) d (λ t h. small _ _ _ (query-size t) (mark t _ h) (mark t _ h)),
+          gap-size (getD query t (pos 0)) (getD vector t (pos 0)),
+          query-size t,
+          component-size (getD vector t (pos 0)) (component-at vector vectors t),
         )
-      where
-        here : ℕ → ℕ → ℕ
-        here t r =
-            step (getD query t (pos 0)) (getD (dimensionMarks d b marks (suc t)) r (pos 0))
-            (getD (dimensionMarks d b marks (suc t)) (suc r) (pos 0))
 
-        mark : (t r : ℕ) → t < d → mag (getD (dimensionMarks d b marks (suc t)) r (pos 0)) ≤ 32768
-        mark t r h = mark-size (getD (dimensionMarks d b marks (suc t)) r (pos 0)) (good-mark d b marks good t r h)
+    pub distance-small : (d : ℕ) → d ≤ maxDimensions → weighedDistance d factors query vector < 2 ^ 64
+    distance-small d few =
+        omega (
+          arith,
+          parts-small (firstWeighed factors query vector) (λ t. getD factors t 0) (gapAt query vector)
+              (unfold firstWeighed in refl) (λ t. unfold firstWeighed in refl) (moderate .small) d (λ t h. gap-small t),
+        )
 
-    pub lower-small : lowerOf d b marks codes query i < 2 ^ 64
-    lower-small = bound-small shortest shortest-size
+    measured-first : (d : ℕ) → firstMeasured factors query vector d ≡ firstWeighed factors query vector d
+    unfolding firstMeasured firstWeighed
+    measured-first zero = refl
+    measured-first (suc t) =
+        rw (measured-first t, part-exact (getD factors t 0) (gapAt query vector t) (moderate .small t) (gap-small t))
 
-    pub upper-small : upperOf d b marks codes query i < 2 ^ 64
-    upper-small = bound-small longest longest-size
+    -- what is worked out in 64 bits is the distance
+    pub measured-exact : (d : ℕ) → d ≤ maxDimensions → length query ≡ d → length vector ≡ d
+        → measuredOf factors query vector ≡ weighedDistance d factors query vector
+    measured-exact d few of-query of-vector =
+        measured-is d factors query vector few of-query of-vector ∙ rw (measured-first d) (mod-eq-of-lt (distance-small d few))
+
+  module _ (bound : Bound) (d b : ℕ) (marks : List ℤ) (good : goodMarks d b marks ≡ true) where
+    mark : (t r : ℕ) → t < d → mag (getD (dimensionMarks d b marks (suc t)) r (pos 0)) ≤ 32768
+    mark t r h = mark-size (getD (dimensionMarks d b marks (suc t)) r (pos 0)) (good-mark d b marks good t r h)
+
+    -- a step to any region of a dimension
+    pub region-step-small : (t r : ℕ) → t < d → stepTo (stepOf bound) (getD query t (pos 0)) (dimensionMarks d b marks (suc t)) r ≤ 2 ^ 17
+    region-step-small t r h = step-size bound _ _ _ (query-size t) (mark t r h) (mark t (suc r) h)
+
+    pub bound-small : (codes : List ℕ) (i : ℕ) → d ≤ maxDimensions → weighedBound (stepOf bound) d b marks codes factors query i < 2 ^ 64
+    bound-small codes i few =
+        omega (
+          arith,
+          parts-small (firstWeighedBound (stepOf bound) d b marks codes factors query i) (λ t. getD factors t 0)
+              (stepAt (stepOf bound) d b marks codes query i)
+              (unfold firstWeighedBound in refl) (λ t. unfold firstWeighedBound in refl) (moderate .small) d
+              (λ t h. region-step-small t (codeRegion d b codes i t) h),
+        )

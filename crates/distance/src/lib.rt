@@ -1,10 +1,12 @@
 // Distances of vectors.
+use limits::MAX_DIMENSIONS;
 use refusal::Refusal;
 ghost use mathlib.Core.Path.{_≡_};
-ghost use Prim.Native.Nat.{_%_, _^_};
+ghost use Prim.Native.Nat.{_%_, _^_, _≤_};
 ghost use lib.ListN.{length};
 ghost use Rattle.refusal.specs.First.{first, outcome};
-ghost use Rattle.distance.specs.Distance.{distanceOf, measuredOf};
+ghost use Rattle.limits.specs.Limits.{maxDimensions};
+ghost use Rattle.distance.specs.Distance.{distanceOf, firstMeasured, measuredOf};
 ghost use Rattle.distance.specs.Measured.{distanceCauses};
 
 // The answer where a distance is asked for.
@@ -31,30 +33,37 @@ pub fn measure(query: &[i32], vector: &[i32]) -> Distance
     if !signed::components::are_components(vector) {
         return Distance::Refused(Refusal::Component);
     }
-    Distance::Squared(squared_distance(query, vector))
+    Distance::Squared(weighed_distance(
+        [1u32; MAX_DIMENSIONS],
+        query,
+        vector,
+    ))
 }
 
-// The distance of a vector from a query, modulo 2^64: exact for at most MAX_DIMENSIONS dimensions of components (specs/Small.antt). It is 0
-// where the two are not equally long.
-pub fn squared_distance(query: &[i32], vector: &[i32]) -> u64
-    ensures { λ r. ⌜ r ≡ measuredOf (now (query .entry)) (now (vector .entry)) ⌝ }
+// The distance of a vector from a query over dimensions with these factors, in 64 bits: exact for components and for factors up to 255
+// (specs/Small.antt). It is 0 where the two are not equally long or have more components than any query.
+pub fn weighed_distance(factors: [u32; MAX_DIMENSIONS], query: &[i32], vector: &[i32]) -> u64
+    ensures { λ r. ⌜ r ≡ measuredOf factors (now (query .entry)) (now (vector .entry)) ⌝ }
 {
     if vector.len() != query.len() {
         return 0;
     }
-    sum_squares(query, vector)
+    if MAX_DIMENSIONS < query.len() {
+        return 0;
+    }
+    sum_parts(factors, query, vector)
 }
 
 // The same where they are. Without a test in the loop the compiler makes vector code of it.
-fn sum_squares(query: &[i32], vector: &[i32]) -> u64
-    requires { ⌜ length (now vector) ≡ length (now query) ⌝ }
-    ensures { λ r. ⌜ r ≡ distanceOf (length (now (query .entry))) (now (query .entry)) (now (vector .entry)) % 2 ^ 64 ⌝ }
+fn sum_parts(factors: [u32; MAX_DIMENSIONS], query: &[i32], vector: &[i32]) -> u64
+    requires { ⌜ (length (now vector) ≡ length (now query)) × (length (now query) ≤ maxDimensions) ⌝ }
+    ensures { λ r. ⌜ r ≡ firstMeasured factors (now (query .entry)) (now (vector .entry)) (length (now (query .entry))) % 2 ^ 64 ⌝ }
 {
     let mut sum = 0;
     let mut t = 0;
     while t < query.len() {
-        let squared = step::squared_gap(query[t], vector[t]);
-        sum = std::num::wrapping_add_u64(sum, squared);
+        let part = step::weighed_gap(factors[t], query[t], vector[t]);
+        sum = std::num::wrapping_add_u64(sum, part);
         t += 1;
     }
     sum

@@ -1,7 +1,6 @@
 -- `measure` meets its contract: each return is that of the first cause that holds, and without one the distance is exact. Assumes nothing.
 use mathlib.Core.Path.{_≡_, refl, sym, ap, _∙_}
 use mathlib.Core.Bool.{true}
-use native.Mathlib.Nat.{mod-eq-of-lt}
 use borrow.Author.Needs.{needs}
 use borrow.Author.Tests.{not-true, not-false, eq-eqb, ne-eqb}
 use lib.Dec.{eqb}
@@ -11,8 +10,8 @@ use Rattle.limits.specs.Limits.{isDimensionCount, maxDimensions}
 use Rattle.limits.specs.Tests.{between}
 use Rattle.signed.specs.Components.{areComponents}
 use Rattle.distance.specs.declared.Distance.the-variants.{Squared}
-use Rattle.distance.specs.Distance.{measured-is}
-use Rattle.distance.specs.Small.{distance-small}
+use Rattle.distance.specs.Full.{allPresent, all-full, full-distance}
+use Rattle.distance.specs.Small.{all-small, measured-exact}
 use Rattle.distance.proofs.measure.Statement.{statement}
 use Rattle.distance.proofs.measure.Tie as tie
 
@@ -51,7 +50,7 @@ returns-4 c =
     rw (counted (two .before), same two, queried three, ← c .before .are-components2 .ensures, not-true (c .before .are-components2 .result) (c .if4 .taken))
 
 returns-5 : tie.Need-returns-5
-unfolding first
+unfolding first allPresent
 returns-5 c =
     let four = c .before in
     let three = four .before .before in
@@ -59,8 +58,13 @@ returns-5 c =
     let args = two .before .before .before .args in
     let d = length (args .query .now) in
     let few = between 1 d maxDimensions (counted (two .before)) .below in
+    let query = args .query .now in
+    let vector = args .vector .now in
     rw (counted (two .before), same two, queried three, stored four)
-    (ap Squared (c .squared-distance .ensures ∙ measured-is d _ _ refl (two .if2 .left) ∙ mod-eq-of-lt (distance-small (args .query .now) (queried three) (args .vector .now) (stored four) d few)))
+    (ap Squared
+    (c .weighed-distance .ensures
+    ∙ measured-exact allPresent all-small query (queried three) vector (stored four) d few refl (two .if2 .left)
+    ∙ full-distance allPresent query vector d (all-full d few)))
 
 pub measure-spec : {M : Type 1} → statement M
 measure-spec =
