@@ -84,7 +84,13 @@ fn fill_steps(bound: Bound, factor: u32, q: i32, marks: &[i32], steps: &mut [u64
 {
     let mut r = 0;
     while r < steps.len() {
-        steps[r] = step::weighed_step(bound, factor, q, signed::at(marks, r), signed::at(marks, r + 1));
+        steps[r] = step::weighed_step(
+            bound,
+            factor,
+            q,
+            signed::at(marks, r),
+            signed::at(marks, r + 1),
+        );
         r += 1;
     }
 }
