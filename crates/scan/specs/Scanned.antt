@@ -2,7 +2,7 @@
 use mathlib.Core.Path.{_≡_, refl, sym, ap, _∙_}
 use mathlib.Core.Bool.{true, _&&_, and-eq-true-iff}
 use mathlib.Core.List.{List, [], _∷_, map}
-use Prim.Native.Nat.{ℕ, _+_, _*_, _^_, _≤_, _<_}
+use Prim.Native.Nat.{ℕ, _+_, _*_, _≤_, _<_}
 use native.Mathlib.Omega.{arith}
 use borrow.Author.Tests.{not-false, eqb-true}
 use lib.Dec.{eqb}
@@ -13,6 +13,8 @@ use Rattle.refusal.specs.declared.Verdict.the-variants.{Accepted}
 use Rattle.refusal.specs.First.{first, passed}
 use Rattle.limits.specs.Limits.{maxDimensions, maxVectors, isDimensionCount, isVectorCount, isNeighbourCount}
 use Rattle.limits.specs.Tests.{between, Neighbours, neighbours}
+use Rattle.presence.specs.Presence.{factorsOf}
+use Rattle.presence.specs.PresenceLaws.{factors-le}
 use Rattle.signed.specs.Components.{areComponents, component-at, all-components}
 use Rattle.order.specs.Pair.{Pair, keyed, ranked, numbersOf, countFrom}
 use Rattle.order.specs.Rank.{keyAt, ranking}
@@ -20,7 +22,8 @@ use Rattle.order.specs.Pairs.{pair, pairsOf}
 use Rattle.selection.specs.Reading.{scan}
 use Rattle.least.specs.Selected.{scan-keyed}
 use Rattle.cells.specs.Cells.{vectorAt}
-use Rattle.distance.specs.Small.{distance-small}
+use Rattle.distance.specs.Distance.{measuredOf}
+use Rattle.distance.specs.Small.{Factors, measured-exact}
 use Rattle.distance.specs.Values.{valuesFrom, values-length}
 use Rattle.scan.specs.declared.ScanTerms.{ScanTerms}
 use Rattle.scan.specs.Scanning.{distancesOf, scanCauses}
@@ -47,7 +50,9 @@ scannable t query vectors entries accepted =
     let dimensions = passed _ _ _ accepted in
     let count = passed _ _ _ (dimensions .rest) in
     let few = passed _ _ _ (count .rest) in
-    let lengths = passed _ _ _ (few .rest) in
+    let past = passed _ _ _ (few .rest) in
+    let present = passed _ _ _ (past .rest) in
+    let lengths = passed _ _ _ (present .rest) in
     let components = passed _ _ _ (lengths .rest) in
     let counted = not-false (isVectorCount (t .n)) (count .fails) in
     let query-and =
@@ -79,9 +84,15 @@ part-components d from zs all =
     let below : i < d = omega (arith, length-take d (drop from zs)) in
     rw (getD-take d (drop from zs) i (pos 0) below, getD-drop from zs i (pos 0)) (component-at zs all (from + i)))
 
-pub scanned-small : {d n : ℕ} {query vectors : List ℤ} → Vectors d n query vectors → (i : ℕ) → distancesOf d query vectors i < 2 ^ 64
-scanned-small {d} {n} {query} {vectors} given i =
-    distance-small query (given .of-query) (vectorAt d vectors i) (part-components d (i * d) vectors (given .of-vectors)) d (given .few)
+-- a presence word's factors are small
+pub word-small : (word : ℕ) → Factors (factorsOf word)
+word-small word = record { small = λ t. omega (arith, factors-le word t) }
+
+pub scanned-exact : {d n : ℕ} {query vectors : List ℤ} (factors : List ℕ) → Factors factors → Vectors d n query vectors → (i : ℕ)
+    → length (vectorAt d vectors i) ≡ d → measuredOf factors query (vectorAt d vectors i) ≡ distancesOf d factors query vectors i
+scanned-exact {d} {n} {query} {vectors} factors small given i whole =
+    measured-exact factors small query (given .of-query) (vectorAt d vectors i) (part-components d (i * d) vectors (given .of-vectors)) d
+    (given .few) (given .size) whole
 
 -- ---- the answer, from the numbers and the keys of the least
 

@@ -1,7 +1,8 @@
-// The full scan: the vectors nearest to a query, by all their distances.
+// The full scan: the vectors nearest to a query, by all their distances over the dimensions that are present.
 use entries::Entry;
 use entries::entries_of;
 use entries::no_entries;
+use limits::MAX_DIMENSIONS;
 use limits::MAX_NEIGHBOURS;
 use limits::MAX_VECTORS;
 use refusal::Refusal;
@@ -9,22 +10,26 @@ use refusal::Verdict;
 ghost use mathlib.Core.Path.{_≡_};
 ghost use mathlib.Core.Bool.{_&&_};
 ghost use mathlib.Core.List.{[]};
-ghost use Prim.Native.Nat.{_*_, _^_, _<_};
+ghost use Prim.Native.Nat.{_*_, _^_, _≤_, _<_};
 ghost use lib.Dec.{eqb};
 ghost use lib.ListN.{length};
 ghost use Rattle.refusal.specs.First.{first, outcome};
+ghost use Rattle.limits.specs.Limits.{maxDimensions, maxVectors};
 ghost use Rattle.limits.specs.Tests.{Neighbours};
+ghost use Rattle.presence.specs.Presence.{factorsOf};
 ghost use Rattle.signed.specs.Components.{areComponents};
+ghost use Rattle.distance.specs.Small.{Factors};
 ghost use Rattle.distance.specs.Values.{valuesFrom};
 ghost use Rattle.entries.specs.Entries.{entriesOf, inArray};
-ghost use Rattle.scan.specs.Scanning.{distancesOf, scanAnswer, scanCauses, scannedEntries};
+ghost use Rattle.scan.specs.Scanning.{distancesOf, scanAnswer, scanCauses, scanBufferCauses, scannedEntries};
 ghost use Rattle.scan.specs.Scanned.{Vectors};
 
-// The numbers of a scan: of dimensions, of vectors and of neighbours.
+// The numbers of a scan: of dimensions, of vectors and of neighbours, and the query's presence word.
 pub struct ScanTerms {
     pub d: usize,
     pub n: usize,
     pub k: usize,
+    pub word: u32,
 }
 
 // What a scan answers: its verdict, and the entries at the front of an array, with blank ones behind them.
@@ -75,6 +80,17 @@ fn check_scan(terms: ScanTerms, query: &[i32], vectors: &[i32], entries: usize) 
     if !limits::is_neighbour_count(terms.n, terms.k) {
         return Verdict::Refused(Refusal::Neighbours);
     }
+    match presence::check_word(terms.d, terms.word) {
+        Verdict::Accepted => check_buffers(terms, query, vectors, entries),
+        Verdict::Refused(cause) => Verdict::Refused(cause),
+    }
+}
+
+// Whether the query, the vectors and the entries can be scanned, where the numbers can be.
+fn check_buffers(terms: ScanTerms, query: &[i32], vectors: &[i32], entries: usize) -> Verdict
+    requires { ⌜ (terms .d ≤ maxDimensions) × (terms .n ≤ maxVectors) ⌝ }
+    ensures { λ r. ⌜ r ≡ first (scanBufferCauses terms (now (query .entry)) (now (vectors .entry)) entries) ⌝ }
+{
     if !exact_lengths(terms, query.len(), vectors.len(), entries) {
         return Verdict::Refused(Refusal::Length);
     }
@@ -108,22 +124,24 @@ fn scan_ready(terms: ScanTerms, query: &[i32], vectors: &[i32]) -> [Entry; MAX_N
     ensures { λ r. ⌜ r ≡ inArray (entriesOf (scanAnswer terms (now (query .entry)) (now (vectors .entry)))) ⌝ }
 {
     let n = terms.n;
+    let factors = presence::factors_of(terms.word);
     let mut distances = [0u64; MAX_VECTORS];
-    scan_into(terms, query, vectors, &mut distances[..n])
+    scan_into(terms, factors, query, vectors, &mut distances[..n])
 }
 
-// The same with room for the distances of all vectors.
+// The same with the factors of the dimensions and room for the distances of all vectors.
 fn scan_into(
     terms: ScanTerms,
+    factors: [u32; MAX_DIMENSIONS],
     query: &[i32],
     vectors: &[i32],
     distances: &mut [u64],
 ) -> [Entry; MAX_NEIGHBOURS]
     requires { ⌜ (Vectors (terms .d) (terms .n) (now query) (now vectors)) × (Neighbours (terms .n) (terms .k))
-        × (length (now distances) ≡ terms .n) ⌝ }
+        × (length (now distances) ≡ terms .n) × (factors ≡ factorsOf (terms .word)) ⌝ }
     ensures { λ r. ⌜ r ≡ inArray (entriesOf (scanAnswer terms (now (query .entry)) (now (vectors .entry)))) ⌝ }
 {
-    measure_all(terms.d, query, vectors, distances);
+    measure_all(terms.d, factors, query, vectors, distances);
     let k = terms.k;
     let mut numbers = [0u32; MAX_NEIGHBOURS];
     let mut least = [0u64; MAX_NEIGHBOURS];
@@ -133,15 +151,22 @@ fn scan_into(
 }
 
 // The distance of each vector from the query.
-fn measure_all(d: usize, query: &[i32], vectors: &[i32], keys: &mut [u64])
-    requires { ⌜ Vectors d (length (now keys)) (now query) (now vectors) ⌝ }
-    ensures { λ _. ⌜ now (keys .exit) ≡ valuesFrom (distancesOf d (now (query .entry)) (now (vectors .entry))) 0 (length (now (keys .entry))) ⌝ }
+fn measure_all(
+    d: usize,
+    factors: [u32; MAX_DIMENSIONS],
+    query: &[i32],
+    vectors: &[i32],
+    keys: &mut [u64],
+)
+    requires { ⌜ (Vectors d (length (now keys)) (now query) (now vectors)) × Factors factors ⌝ }
+    ensures { λ _. ⌜ now (keys .exit) ≡ valuesFrom (distancesOf d factors (now (query .entry)) (now (vectors .entry))) 0
+        (length (now (keys .entry))) ⌝ }
 {
     let mut i = 0;
     while i < keys.len() {
         let start = i * d;
         let end = start + d;
-        keys[i] = distance::squared_distance(query, &vectors[start..end]);
+        keys[i] = distance::weighed_distance(factors, query, &vectors[start..end]);
         i += 1;
     }
 }

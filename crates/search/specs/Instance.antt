@@ -4,7 +4,7 @@ use mathlib.Core.Path.{_≡_, refl, sym, ap, _∙_}
 use mathlib.Core.Bool.{true, and-eq-true-iff}
 use mathlib.Core.Logic.{_≢_, inl, inr}
 use mathlib.Core.List.{List}
-use Prim.Native.Nat.{ℕ, zero, suc, _*_, _<_}
+use Prim.Native.Nat.{ℕ, zero, suc, _*_, _≤_, _<_}
 use native.Mathlib.Nat.{eq-or-lt-of-le, le-of-suc-le-suc}
 use native.Mathlib.Decide.{ℕ-discrete}
 use native.Mathlib.Omega.{arith}
@@ -19,29 +19,32 @@ use Rattle.selection.specs.Least.{member?}
 use Rattle.selection.specs.Theorems.{exact}
 use Rattle.codes.specs.Codes.{spareZero}
 use Rattle.cells.specs.Cells.{vectorAt, noneEmpty, noEmptyCodes, goodCodes}
-use Rattle.distance.specs.Distance.{distanceOf}
-use Rattle.distance.specs.Bounds.{firstBound}
+use Rattle.distance.specs.Bounds.{weighedBound}
 use Rattle.distance.specs.CellBounds.{lower-le, CellReached, lower-reached, upper-reached}
-use Rattle.search.specs.Search.{Index, numbersIn, distanceIn, lowIn, highIn, scanned}
+use Rattle.search.specs.Search.{Index, Query, factorsIn, numbersIn, distanceFrom, distanceIn, lowIn, highIn, scanned}
 use Rattle.search.specs.Settled.{withVectors, CellOf, OwnCodes, SettlesAnswer}
 use Rattle.scan.specs.Ranked.{scan-agree}
 use Rattle.search.specs.Rows.{Row, in-a-row}
 
 -- v is the distance of a vector of code i's cell
-pub record Possible (l : Index) (query : List ℤ) (i v : ℕ) : Type 0 where
+pub record Possible (l : Index) (query : Query) (i v : ℕ) : Type 0 where
   pub vector : List ℤ
   pub cell : CellOf l i vector
-  pub is : distanceOf (l .d) query vector ≡ v
+  pub is : distanceFrom l query vector ≡ v
 
 in-library : (l : Index) {i : ℕ} → i ∈ numbersIn l → i < l .n
 in-library l m = omega (arith, (counted 0 (l .n) m) .below)
 
+-- no vector of a cell is nearer than its least distance
+cell-lower : (l : Index) (query : Query) (i : ℕ) {vector : List ℤ} → CellOf l i vector → lowIn l query i ≤ distanceFrom l query vector
+cell-lower l query i cell = lower-le (l .d) (l .b) (l .marks) (l .codes) (factorsIn query) (query .components) i cell
+
 -- ---- own codes
 
-pub own-lower : (l : Index) (query : List ℤ) → OwnCodes l → LowerBound (lowIn l query) (distanceIn l query) (numbersIn l)
-own-lower l query own i m = lower-le (l .d) (l .b) (l .marks) (l .codes) query i (own .cells i (in-library l m))
+pub own-lower : (l : Index) (query : Query) → OwnCodes l → LowerBound (lowIn l query) (distanceIn l query) (numbersIn l)
+own-lower l query own i m = cell-lower l query i (own .cells i (in-library l m))
 
-pub own-possible : (l : Index) (query : List ℤ) → OwnCodes l → Within (Possible l query) (distanceIn l query) (numbersIn l)
+pub own-possible : (l : Index) (query : Query) → OwnCodes l → Within (Possible l query) (distanceIn l query) (numbersIn l)
 own-possible l query own i m = record { vector = vectorAt (l .d) (l .vectors) i; cell = own .cells i (in-library l m); is = refl }
 
 -- ---- bounds
@@ -57,12 +60,12 @@ none-empty d b marks codes (suc n) i good below =
       | inr l ↦ none-empty d b marks codes n i (both .0) l
     ]
 
-pub cell-bounds : (l : Index) (query : List ℤ) → goodCodes (l .d) (l .b) (l .n) (l .marks) (l .codes) ≡ true
+pub cell-bounds : (l : Index) (query : Query) → goodCodes (l .d) (l .b) (l .n) (l .marks) (l .codes) ≡ true
     → Bounds (Possible l query) (lowIn l query) (highIn l query) (numbersIn l)
 cell-bounds l query good = record {
-  least = λ i v m possible. rw (← possible .is) (lower-le (l .d) (l .b) (l .marks) (l .codes) query i (possible .cell));
-  low-possible = λ i m. reached (lower-reached (l .d) (l .b) (l .marks) (l .codes) query i (named i m));
-  high-possible = λ i m. reached (upper-reached (l .d) (l .b) (l .marks) (l .codes) query i (named i m));
+  least = λ i v m possible. rw (← possible .is) (cell-lower l query i (possible .cell));
+  low-possible = λ i m. reached (lower-reached (l .d) (l .b) (l .marks) (l .codes) (factorsIn query) (query .components) i (named i m));
+  high-possible = λ i m. reached (upper-reached (l .d) (l .b) (l .marks) (l .codes) (factorsIn query) (query .components) i (named i m));
 }
   where
     named : (i : ℕ) → i ∈ numbersIn l → noneEmpty (l .d) (l .b) (l .marks) (l .codes) i (l .d) ≡ true
@@ -70,26 +73,26 @@ cell-bounds l query good = record {
         let both = and-eq-true-iff (noEmptyCodes (l .d) (l .b) (l .marks) (l .codes) (l .n)) (spareZero (l .b) (l .n) (l .codes)) .0 good in
         none-empty (l .d) (l .b) (l .marks) (l .codes) (l .n) i (both .0) (in-library l m)
 
-    reached : {step : ℤ → ℤ → ℤ → ℕ} {i : ℕ} → CellReached step (l .d) (l .b) (l .marks) (l .codes) query i
-        → Possible l query i (firstBound step (l .d) (l .b) (l .marks) (l .codes) query i (l .d))
+    reached : {step : ℤ → ℤ → ℤ → ℕ} {i : ℕ} → CellReached step (l .d) (l .b) (l .marks) (l .codes) (factorsIn query) (query .components) i
+        → Possible l query i (weighedBound step (l .d) (l .b) (l .marks) (l .codes) (factorsIn query) (query .components) i)
     reached r = record { vector = r .vector; cell = r .cell; is = r .is }
 
 -- ---- from distances to vectors
 
 -- where for each number there is a vector of its cell that has the wanted distance, there are vectors whose scan is that of the distances
-pub answered : (l : Index) (query : List ℤ) (k : ℕ) (wanted : ℕ → ℕ) (vectors : List ℤ)
-    → ((i : ℕ) → i < l .n → distanceOf (l .d) query (vectorAt (l .d) vectors i) ≡ wanted i)
+pub answered : (l : Index) (query : Query) (k : ℕ) (wanted : ℕ → ℕ) (vectors : List ℤ)
+    → ((i : ℕ) → i < l .n → distanceFrom l query (vectorAt (l .d) vectors i) ≡ wanted i)
     → scanned (withVectors l vectors) query k ≡ scan k wanted (numbersIn l)
 answered l query k wanted vectors each =
     scan-agree k wanted (distanceIn (withVectors l vectors) query) (numbersIn l) (λ i m. each i (in-library l m))
 
 -- a vector of the cell for number i, the library's own where i is of the set
-record Stands (l : Index) (query : List ℤ) (set : List ℕ) (wanted : ℕ → ℕ) (i : ℕ) (vector : List ℤ) : Type 0 where
+record Stands (l : Index) (query : Query) (set : List ℕ) (wanted : ℕ → ℕ) (i : ℕ) (vector : List ℤ) : Type 0 where
   cell : CellOf l i vector
-  is : distanceOf (l .d) query vector ≡ wanted i
+  is : distanceFrom l query vector ≡ wanted i
   kept : i ∈ set → vector ≡ vectorAt (l .d) (l .vectors) i
 
-pub settles-distances : (l : Index) (query : List ℤ) (k : ℕ) (set : List ℕ) → OwnCodes l → SettlesAnswer l query k set
+pub settles-distances : (l : Index) (query : Query) (k : ℕ) (set : List ℕ) → OwnCodes l → SettlesAnswer l query k set
     → Settles k (Possible l query) (distanceIn l query) (numbersIn l) set
 settles-distances l query k set own settles other within agree =
     let row = in-a-row (l .d) (l .n) (Stands l query set other) (λ i h. stands i h (member? i set)) in
@@ -112,20 +115,20 @@ settles-distances l query k set own settles other within agree =
         }
 
 -- a vector for number j: another at i, the library's own elsewhere
-record Put (l : Index) (query : List ℤ) (i v j : ℕ) (vector : List ℤ) : Type 0 where
-  is : distanceOf (l .d) query vector ≡ changed (distanceIn l query) i v j
+record Put (l : Index) (query : Query) (i v j : ℕ) (vector : List ℤ) : Type 0 where
+  is : distanceFrom l query vector ≡ changed (distanceIn l query) i v j
   there : j ≡ i → CellOf l i vector
   elsewhere : j ≢ i → vector ≡ vectorAt (l .d) (l .vectors) j
 
 -- vectors that differ at number i alone, by one of its cell, and have another scan
-pub record OtherScan (l : Index) (query : List ℤ) (k i : ℕ) : Type 0 where
+pub record OtherScan (l : Index) (query : Query) (k i : ℕ) : Type 0 where
   pub vectors : List ℤ
   pub size : length vectors ≡ l .n * l .d
   pub cell : CellOf l i (vectorAt (l .d) vectors i)
   pub elsewhere : (j : ℕ) → j < l .n → j ≢ i → vectorAt (l .d) vectors j ≡ vectorAt (l .d) (l .vectors) j
   pub changes : scanned (withVectors l vectors) query k ≢ scanned l query k
 
-pub needed-vector : (l : Index) (query : List ℤ) (k i : ℕ) → OwnCodes l → i < l .n
+pub needed-vector : (l : Index) (query : Query) (k i : ℕ) → OwnCodes l → i < l .n
     → Needed k (Possible l query) (distanceIn l query) (numbersIn l) i → OtherScan l query k i
 needed-vector l query k i own within needed =
     let v = needed .value in

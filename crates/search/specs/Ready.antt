@@ -12,6 +12,7 @@ use Rattle.refusal.specs.declared.Verdict.the-variants.{Accepted}
 use Rattle.refusal.specs.First.{first, passed}
 use Rattle.limits.specs.Limits.{maxDimensions, maxVectors, maxNeighbours, isVectorCount, isNeighbourCount}
 use Rattle.limits.specs.Tests as limits
+use Rattle.presence.specs.Presence.{wordCauses}
 use Rattle.signed.specs.Components.{areComponents}
 use Rattle.layout.specs.Layout.{firstMarks}
 use Rattle.layout.specs.Stretch.{shapeCauses, shape}
@@ -23,49 +24,56 @@ use Rattle.order.specs.Members.{member-getD}
 use Rattle.order.specs.Counted.{counted, counted-length}
 use Rattle.order.specs.Ranking.{ranked-count, ranked-among}
 use Rattle.selection.specs.Reading.{readingOrder}
-use Rattle.search.specs.Search.{Index, Room, numbersIn, exactLengths, entryCauses}
+use Rattle.search.specs.Search.{Index, Query, Room, numbersIn, exactLengths, entryCauses}
 use Rattle.search.specs.declared.Terms.{Terms}
-use Rattle.search.specs.Accepted.{lengths-told}
+use Rattle.search.specs.Accepted.{word-passes, lengths-told}
 
 -- the library of these numbers and buffers
 abbrev pub indexOf : Terms → List ℤ → List ℕ → List ℤ → Index
 indexOf t marks codes vectors = record { d = t .d; b = t .b; n = t .n; marks = marks; codes = codes; vectors = vectors }
 
-abbrev pub termsOf : ℕ → ℕ → ℕ → ℕ → Terms
-termsOf d b n k = record { d = d; b = b; n = n; k = k }
+abbrev pub termsOf : ℕ → ℕ → ℕ → ℕ → ℕ → Terms
+termsOf d b n k word = record { d = d; b = b; n = n; k = k; word = word }
+
+-- the query of these components, with the word of these numbers
+abbrev pub queryOf : Terms → List ℤ → Query
+queryOf t components = record { components = components; word = t .word }
 
 -- the room of so many entries and numbers
 abbrev pub roomOf : ℕ → ℕ → Room
 roomOf entries reads = record { entries = entries; reads = reads }
 
-pub record Ready (l : Index) (query : List ℤ) (k : ℕ) : Type 0 where
+pub record Ready (l : Index) (query : Query) (k : ℕ) : Type 0 where
   pub shaped : first (shapeCauses (l .d) (l .b)) ≡ Accepted
   pub dimensions : l .d ≤ maxDimensions
   pub count : l .n ≤ maxVectors
   pub some : 1 ≤ k
   pub enough : k ≤ l .n
   pub few : k ≤ maxNeighbours
-  pub of-query : length query ≡ l .d
+  pub word : first (wordCauses (l .d) (query .word)) ≡ Accepted
+  pub of-query : length (query .components) ≡ l .d
   pub of-marks : length (l .marks) ≡ firstMarks (l .d) (l .b) (l .d)
   pub of-codes : length (l .codes) ≡ codeLength (l .b) (l .n)
   pub of-vectors : length (l .vectors) ≡ l .n * l .d
-  pub components : areComponents query ≡ true
+  pub components : areComponents (query .components) ≡ true
   pub marks : goodMarks (l .d) (l .b) (l .marks) ≡ true
   pub codes : goodCodes (l .d) (l .b) (l .n) (l .marks) (l .codes) ≡ true
 
 -- with the room for the answer
-pub record Entered (l : Index) (query : List ℤ) (k : ℕ) (room : Room) : Type 0 where
+pub record Entered (l : Index) (query : Query) (k : ℕ) (room : Room) : Type 0 where
   pub ready : Ready l query k
   pub of-entries : room .entries ≡ k
   pub of-reads : room .reads ≡ l .n
 
-pub entered : (l : Index) (query : List ℤ) (k : ℕ) (room : Room) → first (entryCauses l query k room) ≡ Accepted → Entered l query k room
+pub entered : (l : Index) (query : Query) (k : ℕ) (room : Room) → first (entryCauses l query k room) ≡ Accepted → Entered l query k room
 entered l query k room accepts =
     let dimensions = passed _ _ _ accepts in
     let bits = passed _ _ _ (dimensions .rest) in
     let count = passed _ _ _ (bits .rest) in
     let neighbours = passed _ _ _ (count .rest) in
-    let lengths = passed _ _ _ (neighbours .rest) in
+    let past = passed _ _ _ (neighbours .rest) in
+    let present = passed _ _ _ (past .rest) in
+    let lengths = passed _ _ _ (present .rest) in
     let components = passed _ _ _ (lengths .rest) in
     let marks = passed _ _ _ (components .rest) in
     let codes = passed _ _ _ (marks .rest) in
@@ -81,11 +89,12 @@ entered l query k room accepts =
         some = among .some;
         enough = among .enough;
         few = among .few;
+        word = word-passes (l .d) (query .word) (past .fails) (present .fails);
         of-query = sizes .of-query;
         of-marks = sizes .of-marks;
         of-codes = sizes .of-codes;
         of-vectors = sizes .of-vectors;
-        components = not-false (areComponents query) (components .fails);
+        components = not-false (areComponents (query .components)) (components .fails);
         marks = not-false (goodMarks (l .d) (l .b) (l .marks)) (marks .fails);
         codes = not-false (goodCodes (l .d) (l .b) (l .n) (l .marks) (l .codes)) (codes .fails);
       };
@@ -100,7 +109,7 @@ pub record Place (d : ℕ) (vectors : List ℤ) (i : ℕ) : Type 0 where
   pub small : i * d + d < 2 ^ 64
   pub size : length (vectorAt d vectors i) ≡ d
 
-pub place : {l : Index} {query : List ℤ} {k : ℕ} → Ready l query k → (i : ℕ) → i < l .n → Place (l .d) (l .vectors) i
+pub place : {l : Index} {query : Query} {k : ℕ} → Ready l query k → (i : ℕ) → i < l .n → Place (l .d) (l .vectors) i
 place {l} is i below =
     let whole : suc i * l .d ≤ l .n * l .d = mul-le-mul-right (l .d) below in
     let few : l .n * l .d ≤ maxVectors * maxDimensions = mul-le-mul (is .count) (is .dimensions) in

@@ -8,7 +8,7 @@ use lib.IntN.{ℤ}
 use lib.ListN.{length}
 use Rattle.order.specs.Members.{_∈_}
 use Rattle.cells.specs.Cells.{vectorAt, InCell, Own}
-use Rattle.search.specs.Search.{Index, Room, scanned, searched}
+use Rattle.search.specs.Search.{Index, Query, Room, scanned, searched}
 use Rattle.search.specs.Accepted.{Accepts}
 
 -- the library with other vectors, all else kept
@@ -30,13 +30,13 @@ pub record SameCells (l : Index) (set : List ℕ) (vectors : List ℤ) : Type 0 
   pub kept : (i : ℕ) → i < l .n → i ∈ set → vectorAt (l .d) vectors i ≡ vectorAt (l .d) (l .vectors) i
 
 -- "A set of pattern numbers settles the answer if, whatever vectors of their own cells stand at all the other numbers, with all else that
--- the search is given kept, a full scan gives the answer's k numbers and distances."
-abbrev pub SettlesAnswer : Index → List ℤ → ℕ → List ℕ → Type 0
+-- the search is given kept, a full scan gives the answer's k numbers and distances." The word is kept too, and the scan goes by it.
+abbrev pub SettlesAnswer : Index → Query → ℕ → List ℕ → Type 0
 SettlesAnswer l query k set =
     (vectors : List ℤ) → SameCells l set vectors → scanned (withVectors l vectors) query k ≡ (searched l query k) .best
 
 -- number i is needed: another vector of its cell, put there alone, is taken by the search too, and changes a number or a distance
-pub record NeededVector (l : Index) (query : List ℤ) (k : ℕ) (room : Room) (i : ℕ) : Type 0 where
+pub record NeededVector (l : Index) (query : Query) (k : ℕ) (room : Room) (i : ℕ) : Type 0 where
   pub vectors : List ℤ
   pub size : length vectors ≡ l .n * l .d
   pub cell : CellOf l i (vectorAt (l .d) vectors i)

@@ -8,12 +8,13 @@ use refusal::Refusal;
 ghost use mathlib.Core.Path.{_≡_};
 ghost use Rattle.search.specs.Answer.{searchedCount, foundCount};
 
-// The numbers of a search: of dimensions, bits, vectors and neighbours.
+// The numbers of a search: of dimensions, bits, vectors and neighbours, and the query's presence word.
 pub struct Terms {
     pub d: usize,
     pub b: usize,
     pub n: usize,
     pub k: usize,
+    pub word: u32,
 }
 
 // The answer of a search: how many vectors were read, or why it refuses.

@@ -1,17 +1,16 @@
 -- `check_scan` meets its contract: the tests in their order, each of which leaves the rows behind it. Assumes nothing.
 use mathlib.Core.Path.{_≡_, sym, _∙_}
-use mathlib.Core.List.{List, []}
-use Prim.Native.Nat.{ℕ, _*_, _≤_}
-use native.Mathlib.Nat.{mul-le-mul}
-use native.Mathlib.Omega.{arith}
+use mathlib.Core.List.{List}
+use Prim.Native.Nat.{ℕ}
 use lib.ListN.{drop}
 use borrow.Author.Needs.{needs}
 use borrow.Author.Tests.{not-false}
-use Rattle.refusal.specs.declared.Refusal.the-variants.{Dimension, Count, Neighbours, Length, Component}
-use Rattle.refusal.specs.First.{Row, first, first-here, first-next, told}
+use Rattle.refusal.specs.declared.Refusal.the-variants.{Dimension, Count, Neighbours}
+use Rattle.refusal.specs.First.{Row, first, first-here, first-next, first-append, outcome-accepted, outcome-refused, told}
 use Rattle.limits.specs.Limits.{maxDimensions, maxVectors, isDimensionCount, isVectorCount}
 use Rattle.limits.specs.Tests.{between}
-use Rattle.scan.specs.Scanning.{scanCauses}
+use Rattle.presence.specs.Presence.{wordCauses}
+use Rattle.scan.specs.Scanning.{scanCauses, scanBufferCauses}
 use Rattle.scan.proofs.check_scan.Statement.{statement}
 use Rattle.scan.proofs.check_scan.Tie as tie
 
@@ -28,9 +27,12 @@ passed-2 c = passed-1 (c .before .before) ∙ first-next Count _ (told (c .befor
 passed-3 : (c : tie.Else3) → let start = c .before .before .before .before .before .before in first (rows 0 start) ≡ first (rows 3 start)
 passed-3 c = passed-2 (c .before .before) ∙ first-next Neighbours _ (told (c .before .is-neighbour-count .ensures) (c .if3 .left))
 
-passed-4 : (c : tie.Else4) → let start =
-    c .before .before .before .before .before .before .before .before in first (rows 0 start) ≡ first (rows 4 start)
-passed-4 c = passed-3 (c .before .before) ∙ first-next Length _ (told (c .before .exact-lengths .ensures) (c .if4 .left))
+-- the rows of the presence word, and those of the buffers behind them
+abbrev word-rows : tie.Start → List Row
+word-rows c = wordCauses (c .args .terms .d) (c .args .terms .word)
+
+abbrev buffer-rows : tie.Start → List Row
+buffer-rows c = scanBufferCauses (c .args .terms) (c .args .query .now) (c .args .vectors .now) (c .args .entries)
 
 returns : tie.Need-returns
 returns c = sym (first-here Dimension _ (told (c .before .is-dimension-count .ensures) (c .if1 .taken)))
@@ -41,28 +43,30 @@ returns-2 c = sym (passed-1 (c .before .before) ∙ first-here Count _ (told (c 
 returns-3 : tie.Need-returns-3
 returns-3 c = sym (passed-2 (c .before .before) ∙ first-here Neighbours _ (told (c .before .is-neighbour-count .ensures) (c .if3 .taken)))
 
--- a number of vectors and a number of dimensions have a small product
-exact-lengths-requires : tie.Need-exact-lengths-requires
-exact-lengths-requires c κs =
-    let two = c .before .before in
+check-buffers-requires : tie.Need-check-buffers-requires
+check-buffers-requires c κs =
+    let two = c .before .before .before .before .before in
     let one = two .before .before in
-    let a = one .before .before .args in
-    let vectors = between 1 (a .terms .n) maxVectors
-    (not-false (isVectorCount (a .terms .n)) (told (two .before .is-vector-count .ensures) (two .if2 .left))) in
-    let dimensions = between 1 (a .terms .d) maxDimensions
-    (not-false (isDimensionCount (a .terms .d)) (told (one .before .is-dimension-count .ensures) (one .if1 .left))) in
-    let small : a .terms .n * a .terms .d ≤ maxVectors * maxDimensions = mul-le-mul (vectors .below) (dimensions .below) in
-    omega arith
+    let t = one .before .before .args .terms in (
+      between 1 (t .d) maxDimensions
+          (not-false (isDimensionCount (t .d)) (told (one .before .is-dimension-count .ensures) (one .if1 .left))) .below,
+      between 1 (t .n) maxVectors (not-false (isVectorCount (t .n)) (told (two .before .is-vector-count .ensures) (two .if2 .left))) .below,
+    )
 
 returns-4 : tie.Need-returns-4
-returns-4 c = sym (passed-3 (c .before .before) ∙ first-here Length _ (told (c .before .exact-lengths .ensures) (c .if4 .taken)))
+returns-4 c =
+    let tested = c .before .before .before in
+    let start = tested .before .before .before .before .before .before .before in
+    c .check-buffers .ensures
+    ∙ sym (passed-3 (tested .before) ∙ first-append (word-rows start) (buffer-rows start)
+    ∙ outcome-accepted _ _ (sym (tested .check-word .ensures) ∙ c .before .enum-told .given .1))
 
 returns-5 : tie.Need-returns-5
-returns-5 c = sym (passed-4 (c .before .before) ∙ first-here Component _ (told (c .before .all-components .ensures) (c .if5 .taken)))
-
-returns-6 : tie.Need-returns-6
-unfolding first
-returns-6 c = sym (passed-4 (c .before .before) ∙ first-next Component [] (told (c .before .all-components .ensures) (c .if5 .left)))
+returns-5 c =
+    let tested = c .before .before .before in
+    let start = tested .before .before .before .before .before .before .before in
+    sym (passed-3 (tested .before) ∙ first-append (word-rows start) (buffer-rows start)
+    ∙ outcome-refused _ _ (sym (tested .check-word .ensures) ∙ c .before .cause .given .1))
 
 pub check-scan-spec : {M : Type 1} → statement M
 check-scan-spec =
@@ -74,8 +78,9 @@ check-scan-spec =
     returns-2
     (λ c κs. search needs)
     returns-3
-    exact-lengths-requires
-    returns-4
     (λ c κs. search needs)
-    returns-5
-    returns-6)
+    (λ c. search needs)
+    check-buffers-requires
+    (λ c. search needs)
+    returns-4
+    returns-5)

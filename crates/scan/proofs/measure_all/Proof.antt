@@ -2,27 +2,27 @@
 use mathlib.Core.Path.{_≡_, refl, sym, ap, _∙_}
 use mathlib.Core.List.{List}
 use Prim.Native.Nat.{ℕ, suc, _+_, _-_, _*_, _≤_, _<_}
-use native.Mathlib.Nat.{mul-le-mul, mod-eq-of-lt, suc-mul, le-refl}
+use native.Mathlib.Nat.{mul-le-mul, suc-mul, le-refl}
 use native.Mathlib.Omega.{arith}
 use lib.IntN.{ℤ}
 use lib.ListN.{length, take, drop, length-set}
 use borrow.Author.Needs.{needs}
 use Rattle.limits.specs.Limits.{maxDimensions, maxVectors}
 use Rattle.cells.specs.CellLaws.{vector-size}
-use Rattle.distance.specs.Distance.{measuredOf, measured-is}
+use Rattle.distance.specs.Distance.{measuredOf}
 use Rattle.distance.specs.Values.{valuesFrom, values-length, value-at}
 use Rattle.scan.specs.Scanning.{distancesOf}
-use Rattle.scan.specs.Scanned.{Vectors, scanned-small}
+use Rattle.scan.specs.Scanned.{Vectors, scanned-exact}
 use Rattle.distance.proofs.Filling.{Filling, filling-start, filling-next, filling-end}
 use Rattle.scan.proofs.measure_all.Statement.{statement}
 use Rattle.scan.proofs.measure_all.Tie as tie
 
 abbrev Inv-loop : tie.InvT-loop
-Inv-loop d query vectors keys₀ i₀ keys i =
-    (i ≤ length keys₀) × (length keys ≡ length keys₀) × Filling (valuesFrom (distancesOf d query vectors) 0 (length keys₀)) keys i
+Inv-loop d factors query vectors keys₀ i₀ keys i =
+    (i ≤ length keys₀) × (length keys ≡ length keys₀) × Filling (valuesFrom (distancesOf d factors query vectors) 0 (length keys₀)) keys i
 
 abbrev μ-loop : tie.MeasureT-loop
-μ-loop d query vectors keys₀ i₀ keys i = length keys₀ - i
+μ-loop d factors query vectors keys₀ i₀ keys i = length keys₀ - i
 
 -- vector i's part of the row
 pub record Part (d i total : ℕ) : Type 0 where
@@ -37,7 +37,7 @@ part {d} {n} given i below =
 
 here : (c : tie.In-loop Inv-loop μ-loop) → let start =
     c .before .before .before in Part (start .args .d) (c .before .loop .i) (length (start .args .vectors .now))
-here c = part (c .before .before .before .pre) (c .before .loop .i) (omega arith)
+here c = part (c .before .before .before .pre .0) (c .before .loop .i) (omega arith)
 
 loop-holds : tie.Need-loop-holds Inv-loop μ-loop
 loop-holds c = (omega arith, refl, filling-start _ _ (sym (values-length _ 0 _)))
@@ -48,17 +48,17 @@ loop-again c =
     let start = c .before .before .before .before .before in
     let a = start .args in
     let n = length (a .keys .now) in
-    let f = distancesOf (a .d) (a .query .now) (a .vectors .now) in
+    let f = distancesOf (a .d) (a .factors) (a .query .now) (a .vectors .now) in
     let more : at .i < n = omega arith in
     let size : at .i * a .d + a .d - at .i * a .d ≡ a .d = omega arith in
+    let whole = vector-size (a .d) (a .vectors .now) (at .i) (here (c .before .before) .within) in
     let key =
-    c .squared-distance .ensures
-    ∙ ap (λ (m : ℕ). measuredOf (a .query .now) (take m (drop (at .i * a .d) (a .vectors .now)))) size
-    ∙ measured-is (a .d) (a .query .now) _ (start .pre .size) (vector-size (a .d) (a .vectors .now) (at .i) (here (c .before .before) .within))
-    ∙ mod-eq-of-lt (scanned-small (start .pre) (at .i)) ∙ sym (value-at f n (at .i) more) in (
+    c .weighed-distance .ensures
+    ∙ ap (λ (m : ℕ). measuredOf (a .factors) (a .query .now) (take m (drop (at .i * a .d) (a .vectors .now)))) size
+    ∙ scanned-exact (a .factors) (start .pre .1) (start .pre .0) (at .i) whole ∙ sym (value-at f n (at .i) more) in (
       omega arith,
       simp length-set (at .inv .1),
-      filling-next (valuesFrom f 0 n) (at .keys) (at .i) (c .squared-distance .result) 0 (omega (arith, values-length f 0 n)) key
+      filling-next (valuesFrom f 0 n) (at .keys) (at .i) (c .weighed-distance .result) 0 (omega (arith, values-length f 0 n)) key
           (at .inv .2),
     )
 

@@ -9,6 +9,7 @@ use borrow.Author.Needs.{needs}
 use Rattle.refusal.specs.First.{first, outcome, outcome-accepted}
 use Rattle.limits.specs.Limits.{maxVectors}
 use Rattle.limits.specs.Tests.{Neighbours}
+use Rattle.presence.specs.Presence.{factorsOf}
 use Rattle.order.specs.Pair.{Pair, countFrom}
 use Rattle.order.specs.Pairs.{pairsOf}
 use Rattle.order.specs.Rank.{keyAt, ranking}
@@ -18,7 +19,7 @@ use Rattle.least.specs.Selected.{leastCauses, none-refuses}
 use Rattle.distance.specs.Values.{valuesFrom, values-length}
 use Rattle.entries.specs.Entries.{entriesOf, inArray}
 use Rattle.scan.specs.Scanning.{distancesOf}
-use Rattle.scan.specs.Scanned.{Vectors, scan-pairs}
+use Rattle.scan.specs.Scanned.{Vectors, word-small, scan-pairs}
 use Rattle.scan.proofs.scan_into.Statement.{statement}
 use Rattle.scan.proofs.scan_into.Tie as tie
 
@@ -26,7 +27,10 @@ measure-all-requires : tie.Need-measure-all-requires
 measure-all-requires c κs =
     let start = c .before .before in
     let t = start .args .terms in
-    subst⁻¹ (λ (n : ℕ). Vectors (t .d) n (start .args .query .now) (start .args .vectors .now)) (start .pre .2) (start .pre .0)
+    (
+      subst⁻¹ (λ (n : ℕ). Vectors (t .d) n (start .args .query .now) (start .args .vectors .now)) (start .pre .2) (start .pre .0),
+      rw (start .pre .3) (word-small (t .word)),
+    )
 
 numbers-hold : tie.Need-array-borrow-prefix-numbers
 numbers-hold c = c .before .before .before .before .before .before .pre .1 .few
@@ -66,12 +70,14 @@ returns c =
     let measured = chosen .before .before .before .before .before .before .before in
     let start = measured .before .before .before in
     let t = start .args .terms in
-    let f = distancesOf (t .d) (start .args .query .now) (start .args .vectors .now) in
+    let f = distancesOf (t .d) (factorsOf (t .word)) (start .args .query .now) (start .args .vectors .now) in
+    let by-word = ap (λ (fs : List ℕ). valuesFrom (distancesOf (t .d) fs (start .args .query .now) (start .args .vectors .now)) 0
+    (length (start .args .distances .now))) (start .pre .3) in
     let of-numbers = numbers-hold (chosen .before .before .before .before) in
     let of-least = least-hold (chosen .before .before .before) in
     let pairs =
     selected f (t .n) (t .k) _ _ _ _ _ _ _ _ (start .pre .0 .count) (start .pre .1)
-    (measured .measure-all .ensures ∙ ap (valuesFrom f 0) (start .pre .2))
+    (measured .measure-all .ensures ∙ by-word ∙ ap (valuesFrom f 0) (start .pre .2))
     (chosen .select .ensures .1 .0) (chosen .select .ensures .1 .1 .0) (length-take-le _ _ of-numbers) (length-take-le _ _ of-least)
     (start .pre .1 .few) in
     c .entries-of .ensures
