@@ -3,14 +3,15 @@ use crate::Terms;
 use refusal::Refusal;
 use refusal::Verdict;
 ghost use mathlib.Core.Path.{_≡_};
+ghost use mathlib.Core.Bool.{true};
 ghost use Prim.Native.Nat.{_≤_};
 ghost use lib.ListN.{length};
 ghost use Rattle.refusal.specs.First.{first};
 ghost use Rattle.refusal.specs.declared.Verdict.the-variants.{Accepted};
-ghost use Rattle.limits.specs.Limits.{maxVectors};
+ghost use Rattle.limits.specs.Limits.{maxVectors, isVectorCount};
 ghost use Rattle.layout.specs.Stretch.{shapeCauses};
-ghost use Rattle.search.specs.Search.{exactLengths, entryCauses, shapedCauses};
-ghost use Rattle.search.specs.Ready.{indexOf, roomOf};
+ghost use Rattle.search.specs.Search.{exactLengths, entryCauses, shapedCauses, bufferCauses};
+ghost use Rattle.search.specs.Ready.{indexOf, queryOf, roomOf};
 
 // Whether a library can be searched for the k nearest to a query, where so many entries and numbers of vectors read are lent.
 pub fn check_entry(
@@ -23,7 +24,7 @@ pub fn check_entry(
     reads: usize,
 ) -> Verdict
     ensures { λ r. ⌜ r ≡ first (entryCauses (indexOf terms (now (marks .entry)) (now (codes .entry)) (now (vectors .entry)))
-        (now (query .entry)) (terms .k) (roomOf entries reads)) ⌝ }
+        (queryOf terms (now (query .entry))) (terms .k) (roomOf entries reads)) ⌝ }
 {
     match layout::check_shape(terms.d, terms.b) {
         Verdict::Accepted => check_shaped(terms, query, marks, codes, vectors, entries, reads),
@@ -31,7 +32,7 @@ pub fn check_entry(
     }
 }
 
-// The same where the shape is right. The query is tested by itself, and so are the library's marks and codes.
+// The same where the shape is right.
 fn check_shaped(
     terms: Terms,
     query: &[i32],
@@ -43,7 +44,7 @@ fn check_shaped(
 ) -> Verdict
     requires { ⌜ first (shapeCauses (terms .d) (terms .b)) ≡ Accepted ⌝ }
     ensures { λ r. ⌜ r ≡ first (shapedCauses (indexOf terms (now (marks .entry)) (now (codes .entry)) (now (vectors .entry)))
-        (now (query .entry)) (terms .k) (roomOf entries reads)) ⌝ }
+        (queryOf terms (now (query .entry))) (terms .k) (roomOf entries reads)) ⌝ }
 {
     if !limits::is_vector_count(terms.n) {
         return Verdict::Refused(Refusal::Count);
@@ -51,6 +52,26 @@ fn check_shaped(
     if !limits::is_neighbour_count(terms.n, terms.k) {
         return Verdict::Refused(Refusal::Neighbours);
     }
+    match presence::check_word(terms.d, terms.word) {
+        Verdict::Accepted => check_buffers(terms, query, marks, codes, vectors, entries, reads),
+        Verdict::Refused(cause) => Verdict::Refused(cause),
+    }
+}
+
+// The same where the numbers and the presence word are right. The query is tested by itself, and so are the library's marks and codes.
+fn check_buffers(
+    terms: Terms,
+    query: &[i32],
+    marks: &[i32],
+    codes: &[u8],
+    vectors: &[i32],
+    entries: usize,
+    reads: usize,
+) -> Verdict
+    requires { ⌜ (first (shapeCauses (terms .d) (terms .b)) ≡ Accepted) × (isVectorCount (terms .n) ≡ true) ⌝ }
+    ensures { λ r. ⌜ r ≡ first (bufferCauses (indexOf terms (now (marks .entry)) (now (codes .entry)) (now (vectors .entry)))
+        (queryOf terms (now (query .entry))) (terms .k) (roomOf entries reads)) ⌝ }
+{
     if !exact_lengths(terms, query, marks, codes, vectors, entries, reads) {
         return Verdict::Refused(Refusal::Length);
     }
@@ -72,7 +93,7 @@ fn exact_lengths(
 ) -> bool
     requires { ⌜ (first (shapeCauses (terms .d) (terms .b)) ≡ Accepted) × (terms .n ≤ maxVectors) ⌝ }
     ensures { λ r. ⌜ r ≡ exactLengths (indexOf terms (now (marks .entry)) (now (codes .entry)) (now (vectors .entry)))
-        (now (query .entry)) (terms .k) (roomOf entries reads) ⌝ }
+        (queryOf terms (now (query .entry))) (terms .k) (roomOf entries reads) ⌝ }
 {
     if query.len() != terms.d {
         return false;

@@ -3,7 +3,7 @@ use mathlib.Core.Path.{sym, _∙_}
 use borrow.Author.Needs.{needs}
 use Rattle.refusal.specs.First.{outcome-accepted, outcome-refused, first-append}
 use Rattle.layout.specs.Stretch.{shapeCauses}
-use Rattle.search.specs.Ready.{indexOf, roomOf}
+use Rattle.search.specs.Ready.{indexOf, queryOf, roomOf}
 use Rattle.search.specs.Search.{shapedCauses}
 use Rattle.search.proofs.entry.check_entry.Statement.{statement}
 use Rattle.search.proofs.entry.check_entry.Tie as tie
@@ -13,7 +13,7 @@ returns c =
     let a = c .before .before .before .before .before .args in
     c .check-shaped .ensures
     ∙ sym (first-append (shapeCauses (a .terms .d) (a .terms .b))
-    (shapedCauses (indexOf (a .terms) (a .marks .now) (a .codes .now) (a .vectors .now)) (a .query .now) (a .terms .k)
+    (shapedCauses (indexOf (a .terms) (a .marks .now) (a .codes .now) (a .vectors .now)) (queryOf (a .terms) (a .query .now)) (a .terms .k)
     (roomOf (a .entries) (a .reads)))
     ∙ outcome-accepted _ _ (sym (c .before .before .before .check-shape .ensures) ∙ c .before .enum-told .given .1))
 
@@ -21,7 +21,7 @@ returns-2 : tie.Need-returns-2
 returns-2 c =
     let a = c .before .before .before .before .before .args in
     sym (first-append (shapeCauses (a .terms .d) (a .terms .b))
-    (shapedCauses (indexOf (a .terms) (a .marks .now) (a .codes .now) (a .vectors .now)) (a .query .now) (a .terms .k)
+    (shapedCauses (indexOf (a .terms) (a .marks .now) (a .codes .now) (a .vectors .now)) (queryOf (a .terms) (a .query .now)) (a .terms .k)
     (roomOf (a .entries) (a .reads)))
     ∙ outcome-refused _ _ (sym (c .before .before .before .check-shape .ensures) ∙ c .before .cause .given .1))
 
