@@ -158,7 +158,15 @@ fn lower_bounds(
 {
     let size = marks.len();
     let mut table = [0u64; MAX_TABLE];
-    fill_table(Bound::Lower, d, b, marks, factors, query, &mut table[..size]);
+    fill_table(
+        Bound::Lower,
+        d,
+        b,
+        marks,
+        factors,
+        query,
+        &mut table[..size],
+    );
     sum_bounds(d, b, &table[..size], codes, lows);
 }
 

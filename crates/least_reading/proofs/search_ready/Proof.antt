@@ -23,7 +23,7 @@ asked s = queryOf (s .args .terms) (s .args .query .now)
 -- ---- the fronts of the three arrays
 
 -- the factors are those of the query
-weighed : (c : tie.After-factors-of) → c .factors-of .result ≡ factorsIn (asked (c .before))
+weighed : (c : tie.After-factors-of) → c .factors-of .result ≡ factorsIn (asked (c .before .before .before))
 weighed c = c .factors-of .ensures
 
 lows-hold : tie.Need-array-borrow-prefix-lows
@@ -49,23 +49,24 @@ words-room c = sym (length-take-le _ _ (words-hold (c .before)))
 
 lower-bounds-requires : tie.Need-lower-bounds-requires
 lower-bounds-requires c κs =
-    let made = c .before .before .before in
-    (bounding (made .before .pre .0) _ (length-take-le _ _ (lows-hold (c .before))), rw (weighed made) (word-small _))
+    let made = c .before in
+    (bounding (made .before .before .before .pre .0) _ (length-take-le _ _ (lows-hold (c .before))), rw (weighed made) (word-small _))
 
 bounded : (c : tie.After-lower-bounds) → let s = c .before .before .before .before .before in
     c .lower-bounds .last .1 .1 .1 .1 .1 .1 .0 ≡ valuesFrom (lowIn (given s) (asked s)) 0 (s .args .terms .n)
 bounded c =
-    let made = c .before .before .before .before in
-    let l = given (made .before) in
+    let made = c .before .before in
+    let s = made .before .before .before in
+    let l = given s in
     let lows : List ℕ → ℕ → List ℕ =
-    λ fs n. valuesFrom (weighedLower (l .d) (l .b) (l .marks) (l .codes) fs (asked (made .before) .components)) 0 n in
+    λ fs n. valuesFrom (weighedLower (l .d) (l .b) (l .marks) (l .codes) fs (asked s .components)) 0 n in
     c .lower-bounds .ensures ∙ ap₂ lows (weighed made) (length-take-le _ _ (lows-hold (c .before .before)))
 
 search-bounded-requires : tie.Need-search-bounded-requires
 search-bounded-requires c κs =
     let filled = c .before .before .before .before .before in
-    let made = filled .before .before .before .before in
-    let s = made .before in (
+    let made = filled .before .before in
+    let s = made .before .before .before in (
       (
         record { ready = s .pre .0; weighed = weighed made },
         sym (order-room (c .before .before)),

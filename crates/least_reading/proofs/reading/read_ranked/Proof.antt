@@ -32,7 +32,8 @@ front-sorted of keys best rest old k spare of-keys of-best of-spare is =
     let front : take k (keys ++ rest) ≡ keys = take-at keys rest k of-keys in
     sort-leaves of keys best old spare (of-best ∙ sym of-keys) (omega arith) (rw front at is)
 
-module _ {l : Index} {query : Query} {k : ℕ} {lows order words best : List ℕ} (lent : Lent l query k lows order words best) where
+module _ {factors : List ℕ} {l : Index} {query : Query} {k : ℕ} {lows order words best : List ℕ}
+    (lent : Lent factors l query k lows order words best) where
   -- the numbers counted up and sorted by their lows
   of-ranked : (of : List Pair → List ℕ) (old counted : List ℕ) {new : List ℕ} → counted ≡ countFrom 0 (length order)
       → new ≡ outcome (first (pairCauses (length lows) (length counted) (length words))) (of (sort (pairsOf lows counted))) (λ _. old)

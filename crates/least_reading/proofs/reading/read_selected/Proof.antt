@@ -26,7 +26,8 @@ use Rattle.least_reading.specs.Answered.{Lent, HasRead, afterReads, lows
 use Rattle.least_reading.proofs.reading.read_selected.Statement.{statement}
 use Rattle.least_reading.proofs.reading.read_selected.Tie as tie
 
-module _ {l : Index} {query : Query} {k : ℕ} {lows order words best : List ℕ} (lent : Lent l query k lows order words best) where
+module _ {factors : List ℕ} {l : Index} {query : Query} {k : ℕ} {lows order words best : List ℕ}
+    (lent : Lent factors l query k lows order words best) where
   -- the lows rank the numbers as their function does
   ranked-lows : ranked (keyAt lows) (countFrom 0 (length lows)) ≡ ranked (lowIn l query) (numbersIn l)
   ranked-lows = rw (lent .lows-are, values-length (lowIn l query) 0 (l .n)) (values-ranked (lowIn l query) (l .n))

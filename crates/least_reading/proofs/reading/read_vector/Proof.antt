@@ -39,12 +39,12 @@ returns c =
 
 returns-2 : tie.Need-returns-2
 returns-2 c =
-    let tested = c .before .before in
+    let tested = c .before .before .before in
     let s = tested .before .before .before in
     let a = s .args in
     let o = a .number * a .task .terms .d in
     let size : o + a .task .terms .d - o ≡ a .task .terms .d = omega arith in
-    let in-it = sym (inside tested) ∙ not-false _ (c .before .if1 .left) in
+    let in-it = sym (inside tested) ∙ not-false _ (c .before .before .if1 .left) in
     rw in-it
     (ap (λ (m : ℕ). Distance m)
     (c .weighed-distance .ensures
