@@ -21,7 +21,8 @@ use Rattle.distance.specs.Bounds.{lowerOf, upperOf}
 use Rattle.distance.specs.Full.{Full, full-distance, full-bound}
 use Rattle.step.specs.Step.{shortest, longest}
 use Rattle.scan.specs.Ranked.{scan-agree, read-agree}
-use Rattle.search.specs.Search.{Index, Query, Room, numbersIn, distanceFrom, distanceIn, lowIn, highIn, inOwnCells, scanned, searched, bufferCauses, searchCauses}
+use Rattle.search.specs.Search.{Index, Query, Room, numbersIn, distanceFrom, distanceIn, lowIn, highIn}
+use Rattle.search.specs.Search.{inOwnCells, scanned, searched, bufferCauses, searchCauses}
 use Rattle.search.specs.Accepted.{word-told}
 
 -- ---- without a word

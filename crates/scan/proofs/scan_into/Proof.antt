@@ -26,8 +26,7 @@ use Rattle.scan.proofs.scan_into.Tie as tie
 measure-all-requires : tie.Need-measure-all-requires
 measure-all-requires c κs =
     let start = c .before .before in
-    let t = start .args .terms in
-    (
+    let t = start .args .terms in (
       subst⁻¹ (λ (n : ℕ). Vectors (t .d) n (start .args .query .now) (start .args .vectors .now)) (start .pre .2) (start .pre .0),
       rw (start .pre .3) (word-small (t .word)),
     )
