@@ -1,4 +1,4 @@
--- The causes for which the bounds of n codes' cells are refused. Assumes nothing.
+-- The causes for which the bounds of n codes' cells are refused, from a query with its presence word (document 02, Slip 1). Assumes nothing.
 use mathlib.Core.Path.{_≡_}
 use mathlib.Core.Bool.{true, not, _&&_, and-eq-true-iff}
 use mathlib.Core.List.{List, [], _∷_, _++_}
@@ -11,6 +11,7 @@ use Rattle.refusal.specs.declared.Refusal.the-variants.{Count, Length, Componen
 use Rattle.refusal.specs.declared.Verdict.the-variants.{Accepted}
 use Rattle.refusal.specs.First.{Row, _⇒_, first, passed, accepted-front, accepted-behind}
 use Rattle.limits.specs.Limits.{isVectorCount}
+use Rattle.presence.specs.Presence.{wordCauses}
 use Rattle.signed.specs.Components.{areComponents}
 use Rattle.layout.specs.Layout.{firstMarks, codeLength}
 use Rattle.layout.specs.Stretch.{shapeCauses}
@@ -18,20 +19,24 @@ use Rattle.partition.specs.Marks.{goodMarks}
 use Rattle.codes.specs.Codes.{spareZero}
 use Rattle.cells.specs.Cells.{noEmptyCodes, goodCodes}
 
--- 3; 5, for the query, the marks and the codes, and for the two buffers of bounds; 6, 7, 9
-abbrev pub shapedBoundsCauses : ℕ → ℕ → ℕ → List ℤ → List ℤ → List ℕ → ℕ → ℕ → List Row
-shapedBoundsCauses d b n query marks codes lowers uppers =
-    (not (isVectorCount n) ⇒ Count)
-    ∷ (not ((eqb (length query) d && (eqb (length marks) (firstMarks d b d) && eqb (length codes) (codeLength b n)))
+-- 5, for the query, the marks and the codes, and for the two buffers of bounds; 6, 7, 9
+abbrev pub measuredBoundsCauses : ℕ → ℕ → ℕ → List ℤ → List ℤ → List ℕ → ℕ → ℕ → List Row
+measuredBoundsCauses d b n query marks codes lowers uppers =
+    (not ((eqb (length query) d && (eqb (length marks) (firstMarks d b d) && eqb (length codes) (codeLength b n)))
     && (eqb lowers n && eqb uppers n)) ⇒ Length)
     ∷ (not (areComponents query) ⇒ Component)
     ∷ (not (goodMarks d b marks) ⇒ Mark)
     ∷ (not (goodCodes d b n marks codes) ⇒ Code)
     ∷ []
 
--- 1, 2, 3, 5, 6, 7, 9
-abbrev pub boundsCauses : ℕ → ℕ → ℕ → List ℤ → List ℤ → List ℕ → ℕ → ℕ → List Row
-boundsCauses d b n query marks codes lowers uppers = shapeCauses d b ++ shapedBoundsCauses d b n query marks codes lowers uppers
+-- 3; 19, 18; then those
+abbrev pub shapedBoundsCauses : ℕ → ℕ → ℕ → ℕ → List ℤ → List ℤ → List ℕ → ℕ → ℕ → List Row
+shapedBoundsCauses d b n word query marks codes lowers uppers =
+    (not (isVectorCount n) ⇒ Count) ∷ (wordCauses d word ++ measuredBoundsCauses d b n query marks codes lowers uppers)
+
+-- 1, 2, 3, 19, 18, 5, 6, 7, 9
+abbrev pub boundsCauses : ℕ → ℕ → ℕ → ℕ → List ℤ → List ℤ → List ℕ → ℕ → ℕ → List Row
+boundsCauses d b n word query marks codes lowers uppers = shapeCauses d b ++ shapedBoundsCauses d b n word query marks codes lowers uppers
 
 -- ---- what holds where nothing refuses
 
@@ -51,14 +56,16 @@ pub record Bounded (d b n : ℕ) (query marks : List ℤ) (codes : List ℕ) (lo
   pub of-lowers : lowers ≡ n
   pub of-uppers : uppers ≡ n
 
-pub bounded : (d b n : ℕ) (query marks : List ℤ) (codes : List ℕ) (lowers uppers : ℕ)
-    → first (boundsCauses d b n query marks codes lowers uppers) ≡ Accepted → Bounded d b n query marks codes lowers uppers
-bounded d b n query marks codes lowers uppers accepted =
-    let rows = shapedBoundsCauses d b n query marks codes lowers uppers in
+pub bounded : (d b n word : ℕ) (query marks : List ℤ) (codes : List ℕ) (lowers uppers : ℕ)
+    → first (boundsCauses d b n word query marks codes lowers uppers) ≡ Accepted → Bounded d b n query marks codes lowers uppers
+bounded d b n word query marks codes lowers uppers accepted =
+    let rows = shapedBoundsCauses d b n word query marks codes lowers uppers in
     let given = eqb (length query) d && (eqb (length marks) (firstMarks d b d) && eqb (length codes) (codeLength b n)) in
     let lent = eqb lowers n && eqb uppers n in
     let count = passed _ _ _ (accepted-behind (shapeCauses d b) rows accepted) in
-    let lengths = passed _ _ _ (count .rest) in
+    let past = passed _ _ _ (count .rest) in
+    let present = passed _ _ _ (past .rest) in
+    let lengths = passed _ _ _ (present .rest) in
     let components = passed _ _ _ (lengths .rest) in
     let good = passed _ _ _ (components .rest) in
     let named = passed _ _ _ (good .rest) in

@@ -1,52 +1,69 @@
 // The bounds of codes' cells.
 use crate::sum::sum_all;
+use limits::MAX_DIMENSIONS;
+use presence::check_word;
+use presence::factors_of;
 use refusal::Refusal;
 use refusal::Verdict;
 use step::Bound;
 use table::MAX_TABLE;
 use table::fill_table;
 ghost use mathlib.Core.Path.{_≡_};
-ghost use mathlib.Core.Bool.{_&&_};
+ghost use mathlib.Core.Bool.{true, _&&_};
 ghost use Prim.Native.Nat.{_≤_};
 ghost use lib.Dec.{eqb};
 ghost use lib.ListN.{length};
 ghost use Rattle.refusal.specs.First.{first, outcome};
 ghost use Rattle.refusal.specs.declared.Verdict.the-variants.{Accepted};
-ghost use Rattle.limits.specs.Limits.{maxVectors};
+ghost use Rattle.limits.specs.Limits.{maxVectors, isVectorCount};
+ghost use Rattle.presence.specs.Presence.{factorsOf};
 ghost use Rattle.layout.specs.Layout.{firstMarks, codeLength};
 ghost use Rattle.layout.specs.Stretch.{shapeCauses};
-ghost use Rattle.distance.specs.Bounds.{firstBound, lowerOf, upperOf};
+ghost use Rattle.distance.specs.Bounds.{weighedBound, weighedLower, weighedUpper};
+ghost use Rattle.distance.specs.Small.{Factors};
 ghost use Rattle.distance.specs.Values.{valuesFrom};
 ghost use Rattle.step.specs.Step.{stepOf};
-ghost use Rattle.bounds.specs.Bounded.{Bounding, boundsCauses, shapedBoundsCauses};
+ghost use Rattle.bounds.specs.Bounded.{Bounding, boundsCauses, shapedBoundsCauses, measuredBoundsCauses};
 
-// The bounds of n codes' cells: the least distances in one buffer, the greatest in the other.
+// The bounds of n codes' cells over the dimensions that are present: the least distances in one buffer, the greatest in the other.
 pub fn cell_bounds(
     d: usize,
     b: usize,
     n: usize,
+    word: u32,
     query: &[i32],
     marks: &[i32],
     codes: &[u8],
     lowers: &mut [u64],
     uppers: &mut [u64],
 ) -> Verdict
-    ensures { λ r. ⌜ r ≡ first (boundsCauses d b n (now (query .entry)) (now (marks .entry)) (now (codes .entry))
+    ensures { λ r. ⌜ r ≡ first (boundsCauses d b n word (now (query .entry)) (now (marks .entry)) (now (codes .entry))
         (length (now (lowers .entry))) (length (now (uppers .entry)))) ⌝ }
     ensures { λ _. ⌜ now (lowers .exit)
-        ≡ outcome (first (boundsCauses d b n (now (query .entry)) (now (marks .entry)) (now (codes .entry))
+        ≡ outcome (first (boundsCauses d b n word (now (query .entry)) (now (marks .entry)) (now (codes .entry))
         (length (now (lowers .entry))) (length (now (uppers .entry)))))
-        (valuesFrom (lowerOf d b (now (marks .entry)) (now (codes .entry)) (now (query .entry))) 0 n) (λ _. now (lowers .entry)) ⌝ }
+        (valuesFrom (weighedLower d b (now (marks .entry)) (now (codes .entry)) (factorsOf word) (now (query .entry))) 0 n) (λ _. now (lowers .entry)) ⌝ }
     ensures { λ _. ⌜ now (uppers .exit)
-        ≡ outcome (first (boundsCauses d b n (now (query .entry)) (now (marks .entry)) (now (codes .entry))
+        ≡ outcome (first (boundsCauses d b n word (now (query .entry)) (now (marks .entry)) (now (codes .entry))
         (length (now (lowers .entry))) (length (now (uppers .entry)))))
-        (valuesFrom (upperOf d b (now (marks .entry)) (now (codes .entry)) (now (query .entry))) 0 n) (λ _. now (uppers .entry)) ⌝ }
+        (valuesFrom (weighedUpper d b (now (marks .entry)) (now (codes .entry)) (factorsOf word) (now (query .entry))) 0 n) (λ _. now (uppers .entry)) ⌝ }
 {
-    let verdict = check_bounds(d, b, n, query, marks, codes, lowers.len(), uppers.len());
+    let verdict = check_bounds(
+        d,
+        b,
+        n,
+        word,
+        query,
+        marks,
+        codes,
+        lowers.len(),
+        uppers.len(),
+    );
     match verdict {
         Verdict::Accepted => {
-            fill_bounds(Bound::Lower, d, b, query, marks, codes, lowers);
-            fill_bounds(Bound::Upper, d, b, query, marks, codes, uppers);
+            let factors = factors_of(word);
+            fill_bounds(Bound::Lower, d, b, factors, query, marks, codes, lowers);
+            fill_bounds(Bound::Upper, d, b, factors, query, marks, codes, uppers);
             Verdict::Accepted
         }
         Verdict::Refused(cause) => Verdict::Refused(cause),
@@ -58,21 +75,45 @@ fn check_bounds(
     d: usize,
     b: usize,
     n: usize,
+    word: u32,
     query: &[i32],
     marks: &[i32],
     codes: &[u8],
     lowers: usize,
     uppers: usize,
 ) -> Verdict
-    ensures { λ r. ⌜ r ≡ first (boundsCauses d b n (now (query .entry)) (now (marks .entry)) (now (codes .entry)) lowers uppers) ⌝ }
+    ensures { λ r. ⌜ r ≡ first (boundsCauses d b n word (now (query .entry)) (now (marks .entry)) (now (codes .entry)) lowers uppers) ⌝ }
 {
     match layout::check_shape(d, b) {
-        Verdict::Accepted => check_shaped(d, b, n, query, marks, codes, lowers, uppers),
+        Verdict::Accepted => check_shaped(d, b, n, word, query, marks, codes, lowers, uppers),
         Verdict::Refused(cause) => Verdict::Refused(cause),
     }
 }
 
 fn check_shaped(
+    d: usize,
+    b: usize,
+    n: usize,
+    word: u32,
+    query: &[i32],
+    marks: &[i32],
+    codes: &[u8],
+    lowers: usize,
+    uppers: usize,
+) -> Verdict
+    requires { ⌜ first (shapeCauses d b) ≡ Accepted ⌝ }
+    ensures { λ r. ⌜ r ≡ first (shapedBoundsCauses d b n word (now (query .entry)) (now (marks .entry)) (now (codes .entry)) lowers uppers) ⌝ }
+{
+    if !limits::is_vector_count(n) {
+        return Verdict::Refused(Refusal::Count);
+    }
+    match check_word(d, word) {
+        Verdict::Accepted => check_measured(d, b, n, query, marks, codes, lowers, uppers),
+        Verdict::Refused(cause) => Verdict::Refused(cause),
+    }
+}
+
+fn check_measured(
     d: usize,
     b: usize,
     n: usize,
@@ -82,12 +123,9 @@ fn check_shaped(
     lowers: usize,
     uppers: usize,
 ) -> Verdict
-    requires { ⌜ first (shapeCauses d b) ≡ Accepted ⌝ }
-    ensures { λ r. ⌜ r ≡ first (shapedBoundsCauses d b n (now (query .entry)) (now (marks .entry)) (now (codes .entry)) lowers uppers) ⌝ }
+    requires { ⌜ (first (shapeCauses d b) ≡ Accepted) × (isVectorCount n ≡ true) ⌝ }
+    ensures { λ r. ⌜ r ≡ first (measuredBoundsCauses d b n (now (query .entry)) (now (marks .entry)) (now (codes .entry)) lowers uppers) ⌝ }
 {
-    if !limits::is_vector_count(n) {
-        return Verdict::Refused(Refusal::Count);
-    }
     if !exact_lengths(d, b, n, query.len(), marks.len(), codes.len()) {
         return Verdict::Refused(Refusal::Length);
     }
@@ -126,18 +164,19 @@ fn fill_bounds(
     bound: Bound,
     d: usize,
     b: usize,
+    factors: [u32; MAX_DIMENSIONS],
     query: &[i32],
     marks: &[i32],
     codes: &[u8],
     bounds: &mut [u64],
 )
-    requires { ⌜ Bounding d b (length (now bounds)) (now query) (now marks) (now codes) ⌝ }
+    requires { ⌜ (Bounding d b (length (now bounds)) (now query) (now marks) (now codes)) × (Factors factors) ⌝ }
     ensures { λ _. ⌜ now (bounds .exit)
-        ≡ valuesFrom (λ i. firstBound (stepOf bound) d b (now (marks .entry)) (now (codes .entry)) (now (query .entry)) i d)
+        ≡ valuesFrom (weighedBound (stepOf bound) d b (now (marks .entry)) (now (codes .entry)) factors (now (query .entry)))
         0 (length (now (bounds .entry))) ⌝ }
 {
     let length = marks.len();
     let mut table = [0u64; MAX_TABLE];
-    fill_table(bound, d, b, marks, query, &mut table[..length]);
+    fill_table(bound, d, b, marks, factors, query, &mut table[..length]);
     sum_all(d, b, &table[..length], codes, bounds);
 }

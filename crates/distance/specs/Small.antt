@@ -11,6 +11,8 @@ use lib.IntN.{ℤ, pos, negsuc, predℤ}
 use lib.Signed.{mag, leZ}
 use lib.ListN.{length, getD, replicate}
 use Rattle.limits.specs.Limits.{maxDimensions, leastComponent, greatestComponent, isComponent, leastMark, greatestMark, isMark}
+use Rattle.presence.specs.Presence.{factorsOf}
+use Rattle.presence.specs.PresenceLaws.{factors-le}
 use Rattle.signed.specs.Components.{areComponents, component-at}
 use Rattle.partition.specs.Marks.{dimensionMarks, goodMarks}
 use Rattle.codes.specs.Codes.{codeRegion}
@@ -69,6 +71,10 @@ ones-le (suc n) (suc t) = ones-le n t
 pub all-small : Factors allPresent
 unfolding allPresent
 all-small = record { small = λ t. omega (arith, ones-le maxDimensions t) }
+
+-- those of a presence word
+pub word-small : (word : ℕ) → Factors (factorsOf word)
+word-small word = record { small = λ t. omega (arith, factors-le word t) }
 
 product-small : (factor step : ℕ) → factor ≤ greatestFactor → step ≤ 2 ^ 17 → factor * step ≤ 2 ^ 25
 product-small factor step small near =

@@ -33,11 +33,7 @@ pub fn measure(query: &[i32], vector: &[i32]) -> Distance
     if !signed::components::are_components(vector) {
         return Distance::Refused(Refusal::Component);
     }
-    Distance::Squared(weighed_distance(
-        [1u32; MAX_DIMENSIONS],
-        query,
-        vector,
-    ))
+    Distance::Squared(weighed_distance([1u32; MAX_DIMENSIONS], query, vector))
 }
 
 // The distance of a vector from a query over dimensions with these factors, in 64 bits: exact for components and for factors up to 255

@@ -4,7 +4,6 @@ use mathlib.Core.Bool.{Bool, true, false, cond, and-eq-true-iff}
 use mathlib.Core.List.{List, [], _∷_, _++_, List·Memᴰ·head, List·Memᴰ·tail}
 use Prim.Native.Nat.{ℕ, suc, _≤_, _<_}
 use native.Mathlib.Omega.{arith}
-use lib.IntN.{ℤ}
 use lib.ListN.{length, take, getD}
 use lib.Seq.{length-take-le, take-at}
 use Rattle.refusal.specs.declared.Refusal.the-variants.{Cell}
@@ -22,22 +21,23 @@ use Rattle.search.specs.declared.Searched.{Searched}
 use Rattle.search.specs.declared.Searched.the-variants.{Read, Refused}
 use Rattle.distance.specs.Values.{valuesFrom, values-length}
 use Rattle.search.specs.Ready.{Ready}
-use Rattle.search.specs.Search.{Index, numbersIn, distanceIn, lowIn, inOwnCell, inOwnCells, searched}
+use Rattle.least_reading.specs.Prepared.{Prepared}
+use Rattle.search.specs.Search.{Index, Query, numbersIn, distanceIn, lowIn, inOwnCell, inOwnCells, searched}
 
 -- what a reading is lent: the lower bounds, and room for the reading order, for the distances of the best and for their numbers
-pub record Lent (l : Index) (query : List ℤ) (k : ℕ) (lows order words best : List ℕ) : Type 0 where
-  pub ready : Ready l query k
+pub record Lent (factors : List ℕ) (l : Index) (query : Query) (k : ℕ) (lows order words best : List ℕ) : Type 0 where
+  pub prepared : Prepared factors l query k
   pub lows-are : lows ≡ valuesFrom (lowIn l query) 0 (l .n)
   pub order-room : length order ≡ l .n
   pub words-room : length words ≡ l .n
   pub best-room : length best ≡ k
 
-pub lows-room : {l : Index} {query : List ℤ} {k : ℕ} {lows order words best : List ℕ} → Lent l query k lows order words best
+pub lows-room : {factors : List ℕ} {l : Index} {query : Query} {k : ℕ} {lows order words best : List ℕ} → Lent factors l query k lows order words best
     → length lows ≡ l .n
 lows-room {l} {query} lent = ap length (lent .lows-are) ∙ values-length (lowIn l query) 0 (l .n)
 
 -- the outcome of reading: the answer, the numbers read at the front of `order`, and the keys and numbers of the best
-pub record Reads (l : Index) (query : List ℤ) (k : ℕ) (r : Searched) (order keys numbers : List ℕ) : Type 0 where
+pub record Reads (l : Index) (query : Query) (k : ℕ) (r : Searched) (order keys numbers : List ℕ) : Type 0 where
   pub answer : r ≡ cond (inOwnCells l ((searched l query k) .reads)) (Read (length ((searched l query k) .reads))) (Refused Cell)
   pub reads-are : inOwnCells l ((searched l query k) .reads) ≡ true → take (length ((searched l query k) .reads)) order
       ≡ (searched l query k) .reads
@@ -45,30 +45,30 @@ pub record Reads (l : Index) (query : List ℤ) (k : ℕ) (r : Searched) (order 
   pub numbers-are : inOwnCells l ((searched l query k) .reads) ≡ true → numbers ≡ numbersOf ((searched l query k) .best)
 
 -- the outcome of reading the first k: where each lies in its cell, they stand in the two lists with their distances
-pub record FirstReads (l : Index) (query : List ℤ) (k : ℕ) (r : Bool) (keys numbers : List ℕ) : Type 0 where
+pub record FirstReads (l : Index) (query : Query) (k : ℕ) (r : Bool) (keys numbers : List ℕ) : Type 0 where
   pub inside : r ≡ true → inOwnCells l (take k (readingOrder (lowIn l query) (numbersIn l))) ≡ true
   pub gathered : r ≡ true → Gathers k (distanceIn l query) (take k (readingOrder (lowIn l query) (numbersIn l))) keys numbers
   pub outside : r ≡ false → inOwnCells l ((searched l query k) .reads) ≡ false
 
 -- after the first `done` reads
-abbrev pub afterReads : Index → List ℤ → ℕ → ℕ → Reading
+abbrev pub afterReads : Index → Query → ℕ → ℕ → Reading
 afterReads l query k done = after k (lowIn l query) (distanceIn l query) (numbersIn l) done
 
 -- so many were read, each lies in its cell, and the two lists hold the k best
-pub record HasRead (l : Index) (query : List ℤ) (k done : ℕ) (keys numbers : List ℕ) : Type 0 where
+pub record HasRead (l : Index) (query : Query) (k done : ℕ) (keys numbers : List ℕ) : Type 0 where
   pub within : done ≤ l .n
   pub reached : Reached k (lowIn l query) (distanceIn l query) (numbersIn l) done
   pub holds : HoldsBest k keys numbers k (afterReads l query k done .best)
   pub inside : inOwnCells l (afterReads l query k done .reads) ≡ true
 
 -- a vector outside its cell is all that is told
-pub reads-outside : {l : Index} {query : List ℤ} {k : ℕ} (order keys numbers : List ℕ) → inOwnCells l ((searched l query k) .reads) ≡ false
+pub reads-outside : {l : Index} {query : Query} {k : ℕ} (order keys numbers : List ℕ) → inOwnCells l ((searched l query k) .reads) ≡ false
     → Reads l query k (Refused Cell) order keys numbers
 reads-outside order keys numbers out =
     record { answer = rw out; reads-are = λ none. cc; keys-are = λ none. cc; numbers-are = λ none. cc }
 
 -- the keys lent as the front of a longer list
-pub reads-front : {l : Index} {query : List ℤ} {k : ℕ} {r : Searched} {order keys numbers : List ℕ} (rest : List ℕ)
+pub reads-front : {l : Index} {query : Query} {k : ℕ} {r : Searched} {order keys numbers : List ℕ} (rest : List ℕ)
     → Reads l query k r order keys numbers → length keys ≡ k → Reads l query k r order (take k (keys ++ rest)) numbers
 reads-front {k = k} {keys = keys} rest reads size = rw (take-at keys rest k size) reads
 
@@ -96,7 +96,7 @@ cells-fail l is {i} out m = go (inOwnCells l is) refl
 
 -- ---- the loop
 
-module _ (l : Index) (query : List ℤ) (k done : ℕ) (more : done < l .n) where
+module _ (l : Index) (query : Query) (k done : ℕ) (more : done < l .n) where
   within : done < length (numbersIn l)
   within = omega (arith, counted-length 0 (l .n))
 
@@ -119,7 +119,7 @@ module _ (l : Index) (query : List ℤ) (k done : ℕ) (more : done < l .n) wher
 
 -- ---- the first k
 
-module _ {l : Index} {query : List ℤ} {k : ℕ} {r : Bool} {keys best : List ℕ} (first-reads : FirstReads l query k r keys best) where
+module _ {l : Index} {query : Query} {k : ℕ} {r : Bool} {keys best : List ℕ} (first-reads : FirstReads l query k r keys best) where
   -- sorted
   pub first-sorted : Ready l query k → r ≡ true → {keys-then best-then : List ℕ} → keys-then ≡ keysOf (sort (pairsOf keys best))
       → best-then ≡ numbersOf (sort (pairsOf keys best)) → HasRead l query k k keys-then best-then

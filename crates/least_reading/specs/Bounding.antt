@@ -1,20 +1,18 @@
 -- What the lower bounds of n codes take. Assumes nothing.
 use mathlib.Core.Path.{_≡_}
 use mathlib.Core.Bool.{and-eq-true-iff}
-use mathlib.Core.List.{List}
 use Prim.Native.Nat.{ℕ}
 use native.Mathlib.Omega.{arith}
-use lib.IntN.{ℤ}
 use borrow.Author.Tests.{le-leb}
 use Rattle.limits.specs.Limits.{maxVectors}
 use Rattle.codes.specs.Codes.{spareZero}
 use Rattle.cells.specs.Cells.{noEmptyCodes}
 use Rattle.bounds.specs.Bounded.{Bounding}
-use Rattle.search.specs.Search.{Index}
+use Rattle.search.specs.Search.{Index, Query}
 use Rattle.search.specs.Ready.{Ready}
 
-pub bounding : {l : Index} {query : List ℤ} {k : ℕ} → Ready l query k → (n : ℕ) → n ≡ l .n
-    → Bounding (l .d) (l .b) n query (l .marks) (l .codes)
+pub bounding : {l : Index} {query : Query} {k : ℕ} → Ready l query k → (n : ℕ) → n ≡ l .n
+    → Bounding (l .d) (l .b) n (query .components) (l .marks) (l .codes)
 bounding {l} is n same = record {
   shaped = is .shaped;
   count = rw (same, le-leb 1 (l .n) (omega (arith, is .some, is .enough)), le-leb (l .n) maxVectors (is .count));

@@ -3,7 +3,6 @@ use mathlib.Core.Path.{_≡_, refl, sym, ap, _∙_}
 use mathlib.Core.Bool.{Bool, true, false, not, cond}
 use mathlib.Core.List.{List, [], _∷_}
 use Prim.Native.Nat.{ℕ}
-use lib.IntN.{ℤ}
 use lib.ListN.{length, take}
 use Rattle.refusal.specs.declared.Refusal.{Refusal}
 use Rattle.refusal.specs.declared.Refusal.the-variants.{Cell}
@@ -17,16 +16,16 @@ use Rattle.search.specs.declared.Found.{Found}
 use Rattle.search.specs.declared.Searched.the-variants.{Read, Refused}
 use Rattle.search.specs.Answer.{searchAnswer, searchEntries, searchReads}
 use Rattle.search.specs.Accepted.{Accepts, best-few, best-size}
-use Rattle.search.specs.Search.{Index, Room, inOwnCells, searched, entryCauses, searchCauses}
+use Rattle.search.specs.Search.{Index, Query, Room, inOwnCells, searched, entryCauses, searchCauses}
 
 -- the outcome of a verdict: the answer, its entries, and the read list, which a refusal leaves as it was
-pub record Searches (v : Verdict) (l : Index) (query : List ℤ) (k : ℕ) (r : Found) (reads reads-then : List ℕ) : Type 0 where
+pub record Searches (v : Verdict) (l : Index) (query : Query) (k : ℕ) (r : Found) (reads reads-then : List ℕ) : Type 0 where
   pub answer : r .answer ≡ searchAnswer v l query k
   pub entries-are : r .entries ≡ inArray (searchEntries v l query k [])
   pub reads-are : reads-then ≡ searchReads v l query k reads
 
 -- where nothing refuses, the first k entries are those of the best
-pub found-front : (l : Index) (query : List ℤ) (k : ℕ) (room : Room) {r : Found} {reads reads-then : List ℕ} → Accepts l query k room
+pub found-front : (l : Index) (query : Query) (k : ℕ) (room : Room) {r : Found} {reads reads-then : List ℕ} → Accepts l query k room
     → Searches (first (searchCauses l query k room)) l query k r reads reads-then
     → take k (r .entries) ≡ entriesOf (searched l query k .best)
 found-front l query k room held s =
@@ -35,20 +34,20 @@ found-front l query k room held s =
     (best-few l query k room held)
 
 -- the cause that is left behind the entry
-abbrev pub cellCauses : Index → List ℤ → ℕ → List Row
+abbrev pub cellCauses : Index → Query → ℕ → List Row
 cellCauses l query k = (not (inOwnCells l (searched l query k .reads)) ⇒ Cell) ∷ []
 
-pub behind-entry : (l : Index) (query : List ℤ) (k : ℕ) (room : Room) → first (entryCauses l query k room) ≡ verdict.Accepted
+pub behind-entry : (l : Index) (query : Query) (k : ℕ) (room : Room) → first (entryCauses l query k room) ≡ verdict.Accepted
     → first (searchCauses l query k room) ≡ first (cellCauses l query k)
 behind-entry l query k room accepted = first-append (entryCauses l query k room) (cellCauses l query k) ∙ outcome-accepted _ _ accepted
 
 -- the outcome of an equal verdict
-pub searches-by : {v w : Verdict} {l : Index} {query : List ℤ} {k : ℕ} {r : Found} {reads reads-then : List ℕ} → w ≡ v
+pub searches-by : {v w : Verdict} {l : Index} {query : Query} {k : ℕ} {r : Found} {reads reads-then : List ℕ} → w ≡ v
     → Searches v l query k r reads reads-then → Searches w l query k r reads reads-then
 searches-by e s = rw e s
 
 -- what a refusal leaves
-pub searches-none : {v : Verdict} (l : Index) (query : List ℤ) (k : ℕ) (cause : Refusal) (entries : List Entry) (reads : List ℕ)
+pub searches-none : {v : Verdict} (l : Index) (query : Query) (k : ℕ) (cause : Refusal) (entries : List Entry) (reads : List ℕ)
     → v ≡ verdict.Refused cause
     → entries ≡ inArray [] → Searches v l query k (record { answer = Refused cause; entries = entries }) reads reads
 searches-none l query k cause entries reads refused none = record {
@@ -58,7 +57,7 @@ searches-none l query k cause entries reads refused none = record {
 }
 
 -- a refusal at the entry is the search's
-pub refused-at-entry : (l : Index) (query : List ℤ) (k : ℕ) (room : Room) (cause : Refusal)
+pub refused-at-entry : (l : Index) (query : Query) (k : ℕ) (room : Room) (cause : Refusal)
     → first (entryCauses l query k room) ≡ verdict.Refused cause
     → first (searchCauses l query k room) ≡ verdict.Refused cause
 refused-at-entry l query k room cause refused = first-append (entryCauses l query k room) (cellCauses l query k)
@@ -78,10 +77,10 @@ pub tells-refused : (cells : Bool) (m : ℕ) (cause : Refusal) → cond cells (R
 tells-refused true m cause e = cc
 tells-refused false m cause e = refl
 
-pub cells-accepted : (l : Index) (query : List ℤ) (k : ℕ) → inOwnCells l (searched l query k .reads) ≡ true → first (cellCauses l query k) ≡ verdict.Accepted
+pub cells-accepted : (l : Index) (query : Query) (k : ℕ) → inOwnCells l (searched l query k .reads) ≡ true → first (cellCauses l query k) ≡ verdict.Accepted
 unfolding first
 cells-accepted l query k all = rw all
 
-pub cells-refused : (l : Index) (query : List ℤ) (k : ℕ) → inOwnCells l (searched l query k .reads) ≡ false → first (cellCauses l query k) ≡ verdict.Refused Cell
+pub cells-refused : (l : Index) (query : Query) (k : ℕ) → inOwnCells l (searched l query k .reads) ≡ false → first (cellCauses l query k) ≡ verdict.Refused Cell
 unfolding first
 cells-refused l query k some-out = rw some-out

@@ -1,23 +1,22 @@
 -- Reading one vector: its distance where it lies in its code's cell, and what that takes. Assumes nothing.
 use mathlib.Core.Path.{_≡_, refl}
 use mathlib.Core.Bool.{Bool, true, false, cond}
-use mathlib.Core.List.{List}
-use Prim.Native.Nat.{ℕ, suc, _*_, _%_, _^_, _≤_, _<_}
-use native.Mathlib.Nat.{mul-le-mul-right, mod-eq-of-lt}
+use Prim.Native.Nat.{ℕ, suc, _*_, _≤_, _<_}
+use native.Mathlib.Nat.{mul-le-mul-right}
 use native.Mathlib.Omega.{arith}
-use lib.IntN.{ℤ}
 use lib.ListN.{length}
 use Rattle.cells.specs.Cells.{vectorAt, InCell}
-use Rattle.distance.specs.Small.{distance-small}
+use Rattle.distance.specs.Distance.{measuredOf}
+use Rattle.distance.specs.Small.{word-small, measured-exact}
 use Rattle.distance.specs.CellComponents.{cell-components}
 use Rattle.bounds.specs.Inside.{namesCell, names-cell}
-use Rattle.search.specs.Search.{Index, distanceIn, inOwnCell}
+use Rattle.search.specs.Search.{Index, Query, factorsIn, distanceIn, inOwnCell}
 use Rattle.search.specs.Ready.{Ready, place}
 use Rattle.least_reading.specs.declared.reading.VectorRead.{VectorRead}
 use Rattle.least_reading.specs.declared.reading.VectorRead.the-variants.{Distance, Outside}
 
 -- "the search reads a pattern that is not in its code's cell", or its distance
-abbrev pub vectorRead : Index → List ℤ → ℕ → VectorRead
+abbrev pub vectorRead : Index → Query → ℕ → VectorRead
 vectorRead l query i = cond (inOwnCell l i) (Distance (distanceIn l query i)) Outside
 
 -- what the answer tells
@@ -34,7 +33,7 @@ pub tells-outside : (inside : Bool) (m : ℕ) → cond inside (Distance m) Outsi
 tells-outside true m e = cc
 tells-outside false m e = refl
 
-module _ {l : Index} {query : List ℤ} {k : ℕ} (is : Ready l query k) (i : ℕ) (below : i < l .n) where
+module _ {l : Index} {query : Query} {k : ℕ} (is : Ready l query k) (i : ℕ) (below : i < l .n) where
   -- its code names a cell
   pub celled : namesCell (l .d) (l .b) i (length (l .marks)) (length (l .codes)) ≡ true
   celled =
@@ -47,9 +46,11 @@ module _ {l : Index} {query : List ℤ} {k : ℕ} (is : Ready l query k) (i : �
       })
 
   -- in its cell it is measured exactly
-  pub measured : inOwnCell l i ≡ true → distanceIn l query i % 2 ^ 64 ≡ distanceIn l query i
+  pub measured : inOwnCell l i ≡ true
+      → measuredOf (factorsIn query) (query .components) (vectorAt (l .d) (l .vectors) i) ≡ distanceIn l query i
   measured inside =
-      let cell : InCell (l .d) (l .b) (l .marks) (l .codes) i
-      (vectorAt (l .d) (l .vectors) i) = record { components = place is i below .size; inside = inside } in
-      mod-eq-of-lt (distance-small query (is .components) _ (cell-components (l .d) (l .b) (l .marks) (is .marks) (l .codes) i cell)
-      (l .d) (is .dimensions))
+      let vector = vectorAt (l .d) (l .vectors) i in
+      let size = place is i below .size in
+      let cell : InCell (l .d) (l .b) (l .marks) (l .codes) i vector = record { components = size; inside = inside } in
+      measured-exact (factorsIn query) (word-small (query .word)) (query .components) (is .components) vector
+      (cell-components (l .d) (l .b) (l .marks) (is .marks) (l .codes) i cell) (l .d) (is .dimensions) (is .of-query) size

@@ -2,10 +2,12 @@
 mod candidates;
 mod reading;
 
+use crate::reading::Task;
 use crate::reading::read_in_order;
 use bounds::sum::sum_bounds;
 use entries::entries_of;
 use entries::no_entries;
+use limits::MAX_DIMENSIONS;
 use limits::MAX_NEIGHBOURS;
 use limits::MAX_VECTORS;
 use refusal::Verdict;
@@ -23,11 +25,13 @@ ghost use mathlib.Core.List.{[], _++_};
 ghost use Prim.Native.Nat.{_≤_};
 ghost use lib.ListN.{length, take, drop};
 ghost use Rattle.refusal.specs.First.{first};
-ghost use Rattle.distance.specs.Bounds.{lowerOf};
+ghost use Rattle.distance.specs.Bounds.{weighedLower};
+ghost use Rattle.distance.specs.Small.{Factors};
 ghost use Rattle.distance.specs.Values.{valuesFrom};
 ghost use Rattle.bounds.specs.Bounded.{Bounding};
 ghost use Rattle.search.specs.Search.{lowIn, searchCauses};
-ghost use Rattle.search.specs.Ready.{indexOf, roomOf, Ready};
+ghost use Rattle.search.specs.Ready.{indexOf, queryOf, roomOf, Ready};
+ghost use Rattle.least_reading.specs.Prepared.{Prepared};
 ghost use Rattle.least_reading.specs.Searching.{Searches, cellCauses};
 
 // The k nearest of n vectors, and the numbers of the vectors that were read, in reading order; the answer is how many those are. What is
@@ -43,7 +47,7 @@ pub fn nearest_by_bounds(
 ) -> Found
     ensures { λ r. let l = indexOf terms (now (marks .entry)) (now (codes .entry)) (now (vectors .entry)) in
         let room = roomOf entries (length (now (reads .entry))) in
-        ⌜ Searches (first (searchCauses l (now (query .entry)) (terms .k) room)) l (now (query .entry)) (terms .k) r
+        ⌜ Searches (first (searchCauses l (queryOf terms (now (query .entry))) (terms .k) room)) l (queryOf terms (now (query .entry))) (terms .k) r
         (now (reads .entry)) (now (reads .exit)) ⌝ }
 {
     let verdict = check_entry(terms, query, marks, codes, vectors, entries, reads.len());
@@ -65,18 +69,27 @@ fn search_ready(
     vectors: &[i32],
     reads: &mut [u32],
 ) -> Found
-    requires { ⌜ (Ready (indexOf terms (now marks) (now codes) (now vectors)) (now query) (terms .k)) × (length (now reads) ≡ terms .n) ⌝ }
+    requires { ⌜ (Ready (indexOf terms (now marks) (now codes) (now vectors)) (queryOf terms (now query)) (terms .k)) × (length (now reads) ≡ terms .n) ⌝ }
     ensures { λ r. let l = indexOf terms (now (marks .entry)) (now (codes .entry)) (now (vectors .entry)) in
-        ⌜ Searches (first (cellCauses l (now (query .entry)) (terms .k))) l (now (query .entry)) (terms .k) r
+        ⌜ Searches (first (cellCauses l (queryOf terms (now (query .entry))) (terms .k))) l (queryOf terms (now (query .entry))) (terms .k) r
         (now (reads .entry)) (now (reads .exit)) ⌝ }
 {
+    let factors = presence::factors_of(terms.word);
     let n = terms.n;
     let mut lows = [0u64; MAX_VECTORS];
-    lower_bounds(terms.d, terms.b, query, marks, codes, &mut lows[..n]);
+    lower_bounds(
+        terms.d,
+        terms.b,
+        factors,
+        query,
+        marks,
+        codes,
+        &mut lows[..n],
+    );
     let mut order = [0u32; MAX_VECTORS];
     let mut words = [0u64; MAX_VECTORS];
     search_bounded(
-        terms,
+        Task { factors, terms },
         query,
         marks,
         codes,
@@ -90,7 +103,7 @@ fn search_ready(
 
 // The same with the lower bounds. Nothing is written where a vector that is read refuses.
 fn search_bounded(
-    terms: Terms,
+    task: Task,
     query: &[i32],
     marks: &[i32],
     codes: &[u8],
@@ -100,17 +113,17 @@ fn search_bounded(
     words: &mut [u64],
     reads: &mut [u32],
 ) -> Found
-    requires { ⌜ (Ready (indexOf terms (now marks) (now codes) (now vectors)) (now query) (terms .k))
-        × (length (now order) ≡ terms .n) × (length (now words) ≡ terms .n) × (length (now reads) ≡ terms .n) ⌝ }
-    requires { ⌜ now lows ≡ valuesFrom (lowIn (indexOf terms (now marks) (now codes) (now vectors)) (now query)) 0 (terms .n) ⌝ }
-    ensures { λ r. let l = indexOf terms (now (marks .entry)) (now (codes .entry)) (now (vectors .entry)) in
-        ⌜ Searches (first (cellCauses l (now (query .entry)) (terms .k))) l (now (query .entry)) (terms .k) r
+    requires { ⌜ (Prepared (task .factors) (indexOf (task .terms) (now marks) (now codes) (now vectors)) (queryOf (task .terms) (now query)) (task .terms .k))
+        × (length (now order) ≡ task .terms .n) × (length (now words) ≡ task .terms .n) × (length (now reads) ≡ task .terms .n) ⌝ }
+    requires { ⌜ now lows ≡ valuesFrom (lowIn (indexOf (task .terms) (now marks) (now codes) (now vectors)) (queryOf (task .terms) (now query))) 0 (task .terms .n) ⌝ }
+    ensures { λ r. let l = indexOf (task .terms) (now (marks .entry)) (now (codes .entry)) (now (vectors .entry)) in
+        ⌜ Searches (first (cellCauses l (queryOf (task .terms) (now (query .entry))) (task .terms .k))) l (queryOf (task .terms) (now (query .entry))) (task .terms .k) r
         (now (reads .entry)) (now (reads .exit)) ⌝ }
 {
-    let k = terms.k;
+    let k = task.terms.k;
     let mut best = [0u32; MAX_NEIGHBOURS];
     let answer = read_in_order(
-        terms,
+        task,
         query,
         marks,
         codes,
@@ -130,13 +143,22 @@ fn search_bounded(
 }
 
 // The lower bounds of the codes' cells.
-fn lower_bounds(d: usize, b: usize, query: &[i32], marks: &[i32], codes: &[u8], lows: &mut [u64])
-    requires { ⌜ Bounding d b (length (now lows)) (now query) (now marks) (now codes) ⌝ }
-    ensures { λ _. ⌜ now (lows .exit) ≡ valuesFrom (lowerOf d b (now (marks .entry)) (now (codes .entry)) (now (query .entry))) 0 (length (now (lows .entry))) ⌝ }
+fn lower_bounds(
+    d: usize,
+    b: usize,
+    factors: [u32; MAX_DIMENSIONS],
+    query: &[i32],
+    marks: &[i32],
+    codes: &[u8],
+    lows: &mut [u64],
+)
+    requires { ⌜ (Bounding d b (length (now lows)) (now query) (now marks) (now codes)) × (Factors factors) ⌝ }
+    ensures { λ _. ⌜ now (lows .exit)
+        ≡ valuesFrom (weighedLower d b (now (marks .entry)) (now (codes .entry)) factors (now (query .entry))) 0 (length (now (lows .entry))) ⌝ }
 {
     let size = marks.len();
     let mut table = [0u64; MAX_TABLE];
-    fill_table(Bound::Lower, d, b, marks, query, &mut table[..size]);
+    fill_table(Bound::Lower, d, b, marks, factors, query, &mut table[..size]);
     sum_bounds(d, b, &table[..size], codes, lows);
 }
 

@@ -13,8 +13,6 @@ use Rattle.refusal.specs.declared.Verdict.the-variants.{Accepted}
 use Rattle.refusal.specs.First.{first, passed}
 use Rattle.limits.specs.Limits.{maxDimensions, maxVectors, isDimensionCount, isVectorCount, isNeighbourCount}
 use Rattle.limits.specs.Tests.{between, Neighbours, neighbours}
-use Rattle.presence.specs.Presence.{factorsOf}
-use Rattle.presence.specs.PresenceLaws.{factors-le}
 use Rattle.signed.specs.Components.{areComponents, component-at, all-components}
 use Rattle.order.specs.Pair.{Pair, keyed, ranked, numbersOf, countFrom}
 use Rattle.order.specs.Rank.{keyAt, ranking}
@@ -83,10 +81,6 @@ part-components d from zs all =
     (λ i h.
     let below : i < d = omega (arith, length-take d (drop from zs)) in
     rw (getD-take d (drop from zs) i (pos 0) below, getD-drop from zs i (pos 0)) (component-at zs all (from + i)))
-
--- a presence word's factors are small
-pub word-small : (word : ℕ) → Factors (factorsOf word)
-word-small word = record { small = λ t. omega (arith, factors-le word t) }
 
 pub scanned-exact : {d n : ℕ} {query vectors : List ℤ} (factors : List ℕ) → Factors factors → Vectors d n query vectors → (i : ℕ)
     → length (vectorAt d vectors i) ≡ d → measuredOf factors query (vectorAt d vectors i) ≡ distancesOf d factors query vectors i

@@ -41,10 +41,10 @@ place {d} {b} {t} {s} shaped below is =
     }
 
 -- the entries of the first t dimensions stand at the table's front
-pub record Filled (step : ℤ → ℤ → ℤ → ℕ) (d b : ℕ) (marks query : List ℤ) (table : List ℕ) (t : ℕ) : Type 0 where
+pub record Filled (step : ℤ → ℤ → ℤ → ℕ) (d b : ℕ) (marks : List ℤ) (factors : List ℕ) (query : List ℤ) (table : List ℕ) (t : ℕ) : Type 0 where
   pub within : t ≤ d
   pub room : length table ≡ firstMarks d b d
-  pub front : take (firstMarks d b t) table ≡ tableFirst step d b marks query t
+  pub front : take (firstMarks d b t) table ≡ tableFirst step d b marks factors query t
 
 -- the first elements, up to the end of the part that is put back
 put-front : (a e : ℕ) (xs ys : List ℕ) → a ≤ e → e ≤ length xs → length ys ≡ e - a → take e (putMid a (e - a) xs ys) ≡ take a xs ++ ys
@@ -53,16 +53,17 @@ put-front a e xs ys first within count =
     let long : length (take a xs ++ ys) ≡ e = simp length-append (omega (arith, length-take-le a xs (omega arith))) in
     rw (← append-assoc (take a xs) ys post) (take-at (take a xs ++ ys) post e long)
 
-module _ (step : ℤ → ℤ → ℤ → ℕ) (d b : ℕ) (marks query : List ℤ) where
-  pub filled-none : (table : List ℕ) → length table ≡ firstMarks d b d → Filled step d b marks query table 0
+module _ (step : ℤ → ℤ → ℤ → ℕ) (d b : ℕ) (marks : List ℤ) (factors : List ℕ) (query : List ℤ) where
+  pub filled-none : (table : List ℕ) → length table ≡ firstMarks d b d → Filled step d b marks factors query table 0
   filled-none table room = record { within = omega arith; room = room; front = unfold tableFirst firstMarks in refl }
 
   -- the entries of dimension t + 1 are written over the part behind it
   pub filled-next : {t start bits end : ℕ} {table : List ℕ} (ys : List ℕ) → Place d b t start bits end → t < d
-      → ys ≡ stepsFrom step (getD query t (pos 0)) (take (end - start) (drop start marks)) 0 (length (midOf start (end - start) table))
-      → Filled step d b marks query table t → Filled step d b marks query (putMid start (end - start) table ys) (t + 1)
+      → ys ≡ stepsFrom step (getD factors t 0) (getD query t (pos 0)) (take (end - start) (drop start marks)) 0 (length (midOf start (end - start) table))
+      → Filled step d b marks factors query table t → Filled step d b marks factors query (putMid start (end - start) table ys) (t + 1)
   unfolding tableFirst dimensionMarks
   filled-next {t} {start} {bits} {end} {table} ys at below is so-far =
+      let factor = getD factors t 0 in
       let q = getD query t (pos 0) in
       let next = first-next-marks d b t in
       let count : end - start ≡ markCount d b (suc t) = omega (arith, at .begins, at .ends, next) in
@@ -70,8 +71,8 @@ module _ (step : ℤ → ℤ → ℤ → ℕ) (d b : ℕ) (marks query : List �
       let number : suc t - 1 ≡ t = omega arith in
       let own : take (end - start) (drop start marks) ≡ dimensionMarks d b marks (suc t) = rw (count, at .begins, number) in
       let part = mid-len start end table inside in
-      let entries : ys ≡ stepsFrom step q (dimensionMarks d b marks (suc t)) 0 (markCount d b (suc t)) = rw (own, part, count) at is in
-      let long : length ys ≡ end - start = ap length entries ∙ length-steps step q (dimensionMarks d b marks (suc t)) 0 _ ∙ sym count in
+      let entries : ys ≡ stepsFrom step factor q (dimensionMarks d b marks (suc t)) 0 (markCount d b (suc t)) = rw (own, part, count) at is in
+      let long : length ys ≡ end - start = ap length entries ∙ length-steps step factor q (dimensionMarks d b marks (suc t)) 0 _ ∙ sym count in
       let first : start ≤ end = omega (arith, at .begins, at .ends, next) in
       record {
         within = omega arith;
@@ -79,7 +80,7 @@ module _ (step : ℤ → ℤ → ℤ → ℕ) (d b : ℕ) (marks query : List �
         front = rw (add-one t, ← at .ends, put-front start end table ys first inside long, entries, at .begins, so-far .front);
       }
 
-  pub filled-all : {table : List ℕ} {t : ℕ} → Filled step d b marks query table t → d ≤ t → table ≡ tableOf step d b marks query
+  pub filled-all : {table : List ℕ} {t : ℕ} → Filled step d b marks factors query table t → d ≤ t → table ≡ tableOf step d b marks factors query
   filled-all {table} {t} so-far past =
       let all : t ≡ d = omega (arith, so-far .within) in
       sym (take-all (firstMarks d b d) table (omega (arith, so-far .room))) ∙ rw all at (so-far .front)

@@ -1,6 +1,6 @@
--- A query's squared steps to every region, worked out once a query (source document 003, section 3.3), so that a code's bound is a sum
--- of entries. The table has the layout of the marks buffer: a region's entry stands where its lower mark stands. The entry
--- at a dimension's last mark, where no region begins, is read by no code. Entries are modulo 2^64. Assumes nothing.
+-- What a query's step to every region adds to a bound, worked out once a query (source document 003, section 3.3), so that a code's bound
+-- is a sum of entries. The table has the layout of the marks buffer: a region's entry stands where its lower mark stands. The entry
+-- at a dimension's last mark, where no region begins, is read by no code. Entries are worked out in 64 bits. Assumes nothing.
 use mathlib.Core.Bool.{Bool, false, _&&_}
 use mathlib.Core.List.{List, [], _∷_, _++_}
 use Prim.Native.Nat.{ℕ, zero, suc, _+_, _*_, _%_, _^_}
@@ -13,21 +13,23 @@ use Rattle.layout.specs.Layout.{markCount, firstMarks}
 use Rattle.layout.specs.Stretch.{shapeCauses}
 use Rattle.partition.specs.Marks.{dimensionMarks}
 use Rattle.codes.specs.Codes.{codeRegion}
+use Rattle.step.specs.Step.{weighedWord}
 use Rattle.distance.specs.Bounds.{stepTo}
 
--- n entries from region r on, for one component of the query
-unfoldable pub stepsFrom : (ℤ → ℤ → ℤ → ℕ) → ℤ → List ℤ → ℕ → ℕ → List ℕ
-stepsFrom step q marks r zero = []
-stepsFrom step q marks r (suc n) = stepTo step q marks r % 2 ^ 64 ∷ stepsFrom step q marks (suc r) n
+-- n entries from region r on, for one dimension's factor and component of the query
+unfoldable pub stepsFrom : (ℤ → ℤ → ℤ → ℕ) → ℕ → ℤ → List ℤ → ℕ → ℕ → List ℕ
+stepsFrom step factor q marks r zero = []
+stepsFrom step factor q marks r (suc n) = weighedWord factor (stepTo step q marks r) ∷ stepsFrom step factor q marks (suc r) n
 
 -- the entries of the first t dimensions
-unfoldable pub tableFirst : (ℤ → ℤ → ℤ → ℕ) → ℕ → ℕ → List ℤ → List ℤ → ℕ → List ℕ
-tableFirst step d b marks query zero = []
-tableFirst step d b marks query (suc t) =
-    tableFirst step d b marks query t ++ stepsFrom step (getD query t (pos 0)) (dimensionMarks d b marks (suc t)) 0 (markCount d b (suc t))
+unfoldable pub tableFirst : (ℤ → ℤ → ℤ → ℕ) → ℕ → ℕ → List ℤ → List ℕ → List ℤ → ℕ → List ℕ
+tableFirst step d b marks factors query zero = []
+tableFirst step d b marks factors query (suc t) =
+    tableFirst step d b marks factors query t
+    ++ stepsFrom step (getD factors t 0) (getD query t (pos 0)) (dimensionMarks d b marks (suc t)) 0 (markCount d b (suc t))
 
-abbrev pub tableOf : (ℤ → ℤ → ℤ → ℕ) → ℕ → ℕ → List ℤ → List ℤ → List ℕ
-tableOf step d b marks query = tableFirst step d b marks query d
+abbrev pub tableOf : (ℤ → ℤ → ℤ → ℕ) → ℕ → ℕ → List ℤ → List ℕ → List ℤ → List ℕ
+tableOf step d b marks factors query = tableFirst step d b marks factors query d
 
 -- whether marks and a table of these lengths are those of d dimensions with b bits in all
 unfoldable pub hasTable : ℕ → ℕ → ℕ → ℕ → Bool

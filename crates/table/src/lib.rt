@@ -1,4 +1,4 @@
-// A query's table of squared steps.
+// A query's table: what the step to each region adds to a bound.
 use limits::MAX_DIMENSION_BITS;
 use limits::MAX_DIMENSIONS;
 use refusal::Verdict;
@@ -17,13 +17,21 @@ ghost use Rattle.table.specs.Table.{hasTable, stepsFrom, tableOf};
 pub const MAX_TABLE: usize = MAX_DIMENSIONS * ((1 << MAX_DIMENSION_BITS) + 1);
 
 // The query's table. It stays as it was where the marks or the table are not as long as d dimensions with b bits in all make them.
-pub fn fill_table(bound: Bound, d: usize, b: usize, marks: &[i32], query: &[i32], table: &mut [u64])
+pub fn fill_table(
+    bound: Bound,
+    d: usize,
+    b: usize,
+    marks: &[i32],
+    factors: [u32; MAX_DIMENSIONS],
+    query: &[i32],
+    table: &mut [u64],
+)
     ensures { λ _. ⌜ now (table .exit)
         ≡ cond (hasTable d b (length (now (marks .entry))) (length (now (table .entry))))
-        (tableOf (stepOf bound) d b (now (marks .entry)) (now (query .entry))) (now (table .entry)) ⌝ }
+        (tableOf (stepOf bound) d b (now (marks .entry)) factors (now (query .entry))) (now (table .entry)) ⌝ }
 {
     if has_table(d, b, marks.len(), table.len()) {
-        fill_dimensions(bound, d, b, marks, query, table);
+        fill_dimensions(bound, d, b, marks, factors, query, table);
     }
 }
 
@@ -46,12 +54,13 @@ fn fill_dimensions(
     d: usize,
     b: usize,
     marks: &[i32],
+    factors: [u32; MAX_DIMENSIONS],
     query: &[i32],
     table: &mut [u64],
 )
     requires { ⌜ (first (shapeCauses d b) ≡ Accepted) × (length (now marks) ≡ firstMarks d b d)
         × (length (now table) ≡ firstMarks d b d) ⌝ }
-    ensures { λ _. ⌜ now (table .exit) ≡ tableOf (stepOf bound) d b (now (marks .entry)) (now (query .entry)) ⌝ }
+    ensures { λ _. ⌜ now (table .exit) ≡ tableOf (stepOf bound) d b (now (marks .entry)) factors (now (query .entry)) ⌝ }
 {
     let mut t = 0;
     while t < d {
@@ -60,6 +69,7 @@ fn fill_dimensions(
         let end = start + (1usize << stretch.bits) + 1;
         fill_steps(
             bound,
+            factors[t],
             signed::at(query, t),
             &marks[start..end],
             &mut table[start..end],
@@ -68,13 +78,19 @@ fn fill_dimensions(
     }
 }
 
-// The squared steps from a component to the regions between neighbouring marks, as many as there is room for; a mark past the last is 0.
-fn fill_steps(bound: Bound, q: i32, marks: &[i32], steps: &mut [u64])
-    ensures { λ _. ⌜ now (steps .exit) ≡ stepsFrom (stepOf bound) q (now (marks .entry)) 0 (length (now (steps .entry))) ⌝ }
+// What the steps from a component to the regions between neighbouring marks add, as many as there is room for; a mark past the last is 0.
+fn fill_steps(bound: Bound, factor: u32, q: i32, marks: &[i32], steps: &mut [u64])
+    ensures { λ _. ⌜ now (steps .exit) ≡ stepsFrom (stepOf bound) factor q (now (marks .entry)) 0 (length (now (steps .entry))) ⌝ }
 {
     let mut r = 0;
     while r < steps.len() {
-        steps[r] = step::squared_step(bound, q, signed::at(marks, r), signed::at(marks, r + 1));
+        steps[r] = step::weighed_step(
+            bound,
+            factor,
+            q,
+            signed::at(marks, r),
+            signed::at(marks, r + 1),
+        );
         r += 1;
     }
 }

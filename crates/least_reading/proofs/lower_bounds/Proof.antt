@@ -19,13 +19,13 @@ use Rattle.least_reading.proofs.lower_bounds.Tie as tie
 table-hold : tie.Need-array-borrow-prefix-table
 table-hold c =
     let start = c .before .before in
-    omega (arith, start .pre .of-marks, table-le (start .args .d) (start .args .b) (start .pre .shaped))
+    omega (arith, start .pre .0 .of-marks, table-le (start .args .d) (start .args .b) (start .pre .0 .shaped))
 
 table-within : tie.Need-array-share-prefix-table
 table-within c =
     let filled = c .before in
-    let back = filled .fill-table .last .1 .1 .1 .1 .1 .0 in
-    back-within _ _ back (table-hold (filled .before .before)) (filled .fill-table .kept .1 .1 .1 .1 .1 .0)
+    let back = filled .fill-table .last .1 .1 .1 .1 .1 .1 .0 in
+    back-within _ _ back (table-hold (filled .before .before)) (filled .fill-table .kept .1 .1 .1 .1 .1 .1 .0)
 
 returns : tie.Need-returns
 returns c =
@@ -34,17 +34,17 @@ returns c =
     let filled = shared .before in
     let start = filled .before .before .before .before in
     let a = start .args in
-    let is = start .pre in
+    let is = start .pre .0 in
     let n = length (a .lows .now) in
-    let back = filled .fill-table .last .1 .1 .1 .1 .1 .0 in
-    let came-back = shared-is _ _ back (table-hold (filled .before .before)) (filled .fill-table .kept .1 .1 .1 .1 .1 .0) in
+    let back = filled .fill-table .last .1 .1 .1 .1 .1 .1 .0 in
+    let came-back = shared-is _ _ back (table-hold (filled .before .before)) (filled .fill-table .kept .1 .1 .1 .1 .1 .1 .0) in
     let full =
     filled .fill-table .ensures
     ∙ is-filled (a .d) (a .b) _ _ _ _ (is .shaped) (is .of-marks) (length-take-le _ _ (table-hold (filled .before .before))) in
     summed .sum-bounds .ensures .1
     ∙ outcome-accepted _ _ (sums-accepted is _ (length-take-le _ _ (table-within shared)))
     ∙ ap (λ (table : List ℕ). valuesFrom (boundSum (a .d) (a .b) table (a .codes .now)) 0 n) (came-back ∙ full)
-    ∙ bounds-sum Lower (a .d) (a .b) (a .marks .now) (a .query .now) (a .codes .now) n (is .shaped) (is .components) (is .good)
+    ∙ bounds-sum Lower (a .d) (a .b) (a .marks .now) (a .factors) (a .query .now) (a .codes .now) n (start .pre .1) (is .shaped) (is .components) (is .good)
 
 pub lower-bounds-spec : {M : Type 1} → statement M
 lower-bounds-spec =

@@ -5,7 +5,6 @@ use mathlib.Core.Bool.{Bool, cond}
 use mathlib.Core.List.{List, [], _++_}
 use Prim.Native.Nat.{ℕ, _≤_}
 use native.Mathlib.Omega.{arith}
-use lib.IntN.{ℤ}
 use lib.ListN.{length, take, drop}
 use lib.Seq.{length-take-le, take-at}
 use Rattle.refusal.specs.declared.Refusal.the-variants.{Cell}
@@ -19,8 +18,8 @@ use Rattle.entries.specs.Entries.{entriesOf, inArray}
 use Rattle.search.specs.declared.Searched.{Searched}
 use Rattle.search.specs.declared.Searched.the-variants.{Read, Refused}
 use Rattle.search.specs.Answer.{searchedCount, foundCount}
-use Rattle.search.specs.Search.{Index, numbersIn, distanceIn, lowIn, inOwnCells, searched}
-use Rattle.search.specs.Ready.{indexOf}
+use Rattle.search.specs.Search.{Index, Query, numbersIn, distanceIn, lowIn, inOwnCells, searched}
+use Rattle.search.specs.Ready.{indexOf, queryOf}
 use Rattle.least_reading.specs.Answered.{Reads}
 use Rattle.least_reading.specs.Searching.{
   Searches,
@@ -42,7 +41,7 @@ no-pairs : (numbers : List ℕ) → entriesOf (pairsOf [] numbers) ≡ []
 unfolding entriesOf pairsOf
 no-pairs numbers = refl
 
-module _ (l : Index) (query : List ℤ) (k : ℕ) (words : List ℕ) {order best : List ℕ} where
+module _ (l : Index) (query : Query) (k : ℕ) (words : List ℕ) {order best : List ℕ} where
   count-most : (r : Searched) → Reads l query k r order (take k words) best → searchedCount r ≤ l .n
   count-most (Read count) read =
       let told = tells-read (inOwnCells l (searched l query k .reads)) (length (searched l query k .reads)) count (sym (read .answer)) in
@@ -79,10 +78,13 @@ module _ (l : Index) (query : List ℤ) (k : ℕ) (words : List ℕ) {order best
 
 -- the library that was handed in
 abbrev given : tie.Start → Index
-given s = indexOf (s .args .terms) (s .args .marks .now) (s .args .codes .now) (s .args .vectors .now)
+given s = indexOf (s .args .task .terms) (s .args .marks .now) (s .args .codes .now) (s .args .vectors .now)
+
+abbrev asked : tie.Start → Query
+asked s = queryOf (s .args .task .terms) (s .args .query .now)
 
 best-hold : tie.Need-array-borrow-prefix-best
-best-hold c = c .before .before .before .before .before .before .before .before .pre .0 .0 .few
+best-hold c = c .before .before .before .before .before .before .before .before .pre .0 .0 .ready .few
 
 best-room : tie.Need-slice-aggregate-read-in-order
 best-room c = sym (length-take-le _ _ (best-hold (c .before)))
@@ -91,7 +93,7 @@ read-in-order-requires : tie.Need-read-in-order-requires
 read-in-order-requires c κs =
     let s = c .before .before .before .before .before .before .before .before .before in
     record {
-      ready = s .pre .0 .0;
+      prepared = s .pre .0 .0;
       lows-are = s .pre .1;
       order-room = s .pre .0 .1;
       words-room = s .pre .0 .2;
@@ -103,7 +105,7 @@ put-numbers-requires c κs =
     let counted = c .before .before in
     let read = counted .before .before .before .before .before .before .before .before in
     let s = read .before .before .before .before .before .before .before .before .before .before in
-    let most = count-most (given s) (s .args .query .now) (s .args .terms .k) (read .read-in-order .last .1 .1 .1 .1 .1 .1 .1 .0)
+    let most = count-most (given s) (asked s) (s .args .task .terms .k) (read .read-in-order .last .1 .1 .1 .1 .1 .1 .1 .0)
     (read .read-in-order .result) (read .read-in-order .ensures) in (
       omega (arith, counted .read-count .ensures, most, read .read-in-order .kept .1 .1 .1 .1 .1 .1 .0, s .pre .0 .1),
       omega (arith, counted .read-count .ensures, most, s .pre .0 .3),
@@ -111,14 +113,14 @@ put-numbers-requires c κs =
 
 -- as many as were found
 kept-few : (c : tie.After-found-count) → c .found-count .result ≤ c .before .before .before .before .before .before .before .before .before
-    .before .before .before .before .before .before .before .before .before .before .before .before .before .before .before .args .terms .k
+    .before .before .before .before .before .before .before .before .before .before .before .before .before .before .before .args .task .terms .k
 kept-few c =
     omega (
       arith,
       c .found-count .ensures,
       found-most (c .before .before .before .before .before .before .before .before .before .before .before .before .before .before
           .read-in-order .result) (c .before .before .before .before .before .before .before .before .before .before .before .before .before
-          .before .before .before .before .before .before .before .before .before .before .before .args .terms .k),
+          .before .before .before .before .before .before .before .before .before .before .before .args .task .terms .k),
     )
 
 words-within : tie.Need-slice-reshare-prefix-entries-of
@@ -131,7 +133,7 @@ words-within c =
       c .before .before .before .before .before .before .before .before .before .before .before .before .before
           .before .read-in-order .kept .1 .1 .1 .1 .1 .1 .1 .0,
       s .pre .0 .2,
-      s .pre .0 .0 .enough,
+      s .pre .0 .0 .ready .enough,
     )
 
 best-within : tie.Need-array-share-prefix-best
@@ -152,7 +154,7 @@ returns c =
     let read = counted .before .before .before .before .before .before .before .before in
     let s = read .before .before .before .before .before .before .before .before .before .before in
     let a = s .args in
-    answers (given s) (a .query .now) (a .terms .k) (read .read-in-order .last .1 .1 .1 .1 .1 .1 .1 .0) (read .read-in-order .result)
+    answers (given s) (asked s) (a .task .terms .k) (read .read-in-order .last .1 .1 .1 .1 .1 .1 .1 .0) (read .read-in-order .result)
     (read .read-in-order .ensures)
     (read .read-in-order .kept .1 .1 .1 .1 .1 .1 .1 .1 .0 ∙ sym (best-room (read .before))) _
     (written .put-numbers .ensures

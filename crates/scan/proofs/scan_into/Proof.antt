@@ -16,10 +16,11 @@ use Rattle.order.specs.Rank.{keyAt, ranking}
 use Rattle.order.proofs.Prefix.{back-within, shared-is}
 use Rattle.selection.specs.Reading.{scan}
 use Rattle.least.specs.Selected.{leastCauses, none-refuses}
+use Rattle.distance.specs.Small.{word-small}
 use Rattle.distance.specs.Values.{valuesFrom, values-length}
 use Rattle.entries.specs.Entries.{entriesOf, inArray}
 use Rattle.scan.specs.Scanning.{distancesOf}
-use Rattle.scan.specs.Scanned.{Vectors, word-small, scan-pairs}
+use Rattle.scan.specs.Scanned.{Vectors, scan-pairs}
 use Rattle.scan.proofs.scan_into.Statement.{statement}
 use Rattle.scan.proofs.scan_into.Tie as tie
 

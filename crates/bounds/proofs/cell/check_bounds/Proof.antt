@@ -12,7 +12,7 @@ use Rattle.bounds.proofs.cell.check_bounds.Tie as tie
 abbrev rows : (start : tie.Start) → List Row
 rows start =
     let a = start .args in
-    shapedBoundsCauses (a .d) (a .b) (a .n) (a .query .now) (a .marks .now) (a .codes .now) (a .lowers) (a .uppers)
+    shapedBoundsCauses (a .d) (a .b) (a .n) (a .word) (a .query .now) (a .marks .now) (a .codes .now) (a .lowers) (a .uppers)
 
 returns : tie.Need-returns
 returns c =

@@ -5,7 +5,6 @@ use mathlib.Core.List.{List}
 use Prim.Native.Nat.{ℕ, _+_, _-_, _≤_, _<_}
 use native.Mathlib.Numerals.{add-one}
 use native.Mathlib.Omega.{arith}
-use lib.IntN.{ℤ}
 use lib.ListN.{length, take, getD, set, length-take}
 use lib.Seq.{length-take-le, take-suc, getD-take}
 use borrow.Author.Needs.{needs}
@@ -14,27 +13,27 @@ use Rattle.order.specs.Ranking.{ranked-count}
 use Rattle.selection.specs.Reading.{readingOrder}
 use Rattle.selection.specs.Loop.{reached-first, goes-on-first}
 use Rattle.best_pairs.specs.Gathered.{Gathers, gathers-start, gathers-next}
-use Rattle.search.specs.Search.{Index, numbersIn, distanceIn, lowIn, inOwnCell, inOwnCells}
-use Rattle.search.specs.Ready.{indexOf, Ready, ordered-below}
+use Rattle.search.specs.Search.{Index, Query, numbersIn, distanceIn, lowIn, inOwnCell, inOwnCells}
+use Rattle.search.specs.Ready.{indexOf, queryOf, Ready, ordered-below}
 use Rattle.least_reading.specs.Answered.{FirstReads, cells-snoc, next-outside}
 use Rattle.least_reading.specs.declared.reading.VectorRead.the-variants.{Distance, Outside}
 use Rattle.least_reading.specs.Vector.{vectorRead, tells-distance, tells-outside}
 use Rattle.least_reading.proofs.reading.read_first.Statement.{statement}
 use Rattle.least_reading.proofs.reading.read_first.Tie as tie
 
-record State (l : Index) (query : List ℤ) (k done : ℕ) (keys best : List ℕ) : Type 0 where
+record State (l : Index) (query : Query) (k done : ℕ) (keys best : List ℕ) : Type 0 where
   within : done ≤ k
   gathers : Gathers k (distanceIn l query) (take done (readingOrder (lowIn l query) (numbersIn l))) keys best
   inside : inOwnCells l (take done (readingOrder (lowIn l query) (numbersIn l))) ≡ true
 
 abbrev Inv-loop : tie.InvT-loop
-Inv-loop terms query marks codes vectors order keys₀ best₀ k done₀ keys best done =
-    State (indexOf terms marks codes vectors) query (terms .k) done keys best
+Inv-loop task query marks codes vectors order keys₀ best₀ k done₀ keys best done =
+    State (indexOf (task .terms) marks codes vectors) (queryOf (task .terms) query) (task .terms .k) done keys best
 
 abbrev μ-loop : tie.MeasureT-loop
-μ-loop terms query marks codes vectors order keys₀ best₀ k done₀ keys best done = terms .k - done
+μ-loop task query marks codes vectors order keys₀ best₀ k done₀ keys best done = task .terms .k - done
 
-module _ {l : Index} {query : List ℤ} {k : ℕ} (is : Ready l query k) {keys best : List ℕ} where
+module _ {l : Index} {query : Query} {k : ℕ} (is : Ready l query k) {keys best : List ℕ} where
   begin : length keys ≡ k → length best ≡ k → State l query k 0 keys best
   unfolding inOwnCells
   begin keys-room best-room = record { within = omega arith; gathers = gathers-start keys-room best-room; inside = refl }
@@ -86,12 +85,15 @@ module _ {l : Index} {query : List ℤ} {k : ℕ} (is : Ready l query k) {keys b
 
 -- the library that was handed in
 abbrev given : tie.Start Inv-loop μ-loop → Index
-given s = indexOf (s .args .terms) (s .args .marks .now) (s .args .codes .now) (s .args .vectors .now)
+given s = indexOf (s .args .task .terms) (s .args .marks .now) (s .args .codes .now) (s .args .vectors .now)
+
+abbrev asked : tie.Start Inv-loop μ-loop → Query
+asked s = queryOf (s .args .task .terms) (s .args .query .now)
 
 loop-holds : tie.Need-loop-holds Inv-loop μ-loop
 loop-holds c =
     let pre = c .before .before .before .before .pre .0 in
-    begin (pre .0) (pre .1) (pre .2)
+    begin (pre .0 .ready) (pre .1) (pre .2)
 
 -- where the next number is looked up
 abbrev entry : tie.After-shared-slice-known3 Inv-loop μ-loop → tie.Start Inv-loop μ-loop
@@ -99,49 +101,49 @@ entry c = c .before .before .before .before .before .before .before
 
 -- the number that is read next
 its-number : (c : tie.After-shared-slice-known3 Inv-loop μ-loop) → let s = entry c in let done = c .before .before .loop .done in
-    getD (s .args .order .now) done 0 ≡ getD (readingOrder (lowIn (given s) (s .args .query .now)) (numbersIn (given s))) done 0
+    getD (s .args .order .now) done 0 ≡ getD (readingOrder (lowIn (given s) (asked s)) (numbersIn (given s))) done 0
 its-number c =
     let s = entry c in
-    let k = s .args .terms .k in
+    let k = s .args .task .terms .k in
     let done = c .before .before .loop .done in
-    let order = readingOrder (lowIn (given s) (s .args .query .now)) (numbersIn (given s)) in
+    let order = readingOrder (lowIn (given s) (asked s)) (numbersIn (given s)) in
     sym (getD-take k (s .args .order .now) done 0 (c .before .loop-test .taken))
     ∙ ap (λ (o : List ℕ). getD o done 0) (s .pre .1)
     ∙ getD-take k order done 0 (c .before .loop-test .taken)
 
 -- there is one
-order-long : (s : tie.Start Inv-loop μ-loop) → s .args .terms .k ≤ length (s .args .order .now)
+order-long : (s : tie.Start Inv-loop μ-loop) → s .args .task .terms .k ≤ length (s .args .order .now)
 order-long s =
-    let k = s .args .terms .k in
-    let order = readingOrder (lowIn (given s) (s .args .query .now)) (numbersIn (given s)) in
+    let k = s .args .task .terms .k in
+    let order = readingOrder (lowIn (given s) (asked s)) (numbersIn (given s)) in
     omega (
       arith,
       sym (length-take k (s .args .order .now)) ∙ ap length (s .pre .1) ∙ length-take k order,
-      ranked-count (lowIn (given s) (s .args .query .now)) (numbersIn (given s)),
-      counted-length 0 (s .args .terms .n),
-      s .pre .0 .0 .enough,
+      ranked-count (lowIn (given s) (asked s)) (numbersIn (given s)),
+      counted-length 0 (s .args .task .terms .n),
+      s .pre .0 .0 .ready .enough,
     )
 
 is-below : (c : tie.After-shared-slice-known3 Inv-loop μ-loop)
-    → getD (entry c .args .order .now) (c .before .before .loop .done) 0 < entry c .args .terms .n
-is-below c = below (entry c .pre .0 .0) (c .before .before .loop .inv) (c .before .loop-test .taken) _ (its-number c)
+    → getD (entry c .args .order .now) (c .before .before .loop .done) 0 < entry c .args .task .terms .n
+is-below c = below (entry c .pre .0 .0 .ready) (c .before .before .loop .inv) (c .before .loop-test .taken) _ (its-number c)
 
 returns : tie.Need-returns Inv-loop μ-loop
 returns c =
     let read = c .before .before in
     let next = read .before in
-    fails (entry next .pre .0 .0) (next .before .before .loop .inv) (next .before .loop-test .taken) _ (its-number next)
+    fails (entry next .pre .0 .0 .ready) (next .before .before .loop .inv) (next .before .loop-test .taken) _ (its-number next)
     (sym (read .read-vector .ensures) ∙ c .enum-told .given .1)
 
 loop-again : tie.Need-loop-again Inv-loop μ-loop
 loop-again c =
     let read = c .before .before .before in
     let next = read .before in
-    turn (entry next .pre .0 .0) (next .before .before .loop .inv) (next .before .loop-test .taken) _ (its-number next) _
+    turn (entry next .pre .0 .0 .ready) (next .before .before .loop .inv) (next .before .loop-test .taken) _ (its-number next) _
     (sym (read .read-vector .ensures) ∙ c .before .read .given .1)
 
 returns-2 : tie.Need-returns-2 Inv-loop μ-loop
-returns-2 c = finish (c .before .before .before .before .before .before .pre .0 .0) (c .before .loop .inv) (omega arith)
+returns-2 c = finish (c .before .before .before .before .before .before .pre .0 .0 .ready) (c .before .loop .inv) (omega arith)
 
 pub read-first-spec : {M : Type 1} → statement M
 read-first-spec =

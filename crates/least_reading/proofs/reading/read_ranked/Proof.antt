@@ -3,7 +3,6 @@ use mathlib.Core.Path.{_≡_, sym, ap, _∙_}
 use mathlib.Core.List.{List, _++_}
 use Prim.Native.Nat.{ℕ, _+_, _-_, _≤_}
 use native.Mathlib.Omega.{arith}
-use lib.IntN.{ℤ}
 use lib.ListN.{length, take, drop, length-append, length-drop, length-map}
 use lib.Seq.{length-take-le, length-front, take-at, take-all, drop-at}
 use borrow.Author.Needs.{needs}
@@ -16,8 +15,8 @@ use Rattle.order.specs.Insertion.{length-ranked}
 use Rattle.order.specs.Rank.{pairCauses, sort-leaves}
 use Rattle.selection.specs.Loop.{EndsBy, ends-all}
 use Rattle.scan.specs.Ranked.{values-sorted}
-use Rattle.search.specs.Search.{Index, numbersIn, distanceIn, lowIn}
-use Rattle.search.specs.Ready.{indexOf}
+use Rattle.search.specs.Search.{Index, Query, numbersIn, distanceIn, lowIn}
+use Rattle.search.specs.Ready.{indexOf, queryOf}
 use Rattle.least_reading.specs.Aligned.{Aligned, aligned-all}
 use Rattle.least_reading.specs.Answered.{Lent, HasRead, lows-room, reads-front, first-sorted, first-outside}
 use Rattle.least_reading.proofs.reading.read_ranked.Statement.{statement}
@@ -33,7 +32,7 @@ front-sorted of keys best rest old k spare of-keys of-best of-spare is =
     let front : take k (keys ++ rest) ≡ keys = take-at keys rest k of-keys in
     sort-leaves of keys best old spare (of-best ∙ sym of-keys) (omega arith) (rw front at is)
 
-module _ {l : Index} {query : List ℤ} {k : ℕ} {lows order words best : List ℕ} (lent : Lent l query k lows order words best) where
+module _ {l : Index} {query : Query} {k : ℕ} {lows order words best : List ℕ} (lent : Lent l query k lows order words best) where
   -- the numbers counted up and sorted by their lows
   of-ranked : (of : List Pair → List ℕ) (old counted : List ℕ) {new : List ℕ} → counted ≡ countFrom 0 (length order)
       → new ≡ outcome (first (pairCauses (length lows) (length counted) (length words))) (of (sort (pairsOf lows counted))) (λ _. old)
@@ -66,33 +65,36 @@ module _ {l : Index} {query : List ℤ} {k : ℕ} {lows order words best : List 
     ends : EndsBy k (lowIn l query) (distanceIn l query) (numbersIn l)
         (k + length (take (length (back ++ drop k lows₂) - k) (drop k (back ++ drop k lows₂))))
     ends =
-        let enough : k ≤ length (numbersIn l) = omega (arith, lent .ready .enough, counted-length 0 (l .n)) in
+        let enough : k ≤ length (numbersIn l) = omega (arith, lent .prepared .ready .enough, counted-length 0 (l .n)) in
         let all : k + length (take (length (back ++ drop k lows₂) - k) (drop k (back ++ drop k lows₂))) ≡ length (numbersIn l) =
-        omega (arith, ap length behind ∙ length-drop k lows₂, long, counted-length 0 (l .n), lent .ready .enough) in
+        omega (arith, ap length behind ∙ length-drop k lows₂, long, counted-length 0 (l .n), lent .prepared .ready .enough) in
         rw all (ends-all k (lowIn l query) (distanceIn l query) (numbersIn l) enough)
 
 -- ---- the steps
 
 -- the library that was handed in
 abbrev given : tie.Start → Index
-given s = indexOf (s .args .terms) (s .args .marks .now) (s .args .codes .now) (s .args .vectors .now)
+given s = indexOf (s .args .task .terms) (s .args .marks .now) (s .args .codes .now) (s .args .vectors .now)
+
+abbrev asked : tie.Start → Query
+asked s = queryOf (s .args .task .terms) (s .args .query .now)
 
 words-hold : tie.Need-slice-relend-prefix-read-first
 words-hold c =
     let done = c .before .before .before .before .before .before .before in
     let lent = done .before .before .before .before .before .before .before .before .before .before .before .before .before .pre in
-    omega (arith, done .sort .kept .1 .1 .0, lent .words-room, lent .ready .enough)
+    omega (arith, done .sort .kept .1 .1 .0, lent .words-room, lent .prepared .ready .enough)
 
 -- the order and the lows after the sort
 order-is : (c : tie.After-sort) → let s = c .before .before .before .before .before .before .before .before .before .before .before .before
     .before in let l = given s in
-    c .sort .last .1 .0 ≡ numbersOf (ranked (lowIn l (s .args .query .now)) (numbersIn l))
+    c .sort .last .1 .0 ≡ numbersOf (ranked (lowIn l (asked s)) (numbersIn l))
 order-is c = of-ranked (c .before .before .before .before .before .before .before .before .before .before .before .before .before .pre)
     numbersOf _ _ (c .before .before .before .before .before .before .count-up .ensures) (c .sort .ensures .1 .1 .0)
 
 lows-are : (c : tie.After-sort) → let s = c .before .before .before .before .before .before .before .before .before .before .before .before
     .before in let l = given s in
-    c .sort .last .0 ≡ keysOf (ranked (lowIn l (s .args .query .now)) (numbersIn l))
+    c .sort .last .0 ≡ keysOf (ranked (lowIn l (asked s)) (numbersIn l))
 lows-are c = of-ranked (c .before .before .before .before .before .before .before .before .before .before .before .before .before .pre)
     keysOf _ _ (c .before .before .before .before .before .before .count-up .ensures) (c .sort .ensures .1 .0)
 
@@ -100,19 +102,19 @@ read-first-requires : tie.Need-read-first-requires
 read-first-requires c κs =
     let done = c .before .before .before .before .before .before .before .before .before in
     let s = done .before .before .before .before .before .before .before .before .before .before .before .before .before in (
-      (s .pre .ready, length-take-le _ _ (words-hold (c .before .before)), s .pre .best-room),
-      ap (take (s .args .terms .k)) (order-is done),
+      (s .pre .prepared, length-take-le _ _ (words-hold (c .before .before)), s .pre .best-room),
+      ap (take (s .args .task .terms .k)) (order-is done),
     )
 
 -- the distances and numbers of the first, as long as they were lent
 keys-long : (c : tie.After-read-first) → length (c .read-first .last .1 .1 .1 .1 .1 .1 .0)
     ≡ c .before .before .before .before .before .before .before .before .before .before .before .before .before .before .before .before
-    .before .before .before .before .before .before .before .args .terms .k
+    .before .before .before .before .before .before .before .args .task .terms .k
 keys-long c = c .read-first .kept .1 .1 .1 .1 .1 .1 .0 ∙ length-take-le _ _ (words-hold (c .before .before .before))
 
 best-long : (c : tie.After-read-first) → length (c .read-first .last .1 .1 .1 .1 .1 .1 .1 .0)
     ≡ c .before .before .before .before .before .before .before .before .before .before .before .before .before .before .before .before
-    .before .before .before .before .before .before .before .args .terms .k
+    .before .before .before .before .before .before .before .args .task .terms .k
 best-long c = c .read-first .kept .1 .1 .1 .1 .1 .1 .1 .0
     ∙ c .before .before .before .before .before .before .before .before .before .before .before .before .before .before .before .before
     .before .before .before .before .before .before .before .pre .best-room
@@ -122,7 +124,7 @@ words-back c =
     let read = c .before .before .before .before .before in
     let done = read .before .before .before .before .before .before .before .before .before .before in
     length-front (done .sort .last .1 .1 .0) (read .read-first .last .1 .1 .1 .1 .1 .1 .0)
-    (done .before .before .before .before .before .before .before .before .before .before .before .before .before .args .terms .k)
+    (done .before .before .before .before .before .before .before .before .before .before .before .before .before .args .task .terms .k)
     (read .read-first .kept .1 .1 .1 .1 .1 .1 .0)
     ∙ done .sort .kept .1 .1 .0
 
@@ -137,7 +139,7 @@ words-hold-2 c =
       arith,
       keys-long read,
       length-append (read .read-first .last .1 .1 .1 .1 .1 .1 .0)
-          (drop (done .before .before .before .before .before .before .before .before .before .before .before .before .before .args .terms
+          (drop (done .before .before .before .before .before .before .before .before .before .before .before .before .before .args .task .terms
           .k) (done .sort .last .1 .1 .0)),
     )
 
@@ -146,7 +148,7 @@ lows-hold c =
     let done = c .before .before .before .before .before .before .before .before .before .before .before .before .before .before .before
     .before .before in
     let lent = done .before .before .before .before .before .before .before .before .before .before .before .before .before .pre in
-    omega (arith, done .sort .kept .0, lent .ready .enough, lows-room lent)
+    omega (arith, done .sort .kept .0, lent .prepared .ready .enough, lows-room lent)
 
 -- ---- from the sorted first on
 
@@ -164,40 +166,40 @@ first-read c = c .before .before .before .before .before .before .before .before
 
 -- the words once these were read
 abbrev words₂ : tie.After-sort2 → List ℕ
-words₂ c = first-read c .read-first .last .1 .1 .1 .1 .1 .1 .0 ++ drop (start c .args .terms .k) (ranks c .sort .last .1 .1 .0)
+words₂ c = first-read c .read-first .last .1 .1 .1 .1 .1 .1 .0 ++ drop (start c .args .task .terms .k) (ranks c .sort .last .1 .1 .0)
 
 module _ (c : tie.After-sort2) where
   -- what the second sort was lent and left
-  back-long : length (c .sort2 .last .1 .1 .0) ≡ start c .args .terms .k
+  back-long : length (c .sort2 .last .1 .1 .0) ≡ start c .args .task .terms .k
   back-long = c .sort2 .kept .1 .1 .0 ∙ length-take-le _ _ (lows-hold (c .before .before))
 
-  keys-long-2 : length (c .sort2 .last .0) ≡ start c .args .terms .k
+  keys-long-2 : length (c .sort2 .last .0) ≡ start c .args .task .terms .k
   keys-long-2 = c .sort2 .kept .0 ∙ length-take-le _ _ (words-hold-2 (c .before .before .before .before))
 
-  words-long : length (c .sort2 .last .0 ++ drop (start c .args .terms .k) (words₂ c)) ≡ length (start c .args .words .now)
+  words-long : length (c .sort2 .last .0 ++ drop (start c .args .task .terms .k) (words₂ c)) ≡ length (start c .args .words .now)
   words-long =
-      length-front (words₂ c) (c .sort2 .last .0) (start c .args .terms .k) (c .sort2 .kept .0)
-      ∙ length-front (ranks c .sort .last .1 .1 .0) (first-read c .read-first .last .1 .1 .1 .1 .1 .1 .0) (start c .args .terms .k)
+      length-front (words₂ c) (c .sort2 .last .0) (start c .args .task .terms .k) (c .sort2 .kept .0)
+      ∙ length-front (ranks c .sort .last .1 .1 .0) (first-read c .read-first .last .1 .1 .1 .1 .1 .1 .0) (start c .args .task .terms .k)
       (first-read c .read-first .kept .1 .1 .1 .1 .1 .1 .0)
       ∙ ranks c .sort .kept .1 .1 .0
 
-  lows-long : length (c .sort2 .last .1 .1 .0 ++ drop (start c .args .terms .k) (ranks c .sort .last .0))
+  lows-long : length (c .sort2 .last .1 .1 .0 ++ drop (start c .args .task .terms .k) (ranks c .sort .last .0))
       ≡ length (start c .args .lows .now)
   lows-long =
-      length-front (ranks c .sort .last .0) (c .sort2 .last .1 .1 .0) (start c .args .terms .k) (c .sort2 .kept .1 .1 .0)
+      length-front (ranks c .sort .last .0) (c .sort2 .last .1 .1 .0) (start c .args .task .terms .k) (c .sort2 .kept .1 .1 .0)
       ∙ ranks c .sort .kept .0
 
   has-read : let s = start c in
-      HasRead (given s) (s .args .query .now) (s .args .terms .k) (s .args .terms .k) (c .sort2 .last .0) (c .sort2 .last .1 .0)
+      HasRead (given s) (asked s) (s .args .task .terms .k) (s .args .task .terms .k) (c .sort2 .last .0) (c .sort2 .last .1 .0)
   has-read =
       let read = first-read c in
       let s = start c in
       let room = length-take-le _ _ (lows-hold (c .before .before)) in
-      first-sorted (read .read-first .ensures) (s .pre .ready) (not-false _ (c .before .before .before .before .if1 .left))
+      first-sorted (read .read-first .ensures) (s .pre .prepared .ready) (not-false _ (c .before .before .before .before .if1 .left))
       (front-sorted keysOf (read .read-first .last .1 .1 .1 .1 .1 .1 .0) (read .read-first .last .1 .1 .1 .1 .1 .1 .1 .0) _ _
-      (s .args .terms .k) _ (keys-long read) (best-long read) room (c .sort2 .ensures .1 .0))
+      (s .args .task .terms .k) _ (keys-long read) (best-long read) room (c .sort2 .ensures .1 .0))
       (front-sorted numbersOf (read .read-first .last .1 .1 .1 .1 .1 .1 .0) (read .read-first .last .1 .1 .1 .1 .1 .1 .1 .0) _ _
-      (s .args .terms .k) _ (keys-long read) (best-long read) room (c .sort2 .ensures .1 .1 .0))
+      (s .args .task .terms .k) _ (keys-long read) (best-long read) room (c .sort2 .ensures .1 .1 .0))
 
 words-hold-3 : tie.Need-slice-relend-prefix-read-rest
 words-hold-3 c =
@@ -208,7 +210,7 @@ words-hold-3 c =
       arith,
       words-long (c .before .before .before .before .before .before .before .before .before),
       s .pre .words-room,
-      s .pre .ready
+      s .pre .prepared .ready
           .enough,
     )
 
@@ -218,7 +220,7 @@ read-rest-requires c κs =
     let done = best .before .before .before .before .before .before .before .before .before .before .before .before .before .before .before
     .before .before .before .before in
     let lent = done .before .before .before .before .before .before .before .before .before .before .before .before .before .pre in (
-      lent .ready,
+      lent .prepared,
       (
         aligned lent (best .sort2 .last .1 .1 .0) (lows-are done) (order-is done) (back-long best),
         (
@@ -232,8 +234,8 @@ words-back-2 : tie.Need-same-length-7
 words-back-2 c =
     let rest = c .before .before .before .before in
     let best = rest .before .before .before .before .before .before .before .before .before .before .before .before in
-    length-front (best .sort2 .last .0 ++ drop (start best .args .terms .k) (words₂ best)) (rest .read-rest .last .1 .1 .1 .1 .1 .1 .1 .0)
-    (start best .args .terms .k) (rest .read-rest .kept .1 .1 .1 .1 .1 .1 .1 .0)
+    length-front (best .sort2 .last .0 ++ drop (start best .args .task .terms .k) (words₂ best)) (rest .read-rest .last .1 .1 .1 .1 .1 .1 .1 .0)
+    (start best .args .task .terms .k) (rest .read-rest .kept .1 .1 .1 .1 .1 .1 .1 .0)
     ∙ words-long best
 
 best-back : tie.Need-same-length-8
@@ -257,7 +259,7 @@ read-ranked-spec =
       arith,
       c .before .before .before .before .before .before .pre .order-room,
       c .before .before .before .before .before
-          .before .pre .ready .count,
+          .before .pre .prepared .ready .count,
     ))
     (λ c κs. tt)
     words-hold
@@ -277,11 +279,11 @@ read-ranked-spec =
       arith,
       c .before .before .before .before .before .before .before .before .before .before .before .before .before .before
           .before .before .before .before .before .before .before .before .before .before .before .before .before .before .before .before
-          .before .before .before .before .before .before .before .before .pre .ready .enough,
+          .before .before .before .before .before .before .before .before .pre .prepared .ready .enough,
       c .before .before .before .before .before
           .before .before .before .before .before .before .before .before .before .before .before .before .before .before .before .before
           .before .before .before .before .before .before .before .before .before .before .before .before .before .before .before .before
-          .before .pre .ready .count,
+          .before .pre .prepared .ready .count,
     ))
     (λ c. omega (
       arith,
@@ -292,7 +294,7 @@ read-ranked-spec =
           .before .before .before .before .before .before .pre),
       c .before .before .before .before .before .before .before .before .before
           .before .before .before .before .before .before .before .before .before .before .before .before .before .before .before .before
-          .before .before .before .before .before .before .before .before .before .before .before .before .before .pre .ready .enough,
+          .before .before .before .before .before .before .before .before .before .before .before .before .before .pre .prepared .ready .enough,
     ))
     (λ c. omega (
       arith,
@@ -303,7 +305,7 @@ read-ranked-spec =
           .before .before .before .before .before .before .before .pre),
       c .before .before .before .before .before .before .before .before
           .before .before .before .before .before .before .before .before .before .before .before .before .before .before .before .before
-          .before .before .before .before .before .before .before .before .before .before .before .before .before .before .before .pre .ready
+          .before .before .before .before .before .before .before .before .before .before .before .before .before .before .before .pre .prepared .ready
           .enough,
     ))
     (λ c. omega (
@@ -315,7 +317,7 @@ read-ranked-spec =
           .before .before .before .before .before .before .before .pre),
       c .before .before .before .before .before .before .before .before
           .before .before .before .before .before .before .before .before .before .before .before .before .before .before .before .before
-          .before .before .before .before .before .before .before .before .before .before .before .before .before .before .before .pre .ready
+          .before .before .before .before .before .before .before .before .before .before .before .before .before .before .before .pre .prepared .ready
           .enough,
     ))
     words-hold-3

@@ -5,7 +5,6 @@ use mathlib.Core.List.{List}
 use Prim.Native.Nat.{ℕ, suc, _+_, _-_, _≤_, _<_}
 use native.Mathlib.Numerals.{add-one}
 use native.Mathlib.Omega.{arith}
-use lib.IntN.{ℤ}
 use lib.ListN.{length, take, getD}
 use lib.Seq.{length-take-le, take-all}
 use borrow.Author.Needs.{needs}
@@ -21,8 +20,8 @@ use Rattle.selection.specs.Loop.{EndsBy, after, reached-next, reached-stop, ful
 use Rattle.best_pairs.specs.Kept.{Keeps}
 use Rattle.best_pairs.specs.Holds.{holds-keys, holds-numbers, arrays-goes-on, arrays-next}
 use Rattle.search.specs.declared.Searched.the-variants.{Read, Refused}
-use Rattle.search.specs.Search.{Index, numbersIn, distanceIn, lowIn, inOwnCell, searched}
-use Rattle.search.specs.Ready.{indexOf, Ready, ordered-below}
+use Rattle.search.specs.Search.{Index, Query, numbersIn, distanceIn, lowIn, inOwnCell, searched}
+use Rattle.search.specs.Ready.{indexOf, queryOf, Ready, ordered-below}
 use Rattle.least_reading.specs.Aligned.{Aligned, front-is, order-room, number-at, low-at}
 use Rattle.least_reading.specs.Answered.{Reads, HasRead, afterReads, reads-outside, next-in-cell, next-outside}
 use Rattle.least_reading.specs.declared.reading.VectorRead.the-variants.{Distance, Outside}
@@ -31,13 +30,13 @@ use Rattle.least_reading.proofs.reading.read_rest.Statement.{statement}
 use Rattle.least_reading.proofs.reading.read_rest.Tie as tie
 
 abbrev Inv-loop : tie.InvT-loop
-Inv-loop terms query marks codes vectors lows order keys₀ best₀ k end done₀ keys best done =
-    (terms .k ≤ done) × (done ≤ terms .k + length lows) × HasRead (indexOf terms marks codes vectors) query (terms .k) done keys best
+Inv-loop task query marks codes vectors lows order keys₀ best₀ k end done₀ keys best done =
+    (task .terms .k ≤ done) × (done ≤ task .terms .k + length lows) × HasRead (indexOf (task .terms) marks codes vectors) (queryOf (task .terms) query) (task .terms .k) done keys best
 
 abbrev μ-loop : tie.MeasureT-loop
-μ-loop terms query marks codes vectors lows order keys₀ best₀ k end done₀ keys best done = terms .k + length lows - done
+μ-loop task query marks codes vectors lows order keys₀ best₀ k end done₀ keys best done = task .terms .k + length lows - done
 
-module _ {l : Index} {query : List ℤ} {k : ℕ} (is : Ready l query k) {lows order : List ℕ}
+module _ {l : Index} {query : Query} {k : ℕ} (is : Ready l query k) {lows order : List ℕ}
     (aligned : Aligned k (ranked (lowIn l query) (numbersIn l)) lows order)
     (ends : EndsBy k (lowIn l query) (distanceIn l query) (numbersIn l) (k + length lows)) {keys best : List ℕ} {done : ℕ}
     (at : HasRead l query k done keys best) (few : done ≤ k + length lows) where
@@ -107,41 +106,44 @@ module _ {l : Index} {query : List ℤ} {k : ℕ} (is : Ready l query k) {lows o
 
 -- the library that was handed in
 abbrev given : tie.Start Inv-loop μ-loop → Index
-given s = indexOf (s .args .terms) (s .args .marks .now) (s .args .codes .now) (s .args .vectors .now)
+given s = indexOf (s .args .task .terms) (s .args .marks .now) (s .args .codes .now) (s .args .vectors .now)
+
+abbrev asked : tie.Start Inv-loop μ-loop → Query
+asked s = queryOf (s .args .task .terms) (s .args .query .now)
 
 -- where the next number is looked up
 abbrev entry : tie.After-shared-slice-known4 Inv-loop μ-loop → tie.Start Inv-loop μ-loop
 entry c = c .before .before .before .before .before .before .before .before
 
 is-below : (c : tie.After-shared-slice-known4 Inv-loop μ-loop)
-    → getD (entry c .args .order .now) (c .before .before .loop .done) 0 < entry c .args .terms .n
+    → getD (entry c .args .order .now) (c .before .before .loop .done) 0 < entry c .args .task .terms .n
 is-below c =
     let pre = entry c .pre in
     let inv = c .before .before .loop .inv in
-    below (pre .0) (pre .1 .0) (pre .1 .1 .0) (inv .2) (inv .1) (c .before .loop-test .taken) _ refl
+    below (pre .0 .ready) (pre .1 .0) (pre .1 .1 .0) (inv .2) (inv .1) (c .before .loop-test .taken) _ refl
 
 -- it stands in the order, as far as its low is known
-stands : (s : tie.Start Inv-loop μ-loop) → (s .args .terms .k + length (s .args .lows .now) ≤ length (s .args .order .now))
-    × (s .args .terms .k + length (s .args .lows .now) ≤ maxVectors)
+stands : (s : tie.Start Inv-loop μ-loop) → (s .args .task .terms .k + length (s .args .lows .now) ≤ length (s .args .order .now))
+    × (s .args .task .terms .k + length (s .args .lows .now) ≤ maxVectors)
 stands s =
     let l = given s in
     let counted = counted-length 0 (l .n) in (
-      order-room (s .pre .1 .0) (omega (arith, s .pre .1 .1 .0 .within, ranked-count (lowIn l (s .args .query .now)) (numbersIn l))),
-      omega (arith, s .pre .1 .1 .0 .within, counted, s .pre .0 .count),
+      order-room (s .pre .1 .0) (omega (arith, s .pre .1 .1 .0 .within, ranked-count (lowIn l (asked s)) (numbersIn l))),
+      omega (arith, s .pre .1 .1 .0 .within, counted, s .pre .0 .ready .count),
     )
 
 -- and whether it is read
 test : (c : tie.After-goes-on Inv-loop μ-loop) → let next = c .before .before .before .before in let s = entry next in
     let done = next .before .before .loop .done in
-    goesOn (s .args .terms .k) (afterReads (given s) (s .args .query .now) (s .args .terms .k) done .best)
-    (pairOf (lowIn (given s) (s .args .query .now))
-    (getD (readingOrder (lowIn (given s) (s .args .query .now)) (numbersIn (given s))) done 0))
+    goesOn (s .args .task .terms .k) (afterReads (given s) (asked s) (s .args .task .terms .k) done .best)
+    (pairOf (lowIn (given s) (asked s))
+    (getD (readingOrder (lowIn (given s) (asked s)) (numbersIn (given s))) done 0))
     ≡ c .goes-on .result
 test c =
     let next = c .before .before .before .before in
     let pre = entry next .pre in
     let inv = next .before .before .loop .inv in
-    tested (pre .0) (pre .1 .0) (pre .1 .1 .0) (inv .2) (inv .1) (next .before .loop-test .taken) _ refl (inv .0) _ refl
+    tested (pre .0 .ready) (pre .1 .0) (pre .1 .1 .0) (inv .2) (inv .1) (next .before .loop-test .taken) _ refl (inv .0) _ refl
     (c .goes-on .ensures)
 
 returns : tie.Need-returns Inv-loop μ-loop
@@ -149,7 +151,7 @@ returns c =
     let next = c .before .before .before .before .before in
     let pre = entry next .pre in
     let inv = next .before .before .loop .inv in
-    stop (pre .0) (pre .1 .0) (pre .1 .1 .0) (inv .2) (inv .1) (next .before .loop-test .taken) _ refl
+    stop (pre .0 .ready) (pre .1 .0) (pre .1 .1 .0) (inv .2) (inv .1) (next .before .loop-test .taken) _ refl
     (test (c .before) ∙ not-true _ (c .if1 .taken))
 
 returns-2 : tie.Need-returns-2 Inv-loop μ-loop
@@ -159,7 +161,7 @@ returns-2 c =
     let next = goes .before .before .before .before .before in
     let pre = entry next .pre in
     let inv = next .before .before .loop .inv in
-    outside (pre .0) (pre .1 .0) (pre .1 .1 .0) (inv .2) (inv .1) (next .before .loop-test .taken) _ refl
+    outside (pre .0 .ready) (pre .1 .0) (pre .1 .1 .0) (inv .2) (inv .1) (next .before .loop-test .taken) _ refl
     (test (goes .before) ∙ not-false _ (goes .if1 .left)) (sym (read .read-vector .ensures) ∙ c .enum-told .given .1)
 
 loop-again : tie.Need-loop-again Inv-loop μ-loop
@@ -173,7 +175,7 @@ loop-again c =
     let inv = next .before .before .loop .inv in (
       omega (arith, inv .0),
       omega (arith, next .before .loop-test .taken),
-      turn (pre .0) (pre .1 .0) (pre .1 .1 .0) (inv .2) (inv .1) (next .before .loop-test .taken) _ refl
+      turn (pre .0 .ready) (pre .1 .0) (pre .1 .1 .0) (inv .2) (inv .1) (next .before .loop-test .taken) _ refl
           (test (goes .before) ∙ not-false _ (goes .if1 .left)) (inv .0)
           _ (sym (read .read-vector .ensures) ∙ known .before .read .given .1) (kept .keep .ensures),
     )
@@ -182,8 +184,8 @@ returns-3 : tie.Need-returns-3 Inv-loop μ-loop
 returns-3 c =
     let s = c .before .before .before .before .before .before .before in
     let inv = c .before .loop .inv in
-    let all : c .before .loop .done ≡ s .args .terms .k + length (s .args .lows .now) = omega (arith, inv .1) in
-    finish (s .pre .0) (s .pre .1 .0) (s .pre .1 .1 .0) (inv .2) (inv .1) (rw all (s .pre .1 .1 .0 .whole (rw all at (inv .2 .reached))))
+    let all : c .before .loop .done ≡ s .args .task .terms .k + length (s .args .lows .now) = omega (arith, inv .1) in
+    finish (s .pre .0 .ready) (s .pre .1 .0) (s .pre .1 .1 .0) (inv .2) (inv .1) (rw all (s .pre .1 .1 .0 .whole (rw all at (inv .2 .reached))))
 
 pub read-rest-spec : {M : Type 1} → statement M
 read-rest-spec =
