@@ -12,6 +12,7 @@ use Rattle.reading.specs.declared.Reading.the-variants.{Fresh, Held}
 use Rattle.reading.specs.declared.Intake.the-variants.{Component}
 use Rattle.reading.specs.Component.{rounded}
 use Rattle.reading.specs.Intake.{valueIntake, intakeOf, intakeNumber}
+use Rattle.presence.specs.Presence.{factorAt, factorsFrom, factorsOf, presentCount}
 use Rattle.signed.specs.Keys.{keyOf}
 use Rattle.signed.specs.Components.{areComponents}
 use Rattle.order.specs.Pair.{Pair, below, insert, sort, keyed, ranked, numbersOf, countFrom}
@@ -29,9 +30,10 @@ use Rattle.cells.specs.Cells.{inFirst, hasValue, noneEmpty, noEmptyCodes}
 use Rattle.approximation.specs.Vectors.{regionsFrom, vectorCodes, insideFrom}
 use Rattle.approximation.specs.VectorCauses.{packVectorsCauses}
 use Rattle.step.specs.Step.{shortest}
-use Rattle.distance.specs.Distance.{firstDistance}
-use Rattle.distance.specs.Bounds.{firstBound}
+use Rattle.distance.specs.Distance.{firstWeighed}
+use Rattle.distance.specs.Bounds.{firstWeighedBound}
 use Rattle.search.specs.Search.{Index, searched, searchCauses, inOwnCells}
+use Rattle.search.specs.Plain.{fullQuery}
 use Rattle.search.specs.Ready.{roomOf}
 
 -- one case: what is asked, and what document 01 says
@@ -44,7 +46,7 @@ pub data Case : Type 0 where
   codes : Index → Case
   -- the marks made from a library's vectors
   makes : Index → List ℤ → Case
-  -- the search of a library for the k nearest gives these pairs (distance, number) and this read list
+  -- the search of a library for the k nearest, with every dimension present, gives these pairs (distance, number) and this read list
   finds : Index → List ℤ → ℕ → List Pair → List ℕ → Case
 
 -- a case holds: the call that it speaks of is not refused where it gives something, and gives what document 01 says
@@ -57,7 +59,8 @@ Holds (codes l) =
 Holds (makes l marks) =
     (first (makeCauses (l .d) (l .b) (l .n) (l .vectors) (length marks)) ≡ Accepted) × (madeMarks (l .d) (l .b) (l .n) (l .vectors) ≡ marks)
 Holds (finds l query k entries reads) =
-    (first (searchCauses l query k (roomOf k (l .n))) ≡ Accepted) × (searched l query k ≡ record { best = entries; reads = reads })
+    (first (searchCauses l (fullQuery l query) k (roomOf k (l .n))) ≡ Accepted)
+    × (searched l (fullQuery l query) k ≡ record { best = entries; reads = reads })
 
 abbrev pub All : List Case → Type 0
 All [] = Unit {0}
@@ -118,7 +121,7 @@ table =
     ∷ []
 
 pub cases-hold : All table
-unfolding first intakeOf valueIntake rounded ofBits ofFields odd isNan keyOf below insert sort keyed ranked numbersOf countFrom ranking scan unread leastPair goesOn readNext reading read bitsOf firstBits firstMarks dimensionMarks regionOf column inOrder madeDimension madeFirst lowBits fromBits bytesOf byteBits joined packed codeRegion regionsFrom firstDistance shortest firstBound areComponents goodFirst notAbove goodDimension inMarks inRegion insideFrom allZero inFirst hasValue noneEmpty noEmptyCodes inOwnCells
+unfolding first intakeOf valueIntake rounded ofBits ofFields odd isNan keyOf below insert sort keyed ranked numbersOf countFrom ranking scan unread leastPair goesOn readNext reading read bitsOf firstBits firstMarks dimensionMarks regionOf column inOrder madeDimension madeFirst lowBits fromBits bytesOf byteBits joined packed codeRegion regionsFrom factorAt factorsFrom factorsOf presentCount firstWeighed shortest firstWeighedBound areComponents goodFirst notAbove goodDimension inMarks inRegion insideFrom allZero inFirst hasValue noneEmpty noEmptyCodes inOwnCells
 cases-hold = (
   refl,
   (

@@ -6,3 +6,4 @@ pub mod Instance
 pub mod Theorems
 pub mod Ready
 pub mod Answer
+pub mod Plain

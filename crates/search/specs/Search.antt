@@ -1,5 +1,5 @@
--- The full scan and the search (document 01, "Distance, bounds, reading order"; source document 003, section 3.3.2, the near-optimal search;
--- document 02, Slip 1, the presence word). Assumes nothing.
+-- The full scan and the search (document 01, "Distance, bounds, reading order"; source document 003, section 3.3.2, the near-optimal
+-- search), with the query's presence word (document 02, Slip 1). Assumes nothing.
 use mathlib.Core.Bool.{Bool, true, not, _&&_}
 use mathlib.Core.List.{List, [], _∷_, _++_}
 use Prim.Native.Nat.{ℕ, _*_}

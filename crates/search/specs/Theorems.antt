@@ -1,8 +1,8 @@
--- The theorems of the search (demands 2 and 3 of the mission; document 01, "Distance, bounds, reading order"; document 02, Slip 1). A library
--- `l` has d, b, n, marks, codes and vectors, a query its components and its presence word; `searched l query k` is the reading order's
--- outcome, its `best` the k pairs (distance, number) that the search answers and its `reads` the read list; `scanned l query k` is the full
--- scan's answer (Search.antt). What settles an answer, and when a vector is needed, is in Settled.antt. The query with its word, k, n, d, b
--- and the marks are any: "shortest reading is wanted for every allowed word". "Not refused" is `Accepts`.
+-- The theorems of the search (demands 2 and 3 of the mission; document 01, "Distance, bounds, reading order"; document 02, Slip 1). A
+-- library `l` has d, b, n, marks, codes and vectors, a query its components and its presence word; `searched l query k` is the reading
+-- order's outcome, its `best` the k pairs (distance, number) that the search answers and its `reads` the read list; `scanned l query k` is
+-- the full scan's answer (Search.antt). What settles an answer, and when a vector is needed, is in Settled.antt. The query with its word, k,
+-- n, d, b and the marks are any; "shortest reading is wanted for every allowed word". "Not refused" is `Accepts`.
 -- Assumes nothing.
 use mathlib.Core.Path.{_≡_, refl, sym, ap, _∙_}
 use mathlib.Core.Logic.{_≢_}

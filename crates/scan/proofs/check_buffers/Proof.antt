@@ -1,12 +1,12 @@
 -- `check_buffers` meets its contract: the lengths first, then the components. Assumes nothing.
-use mathlib.Core.Path.{_≡_, sym, _∙_}
+use mathlib.Core.Path.{sym, _∙_}
 use mathlib.Core.List.{[]}
 use Prim.Native.Nat.{_*_, _≤_}
 use native.Mathlib.Nat.{mul-le-mul}
 use native.Mathlib.Omega.{arith}
 use borrow.Author.Needs.{needs}
 use Rattle.refusal.specs.declared.Refusal.the-variants.{Length, Component}
-use Rattle.refusal.specs.First.{first, first-here, first-next, first-none, told}
+use Rattle.refusal.specs.First.{first-here, first-next, first-none, told}
 use Rattle.limits.specs.Limits.{maxDimensions, maxVectors}
 use Rattle.scan.proofs.check_buffers.Statement.{statement}
 use Rattle.scan.proofs.check_buffers.Tie as tie
