@@ -3,7 +3,6 @@ use limits::MAX_DIMENSIONS;
 use refusal::Refusal;
 use refusal::Verdict;
 ghost use mathlib.Core.Path.{_≡_};
-ghost use Prim.Native.Nat.{_≤_};
 ghost use Rattle.refusal.specs.First.{first};
 ghost use Rattle.limits.specs.Limits.{maxDimensions};
 ghost use Rattle.presence.specs.Presence.{factorsOf, presentCount, leastPresent, hasBitPast, wordCauses};
@@ -15,10 +14,12 @@ pub const LEAST_PRESENT: usize = 4;
 pub fn check_word(d: usize, word: u32) -> Verdict
     ensures { λ r. ⌜ r ≡ first (wordCauses d word) ⌝ }
 {
-    if has_bit_past(d, word) {
+    let past = has_bit_past(d, word);
+    let few = present_count(word) < least_present(d);
+    if past {
         return Verdict::Refused(Refusal::PresenceBit);
     }
-    if present_count(word) < least_present(d) {
+    if few {
         return Verdict::Refused(Refusal::TooFewPresent);
     }
     Verdict::Accepted
