@@ -1,5 +1,5 @@
 -- `Reading::intake` meets its contract: what the second intake gives, and 13 where it finds the reading absent. Assumes nothing.
-use mathlib.Core.Path.{_≡_, sym, ap, _∙_}
+use mathlib.Core.Path.{sym, ap, _∙_}
 use borrow.Author.Needs.{needs}
 use mir.Syntax.{w32}
 use mir.ValLaws.{toZ-ofZ}
