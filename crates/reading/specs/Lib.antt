@@ -1,4 +1,5 @@
 pub mod Component
 pub mod Intake
+pub mod IntakeLaws
 pub mod Fields
 pub mod Product

@@ -1,10 +1,10 @@
-// Readings, and the component of a reading (document 01, "Readings").
+// Readings, and the component of a reading (document 01, "Readings"; document 02, Slip 1).
 mod value;
 
 use refusal::Refusal;
 ghost use mathlib.Core.Path.{_≡_};
 ghost use lib.Ieee.{binary32, ofBits};
-ghost use Rattle.reading.specs.Intake.{intakeOf};
+ghost use Rattle.reading.specs.Intake.{intakeOf, presenceOf};
 
 // A reading is fresh, held with its age in tenths of a second, or lost.
 pub enum Reading {
@@ -16,6 +16,13 @@ pub enum Reading {
 // What the intake of a reading answers.
 pub enum Intake {
     Component(i32),
+    Refused(Refusal),
+}
+
+// What the second intake of a reading answers.
+pub enum Presence {
+    Present(i32),
+    Absent,
     Refused(Refusal),
 }
 
@@ -43,16 +50,27 @@ impl Reading {
     pub fn intake(self) -> Intake
         ensures { λ r. ⌜ r ≡ intakeOf self ⌝ }
     {
+        match self.presence() {
+            Presence::Present(z) => Intake::Component(z),
+            Presence::Absent => Intake::Refused(Refusal::Stale),
+            Presence::Refused(cause) => Intake::Refused(cause),
+        }
+    }
+
+    // The reading's component, or that it is absent, or why it is refused.
+    pub fn presence(self) -> Presence
+        ensures { λ r. ⌜ r ≡ presenceOf self ⌝ }
+    {
         match self {
-            Reading::Fresh(x) => value::component(x),
+            Reading::Fresh(x) => value::presence(x),
             Reading::Held(x, age) => {
                 if Reading::AGE_LIMIT < age {
-                    Intake::Refused(Refusal::Stale)
+                    Presence::Absent
                 } else {
-                    value::component(x)
+                    value::presence(x)
                 }
             }
-            Reading::Lost => Intake::Refused(Refusal::Stale),
+            Reading::Lost => Presence::Absent,
         }
     }
 }

@@ -1,5 +1,6 @@
 // The component of a value, from the value's bits.
 use crate::Intake;
+use crate::Presence;
 use crate::Reading;
 use limits::GREATEST_COMPONENT;
 use limits::LEAST_COMPONENT;
@@ -8,7 +9,7 @@ ghost use mathlib.Core.Path.{_≡_};
 ghost use Prim.Native.Nat.{_*_, _^_, _≤_, _<_};
 ghost use lib.Ieee.{binary32, ofBits, nanBits};
 ghost use Rattle.reading.specs.Component.{unit};
-ghost use Rattle.reading.specs.Intake.{valueIntake};
+ghost use Rattle.reading.specs.Intake.{valueIntake, presenceOf};
 ghost use Rattle.reading.specs.Fields.{significand, scale, ranged, Magnitude};
 
 // A pattern's sign bit, the weight of its exponent field, and that field in an infinity or a NaN.
@@ -42,6 +43,16 @@ pub fn of_bits(bits: u32) -> f32
         return 0.0 / 0.0;
     }
     f32::from_bits(bits)
+}
+
+// The component of a value that is not too old, as present.
+pub fn presence(x: f32) -> Presence
+    ensures { λ r. ⌜ r ≡ presenceOf (Reading.Fresh x) ⌝ }
+{
+    match component(x) {
+        Intake::Component(z) => Presence::Present(z),
+        Intake::Refused(cause) => Presence::Refused(cause),
+    }
 }
 
 // The component of a value. The language gives the bits of a value only once it is known to be no NaN, so the two comparisons with 0 alone
