@@ -16,7 +16,8 @@ pub fn shapes() -> impl Iterator<Item = (usize, usize)> {
     (1..=32).flat_map(|d| (0..=6 * d).map(move |b| (d, b)))
 }
 
-/// Vectors inside these marks, with their own codes and settings from 101 on, and a query for the k nearest.
+/// Vectors inside these marks, with their own codes and settings from 101 on, and a query for the k nearest, in which every
+/// dimension is present.
 pub fn input(d: usize, b: usize, marks: &[i32], vectors: &[i32], query: &[i32], k: usize) -> Input {
     let (n, parts) = (vectors.len() / d, reference::parts(d, b));
     let region = |(place, &value): (usize, &i32)| {
@@ -48,6 +49,7 @@ pub fn input(d: usize, b: usize, marks: &[i32], vectors: &[i32], query: &[i32], 
         n,
         k,
         j: 1,
+        word: reference::full_word(d),
         query: query.to_vec(),
         marks: marks.to_vec(),
         vectors: vectors.to_vec(),
