@@ -8,7 +8,7 @@ use tests::{
     samples::{file, library_a},
 };
 
-const NAMES: [&str; 2] = ["a.match", "forty.match"];
+const NAMES: [&str; 3] = ["a.match", "forty.match", "trees.match"];
 
 fn sample(name: &str) -> Vec<u8> {
     fs::read(c::root().join("samples").join(name)).expect("the sample can be read")
