@@ -160,6 +160,18 @@ fn no_limit_is_another() {
     assert_eq!(named, limits, "the header, and crates/limits and crates/reading");
 }
 
+/// Every number of dimensions.
+#[test]
+fn no_full_word_is_another() {
+    let statement = "    for (size_t d = 1; d <= MATCHER_MAX_DIMENSIONS; d++)
+        printf(\"%lu\\n\", (unsigned long)MATCHER_FULL_WORD(d));
+    printf(\"%d\\n\", MATCHER_LEAST_PRESENT);
+";
+    let lines = printed("words.c", statement);
+    let words = (1..=32).map(|d| reference::full_word(d).to_string());
+    assert_eq!(lines, words.chain(["4".to_string()]).collect::<Vec<_>>(), "the header's, and the reference's");
+}
+
 /// "The calls use no heap, keep nothing from one call to the next, and do no input or output": the library has code and
 /// constants alone, and asks for nothing but to copy and to fill memory.
 #[test]
