@@ -153,11 +153,12 @@ fn printed(name: &str, statements: &str) -> Vec<String> {
 fn no_limit_is_another() {
     let mut limits = constants("crates/limits/src/lib.rt");
     limits.extend(constants("crates/reading/src/lib.rt"));
+    limits.extend(constants("crates/presence/src/lib.rt"));
     let print = |(name, _): &(String, String)| format!("    printf(\"%lld\\n\", (long long)(MATCHER_{name}));\n");
     let lines = printed("limits.c", &limits.iter().map(print).collect::<String>());
     let named: Vec<(String, String)> = limits.iter().map(|(name, _)| name.clone()).zip(lines).collect();
-    assert_eq!(named.len(), 11);
-    assert_eq!(named, limits, "the header, and crates/limits and crates/reading");
+    assert_eq!(named.len(), 12);
+    assert_eq!(named, limits, "the header, and crates/limits, crates/reading and crates/presence");
 }
 
 /// Every number of dimensions.
@@ -165,11 +166,10 @@ fn no_limit_is_another() {
 fn no_full_word_is_another() {
     let statement = "    for (size_t d = 1; d <= MATCHER_MAX_DIMENSIONS; d++)
         printf(\"%lu\\n\", (unsigned long)MATCHER_FULL_WORD(d));
-    printf(\"%d\\n\", MATCHER_LEAST_PRESENT);
 ";
     let lines = printed("words.c", statement);
-    let words = (1..=32).map(|d| reference::full_word(d).to_string());
-    assert_eq!(lines, words.chain(["4".to_string()]).collect::<Vec<_>>(), "the header's, and the reference's");
+    let words: Vec<String> = (1..=32).map(|d| reference::full_word(d).to_string()).collect();
+    assert_eq!(lines, words, "the header's, and on the right the reference's");
 }
 
 /// "The calls use no heap, keep nothing from one call to the next, and do no input or output": the library has code and
