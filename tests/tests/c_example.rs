@@ -88,7 +88,8 @@ fn no_refused_input_is_answered() {
     let longer = [&good.query[..], &[7].repeat(200)].concat();
     let cases =
         [with_k(0), with_k(6), with_k(512), with_k(513), with_k(65535), with_query(&[]), with_query(&good.query[..9])];
-    let others = [with_query(&longer), with_query(&longer[..11]), with_query(&[9]), with_query(&[3; 80]), with_query(&[7, 7])];
+    let others =
+        [with_query(&longer), with_query(&longer[..11]), with_query(&[9]), with_query(&[3; 80]), with_query(&[7, 7])];
     cases.into_iter().chain(others).for_each(|wrong| assert_answers("refused", &[wrong], 1));
 
     // both at once: the first fault from the left is that of k

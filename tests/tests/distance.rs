@@ -8,8 +8,8 @@ use tests::{
     random::Random,
     reference,
     samples::{
-        self, component, largest_input, library_a, random_input, random_of_shape, random_word, small_inputs, small_marks,
-        small_marks_of_more_dimensions, vector_inside, GREATEST, LEAST,
+        self, component, largest_input, library_a, random_input, random_of_shape, random_word, small_inputs,
+        small_marks, small_marks_of_more_dimensions, vector_inside, GREATEST, LEAST,
     },
 };
 

@@ -370,7 +370,8 @@ fn no_full_word_gives_another_result_than_document_01() {
 fn cut_down(input: &Input) -> Input {
     let present = present(input.word);
     let parts = reference::parts(input.d, input.b);
-    let marks: Vec<i32> = present.iter().flat_map(|&dimension| &input.marks[parts[dimension].clone()]).copied().collect();
+    let marks: Vec<i32> =
+        present.iter().flat_map(|&dimension| &input.marks[parts[dimension].clone()]).copied().collect();
     let vectors: Vec<i32> = input.vectors.chunks(input.d).flat_map(|vector| kept(&present, vector)).collect();
     let (d, query) = (present.len(), kept(&present, &input.query));
     samples::input(d, input.b / input.d * d, &marks, &vectors, &query, input.k).from(format!("cut from {input:?}"))

@@ -118,14 +118,7 @@ pub fn query(d: usize, bytes: &[u8], room: usize) -> Result<Vec<i32>, u32> {
 pub fn query_present(d: usize, bytes: &[u8], room: usize) -> Result<Query, u32> {
     let (mut bytes, mut components, mut word) = (Lent::given(bytes), Lent::room(room), Lent::room(1));
     let number = unsafe {
-        matcher_query_present(
-            d,
-            bytes.pointer(),
-            bytes.len(),
-            components.pointer(),
-            components.len(),
-            word.pointer(),
-        )
+        matcher_query_present(d, bytes.pointer(), bytes.len(), components.pointer(), components.len(), word.pointer())
     };
     bytes.kept();
     let word = counted(&word, number);
