@@ -31,8 +31,8 @@
  * A call gives 0, or it is refused and gives the number of a refusal. The numbers that a call can give stand with it
  * under "Refusals", in the order in which their causes are tested. It gives the first whose cause holds, and a number
  * for no other reason. A refused call sets what stands with it under "Counts" to 0, and leaves all else that it was to
- * write as it was. A call that is not refused writes every element of a buffer that it is to fill,
- * unless another rule stands with it.
+ * write as it was. A call that is not refused writes every element of a buffer that it is to fill, unless another rule
+ * stands with it.
  *
  * The calls use no heap, keep nothing from one call to the next, and do no input or output. So they can run at the
  * same time, each on what it is given. A call uses at most 50 KiB of stack, matcher_match at most 160 KiB.
