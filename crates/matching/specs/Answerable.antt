@@ -1,18 +1,16 @@
 -- Behind a match whose rows pass nothing else can refuse: packing takes the library, and the search takes it with the codes that packing
 -- gave and the query. Assumes nothing.
 use mathlib.Core.Path.{_≡_, refl, ap, _∙_}
-use mathlib.Core.Bool.{Bool, true, false, not, _&&_, _||_}
+use mathlib.Core.Bool.{true, not, _&&_}
 use mathlib.Core.List.{List, [], _∷_, _++_, List·Memᴰ·head, List·Memᴰ·tail}
-use Prim.Native.Nat.{ℕ, zero, suc, _*_, _<_}
+use Prim.Native.Nat.{ℕ, _*_, _<_}
 use borrow.Author.Tests.{not-false, eq-eqb}
 use lib.Dec.{leb}
 use lib.IntN.{ℤ}
-use lib.Ieee.{Float}
 use lib.ListN.{length, drop}
-use Rattle.refusal.specs.declared.Refusal.the-variants.{NotANumber, OutOfRange, Stale}
 use Rattle.refusal.specs.declared.Verdict.the-variants.{Accepted}
 use Rattle.refusal.specs.First.{first, outcome-accepted, passed}
-use Rattle.limits.specs.Limits.{isDimensionCount, isBits, isComponent}
+use Rattle.limits.specs.Limits.{isDimensionCount, isBits}
 use Rattle.signed.specs.Components.{areComponents}
 use Rattle.order.specs.Pair.{Pair}
 use Rattle.order.specs.Members.{_∈_}
@@ -27,51 +25,16 @@ use Rattle.search.specs.Ready.{roomOf}
 use Rattle.search.specs.Accepted.{accepts, lengths-exact}
 use Rattle.search.specs.Settled.{OwnCodes}
 use Rattle.search.specs.Theorems.{search-is-scan}
-use Rattle.reading.specs.declared.Reading.{Reading}
-use Rattle.reading.specs.declared.Reading.the-variants.{Fresh, Held, Lost}
-use Rattle.reading.specs.Component.{component}
-use Rattle.reading.specs.Intake.{isInfinite, valueCauses, causes, readingComponent}
-use Rattle.records.specs.Records.{kindOf}
-use Rattle.records.specs.Frame.{frameCauses}
 use Rattle.records.specs.RowLaws.{both}
 use Rattle.library.specs.Library.{Library, readLibrary}
 use Rattle.loading.specs.Load.{recordsCauses as libraryCauses}
-use Rattle.query.specs.Query.{isReading, readingOf, readingCauses, recordsCauses as queryCauses, componentsOf, nextRecord}
+use Rattle.query.specs.Query.{componentsOf}
 use Rattle.text.specs.Text.{line}
 use Rattle.matching.specs.Answer.{searchable, refusedText, entryLines}
 use Rattle.matching.specs.Lines.{read-below}
 use Rattle.matching.specs.Match.{behind, kLength, kOf, matchCauses, matchText}
 use Rattle.loading.specs.Loaded.{loaded-shape, loaded-count, marks-count, components-count, loaded-marks, loaded-components}
 use Rattle.matching.specs.Packed.{packed-inside, packed-own}
-
--- ---- the query
-
-second-fails : (s t : Bool) → s || t ≡ false → t ≡ false
-second-fails true t e = cc
-second-fails false t e = e
-
-value-component : (x : Float) → first (valueCauses x) ≡ Accepted → isComponent (component x) ≡ true
-value-component x accepted =
-    let range = passed _ OutOfRange [] (passed _ NotANumber _ accepted .rest) in
-    not-false _ (second-fails (isInfinite x) _ (range .fails))
-
-reading-component : (r : Reading) → first (causes r) ≡ Accepted → isComponent (readingComponent r) ≡ true
-reading-component (Fresh x) accepted = value-component x accepted
-reading-component (Held x age) accepted = value-component x (passed _ Stale _ accepted .rest)
-reading-component Lost accepted = refl
-
-pub query-components : (d : ℕ) (bytes : List ℕ) → first (queryCauses d bytes) ≡ Accepted → areComponents (componentsOf d bytes) ≡ true
-unfolding queryCauses readingCauses componentsOf areComponents
-query-components zero bytes accepted = refl
-query-components (suc d) bytes accepted =
-    let parts = both (readingCauses bytes) (queryCauses d (nextRecord bytes)) accepted in
-    let own = both (frameCauses (isReading (kindOf bytes)) bytes) (causes (readingOf bytes)) (parts .front) .back in
-    rw (reading-component (readingOf bytes) own, query-components d (nextRecord bytes) (parts .back))
-
-pub query-length : (d : ℕ) (bytes : List ℕ) → length (componentsOf d bytes) ≡ d
-unfolding componentsOf
-query-length zero bytes = refl
-query-length (suc d) bytes = ap suc (query-length d (nextRecord bytes))
 
 -- ---- cells
 

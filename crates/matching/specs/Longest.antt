@@ -116,7 +116,7 @@ same-reading {m} {a} {b} is room =
 
 -- a kind that is no reading's is refused whatever follows
 misplaced : (bytes : List ℕ) → 0 < length bytes → isReading (kindOf bytes) ≡ false
-    → first (readingCauses bytes) ≡ Refused (cond (isKind (kindOf bytes)) Misplaced Kind)
+    → first (readingCauses causes bytes) ≡ Refused (cond (isKind (kindOf bytes)) Misplaced Kind)
 unfolding readingCauses
 misplaced bytes some not-reading =
     stop (frameCauses (isReading (kindOf bytes)) bytes) (causes (readingOf bytes)) (go (isKind (kindOf bytes)) refl)
@@ -125,13 +125,13 @@ misplaced bytes some not-reading =
     go true e = unfold first frameCauses in rw (ne-eqb (length bytes) 0 (λ z. omega arith), e, not-reading)
     go false e = unfold first frameCauses in rw (ne-eqb (length bytes) 0 (λ z. omega arith), e)
 
-same-first : {m : ℕ} {a b : List ℕ} → Alike m a b → 6 ≤ m → first (readingCauses a) ≡ first (readingCauses b)
+same-first : {m : ℕ} {a b : List ℕ} → Alike m a b → 6 ≤ m → first (readingCauses causes a) ≡ first (readingCauses causes b)
 same-first {m} {a} {b} is room = go (isReading (kindOf a)) refl
   where
     kinds : kindOf a ≡ kindOf b
     kinds = same-kind is (omega arith)
 
-    go : (t : Bool) → isReading (kindOf a) ≡ t → first (readingCauses a) ≡ first (readingCauses b)
+    go : (t : Bool) → isReading (kindOf a) ≡ t → first (readingCauses causes a) ≡ first (readingCauses causes b)
     go true e =
         unfold readingCauses in rw
         (same-frame (isReading (kindOf a)) is (omega (arith, reading-most (kindOf a) e)), kinds, same-reading is room)
@@ -139,14 +139,15 @@ same-first {m} {a} {b} is room = go (isReading (kindOf a)) refl
         misplaced a (omega (arith, is .one-has)) e ∙ ap (λ (kind : ℕ). Refused (cond (isKind kind) Misplaced Kind)) kinds
         ∙ sym (misplaced b (omega (arith, is .other-has)) (rw kinds at e))
 
-reading-there : (bytes : List ℕ) → first (readingCauses bytes) ≡ Accepted → isReading (kindOf bytes) ≡ true
+reading-there : (bytes : List ℕ) → first (readingCauses causes bytes) ≡ Accepted → isReading (kindOf bytes) ≡ true
 unfolding readingCauses
 reading-there bytes accepted =
     framed (isReading (kindOf bytes)) bytes
     (both (frameCauses (isReading (kindOf bytes)) bytes) (causes (readingOf bytes)) accepted .front) .there
 
 -- more bytes than d readings can have
-too-long-query : (d : ℕ) {m : ℕ} {a b : List ℕ} → Alike m a b → d * 6 < m → BothRefuse (queryCauses d a) (queryCauses d b)
+too-long-query : (d : ℕ) {m : ℕ} {a b : List ℕ} → Alike m a b → d * 6 < m
+    → BothRefuse (queryCauses causes d a) (queryCauses causes d b)
 unfolding queryCauses
 too-long-query zero {m} {a} {b} is long = record {
   cause = Trailing;
@@ -155,7 +156,8 @@ too-long-query zero {m} {a} {b} is long = record {
 }
 too-long-query (suc d) {m} {a} {b} is long =
     let six : 6 ≤ m = omega (arith, suc-mul d 6) in
-    in-front (readingCauses a) (readingCauses b) (queryCauses d (nextRecord a)) (queryCauses d (nextRecord b)) (same-first is six)
+    in-front (readingCauses causes a) (readingCauses causes b) (queryCauses causes d (nextRecord a)) (queryCauses causes d (nextRecord b))
+    (same-first is six)
     (λ accepted.
     let short = reading-most (kindOf a) (reading-there a accepted) in
     let behind : Alike (m - recordLength (kindOf a)) (nextRecord a) (nextRecord b) =
@@ -307,19 +309,23 @@ module _ (a b : List ℕ) (is : Alike (suc longestMatch) a b) where
     same-k : kCauses (one .n) (behind one a) ≡ kCauses (other .n) (behind other b)
     same-k = same-k-causes (one .n) rest-alike (omega (arith, used-few)) ∙ ap (λ (n : ℕ). kCauses n (behind other b)) same-n
 
-    long-query : BothRefuse (queryCauses (one .d) (drop kLength (behind one a))) (queryCauses (other .d) (drop kLength (behind other b)))
+    long-query : BothRefuse
+        (queryCauses causes (one .d) (drop kLength (behind one a)))
+        (queryCauses causes (other .d) (drop kLength (behind other b)))
     long-query =
         subst
-        (λ (d : ℕ). BothRefuse (queryCauses (one .d) (drop kLength (behind one a))) (queryCauses d (drop kLength (behind other b)))) same-d
+        (λ (d : ℕ). BothRefuse
+        (queryCauses causes (one .d) (drop kLength (behind one a)))
+        (queryCauses causes d (drop kLength (behind other b)))) same-d
         (too-long-query (one .d) (alike-drop kLength rest-alike) (omega (arith, used-few, shaped .few)))
 
     behind-head : BothRefuse
         (marksCauses one a ++
         (vectorsCauses one a ++
-        (endCauses one a ++ (kCauses (one .n) (behind one a) ++ queryCauses (one .d) (drop kLength (behind one a))))))
+        (endCauses one a ++ (kCauses (one .n) (behind one a) ++ queryCauses causes (one .d) (drop kLength (behind one a))))))
         (marksCauses other b ++
         (vectorsCauses other b ++
-        (endCauses other b ++ (kCauses (other .n) (behind other b) ++ queryCauses (other .d) (drop kLength (behind other b))))))
+        (endCauses other b ++ (kCauses (other .n) (behind other b) ++ queryCauses causes (other .d) (drop kLength (behind other b))))))
     behind-head =
         in-front _ _ _ _ (ap first same-marks)
         (λ _. in-front _ _ _ _ (ap first same-vectors)

@@ -13,6 +13,7 @@ use Rattle.limits.specs.Limits.{maxNeighbours}
 use Rattle.records.specs.Bytes.{fromLowFirst}
 use Rattle.library.specs.Library.{Library, libraryLength, readLibrary}
 use Rattle.loading.specs.Load.{recordsCauses as libraryCauses}
+use Rattle.reading.specs.Intake.{causes}
 use Rattle.query.specs.Query.{recordsCauses as queryCauses, componentsOf}
 use Rattle.matching.specs.declared.Printed.{Printed}
 use Rattle.matching.specs.Answer.{refusedText, answerText}
@@ -38,7 +39,7 @@ kCauses n rest = (ltb (length rest) kLength ⇒ Truncated) ∷ (not (leb 1 (kOf 
 
 -- those of a library's records, of k and of the query's d records, left to right
 abbrev pub causesWith : Library → List ℕ → List Row
-causesWith l input = libraryCauses l input ++ (kCauses (l .n) (behind l input) ++ queryCauses (l .d) (drop kLength (behind l input)))
+causesWith l input = libraryCauses l input ++ (kCauses (l .n) (behind l input) ++ queryCauses causes (l .d) (drop kLength (behind l input)))
 
 unfoldable pub matchCauses : List ℕ → List Row
 matchCauses input = causesWith (readLibrary input) input

@@ -14,7 +14,7 @@ use lib.ListN.{length, getD, drop, length-append}
 use lib.Seq.{getD-take, getD-drop}
 use Rattle.refusal.specs.declared.Refusal.{Refusal}
 use Rattle.refusal.specs.declared.Refusal.the-variants.{Dimension, Bits, Count, Neighbours, Length, Component, Mark, Outside, Code, Cell}
-use Rattle.refusal.specs.declared.Refusal.the-variants.{Kind, Truncated, Stale, NotANumber, OutOfRange, Trailing, Misplaced}
+use Rattle.refusal.specs.declared.Refusal.the-variants.{Kind, Truncated, Stale, NotANumber, OutOfRange, Trailing, Misplaced, TooFewPresent, PresenceBit}
 use Rattle.refusal.specs.declared.Verdict.{Verdict}
 use Rattle.refusal.specs.declared.Verdict.the-variants.{Accepted, Refused}
 use Rattle.refusal.specs.Refusal.{numberOf}
@@ -40,14 +40,15 @@ use Rattle.library.specs.EachLaws.{tabulate-past}
 use Rattle.library.specs.Read.{settings-read, setting-read}
 use Rattle.library.specs.Library.{Library, markTotal, vectorPlace, settingsAt, readLibrary}
 use Rattle.loading.specs.Load.{recordsCauses as libraryCauses}
+use Rattle.reading.specs.Intake.{causes}
 use Rattle.query.specs.Query.{recordsCauses as queryCauses, componentsOf}
+use Rattle.query.specs.QueryLaws.{query-components}
 use Rattle.text.specs.TextLaws.{decimal-length}
 use Rattle.text.specs.Text.{line}
 use Rattle.matching.specs.Answer.{searchable, refusedText, entryLine, entryLines, answerText}
 use Rattle.matching.specs.Lines.{best-below}
 use Rattle.matching.specs.Match.{behind, kLength, kOf, kCauses, causesWith, matchText, textRoom}
 use Rattle.loading.specs.Loaded.{shaped, loaded-count, loaded-components}
-use Rattle.matching.specs.Answerable.{query-components}
 
 -- ---- distances
 
@@ -128,6 +129,8 @@ number-small NotANumber = lit< tt
 number-small OutOfRange = lit< tt
 number-small Trailing = lit< tt
 number-small Misplaced = lit< tt
+number-small TooFewPresent = lit< tt
+number-small PresenceBit = lit< tt
 
 refused-room : (cause : Refusal) → length (refusedText cause) ≤ textRoom
 unfolding line
@@ -200,7 +203,7 @@ text-room input are = go (first (causesWith l input)) refl
         (answerText l (componentsOf (l .d) (drop kLength (behind l input))) (kOf (behind l input))) refusedText) ≤ textRoom
     go Accepted e =
         let library = both (libraryCauses l input) _ e in
-        let rest = both (kCauses (l .n) (behind l input)) (queryCauses (l .d) (drop kLength (behind l input))) (library .back) in
+        let rest = both (kCauses (l .n) (behind l input)) (queryCauses causes (l .d) (drop kLength (behind l input))) (library .back) in
         let neighbours = passed _ Neighbours [] (passed _ Truncated _ (rest .front) .rest) in
         let k = kOf (behind l input) in
         answer-room input (library .front) are (componentsOf (l .d) (drop kLength (behind l input)))

@@ -28,6 +28,7 @@ use Rattle.loading.specs.declared.Loaded.{Loaded}
 use Rattle.library.specs.Library.{Library, libraryWith, markTotal, libraryLength, readLibrary}
 use Rattle.loading.specs.Load.{marksRoom, settingsRoom, componentsRoom, recordsCauses as libraryCauses, loadCauses, counts, filled}
 use Rattle.loading.specs.Loaded.{loaded-shape, loaded-count, shaped, marks-count, settings-count, components-count, loaded-within}
+use Rattle.reading.specs.Intake.{causes}
 use Rattle.query.specs.Query.{queryCauses as lentCauses, recordsCauses as queryCauses, componentsOf}
 use Rattle.matching.specs.Answer.{searchable, refusedText, answerText}
 use Rattle.matching.specs.Match.{behind, kLength, kOf, kCauses, matchText}
@@ -36,12 +37,12 @@ use Rattle.matching.specs.Answerable.{packs, searches}
 -- behind a library that passes, and behind a k that passes; `rest` is what stands behind the library
 abbrev pub restText : Library → List ℕ → List ℕ
 restText l rest =
-    outcome (first (kCauses (l .n) rest ++ queryCauses (l .d) (drop kLength rest)))
+    outcome (first (kCauses (l .n) rest ++ queryCauses causes (l .d) (drop kLength rest)))
     (answerText l (componentsOf (l .d) (drop kLength rest)) (kOf rest))
     refusedText
 
 abbrev pub queryText : Library → ℕ → List ℕ → List ℕ
-queryText l k bytes = outcome (first (queryCauses (l .d) bytes)) (answerText l (componentsOf (l .d) bytes) k) refusedText
+queryText l k bytes = outcome (first (queryCauses causes (l .d) bytes)) (answerText l (componentsOf (l .d) bytes) k) refusedText
 
 -- what the library can be asked: packing takes it, the search takes it with any query and any k that pass, and each vector has settings
 pub record Ready (l : Library) : Type 0 where
@@ -107,7 +108,7 @@ pub ready-dimensions : {l : Library} → Ready l → isDimensionCount (l .d) ≡
 ready-dimensions {l} is = not-false _ (passed (not (isDimensionCount (l .d))) Dimension _ (is .of-packing) .fails)
 
 pub query-rows : (d room : ℕ) (bytes : List ℕ) → isDimensionCount d ≡ true → room ≡ d
-    → first (lentCauses d room bytes) ≡ first (queryCauses d bytes)
+    → first (lentCauses d room bytes) ≡ first (queryCauses causes d bytes)
 unfolding first lentCauses
 query-rows d room bytes dimensions exact = rw (dimensions, eq-eqb room d exact)
 

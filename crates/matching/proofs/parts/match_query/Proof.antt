@@ -11,9 +11,10 @@ use Rattle.limits.specs.Limits.{maxDimensions}
 use Rattle.limits.specs.Tests.{between}
 use Rattle.signed.specs.Components.{areComponents}
 use Rattle.library.specs.Library.{Library, libraryWith}
+use Rattle.reading.specs.Intake.{causes}
 use Rattle.query.specs.Query.{recordsCauses, componentsOf}
+use Rattle.query.specs.QueryLaws.{query-components, components-length}
 use Rattle.matching.specs.Answer.{refusedText, answerText}
-use Rattle.matching.specs.Answerable.{query-components, query-length}
 use Rattle.order.proofs.Prefix.{back-within, shared-is}
 use Rattle.text.specs.Puts.{puts-length, puts-same}
 use Rattle.matching.specs.Steps.{queryText, ready-dimensions, query-rows}
@@ -27,7 +28,7 @@ query-holds c =
 
 -- the call's verdict is that of the query's records
 verdict-is : (c : tie.After-query2) → let start = c .before .before .before .before .before in
-    c .query2 .result ≡ first (recordsCauses (start .args .d) (start .args .bytes .now))
+    c .query2 .result ≡ first (recordsCauses causes (start .args .d) (start .args .bytes .now))
 verdict-is c =
     let start = c .before .before .before .before .before in
     c .query2 .ensures .0
@@ -51,7 +52,7 @@ module _ (c : tie.After-query2) (is : c .query2 .result ≡ Accepted) where
   abbrev s : tie.Start
   s = c .before .before .before .before .before
 
-  passes : first (recordsCauses (s .args .d) (s .args .bytes .now)) ≡ Accepted
+  passes : first (recordsCauses causes (s .args .d) (s .args .bytes .now)) ≡ Accepted
   passes = sym (verdict-is c) ∙ is
 
   components-are : take (s .args .d) (query-back c ++ drop (s .args .d) (replicate 32 (pos 0)))
@@ -71,7 +72,7 @@ answer-requires c κs =
     let is = told .enum-told .given .1 in
     let s = back .before .before .before .before .before in
     let ready = s .pre .0 .0 in
-    let size = ap length (components-are back is) ∙ query-length (s .args .d) (s .args .bytes .now) in
+    let size = ap length (components-are back is) ∙ components-length (s .args .d) (s .args .bytes .now) in
     let components = ap areComponents (components-are back is) ∙ query-components (s .args .d) (s .args .bytes .now) (passes back is) in (
       ready .of-packing,
       (ready .of-search _ (s .args .k) size components (s .pre .0 .1), (ready .of-settings, rw (text-is back is) (s .pre .1))),
