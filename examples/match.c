@@ -4,9 +4,10 @@
  *     match LIBRARY K QUERY..
  *
  * LIBRARY is a library file, each QUERY a file with the records of a query. The library is loaded and its codes are
- * packed once; then each query is taken in and searched for. What comes out for it is what the kit program writes: K
- * and how many vectors were read, then the number, settings and distance of each of the K nearest; or "refused" and
- * the number.
+ * packed once; then each query is taken in and searched for, on the readings that are there: lost and over-age ones
+ * count for nothing, as long as four others are there, or all where d is below four. What comes out for it is what the
+ * kit program writes: K and how many vectors were read, then the number, settings and distance of each of the K
+ * nearest; or "refused" and the number.
  *
  * Every buffer is static and has the largest size that the limits allow: no heap is used.
  *
@@ -80,13 +81,14 @@ static uint32_t load(const char *name)
 static uint32_t search(const char *name, size_t k, size_t *count)
 {
     int32_t query[MATCHER_MAX_DIMENSIONS];
+    uint32_t word;
     size_t length = read_file(name, MATCHER_MAX_QUERY);
     if (k == 0 || k > library.n)
         return MATCHER_NEIGHBOURS;
-    uint32_t number = matcher_query(library.d, bytes, length, query, library.d);
+    uint32_t number = matcher_query_present(library.d, bytes, length, query, library.d, &word);
     if (number != MATCHER_ACCEPTED)
         return number;
-    return matcher_search(library.d, library.b, library.n, k, query, library.d, library.marks,
+    return matcher_search(library.d, library.b, library.n, k, word, query, library.d, library.marks,
                           MATCHER_MARKS(library.d, library.b), library.codes, MATCHER_CODES(library.b, library.n),
                           library.vectors, library.n * library.d, entries, k, reads, library.n, count);
 }

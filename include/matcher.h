@@ -16,6 +16,12 @@
  * whose components lie, each, in the region that the code names. The distance of two vectors is the sum of the
  * squared differences of their components.
  *
+ * A reading that is lost, or held for longer than MATCHER_AGE_LIMIT, can be taken as absent. The presence word of a
+ * query says which dimensions are present: bit j - 1 is that of dimension j, and MATCHER_FULL_WORD(d) has all of them.
+ * With a word, a distance and a cell's least and greatest distance are sums over the present dimensions only. At least
+ * four dimensions have to be present, or all d where d is below four. The query has d components all the same: what
+ * stands for an absent one is a component too, and counts for nothing.
+ *
  * THE CALLS
  *
  * A buffer is passed as a pointer and its length in elements. The pointer is aligned for its type and leads to that
@@ -24,9 +30,9 @@
  *
  * A call gives 0, or it is refused and gives the number of a refusal. The numbers that a call can give stand with it
  * under "Refusals", in the order in which their causes are tested. It gives the first whose cause holds, and a number
- * for no other reason. A refused call sets its counts, which stand with it under "Counts", to 0, and leaves all else
- * that it was to write as it was. A call that is not refused writes every element of a buffer that it is to fill,
- * unless another rule stands with it.
+ * for no other reason. A refused call sets what stands with it under "Counts" to 0, and leaves all else that it was to
+ * write as it was. A call that is not refused writes every element of a buffer that it is to fill, unless another rule
+ * stands with it.
  *
  * The calls use no heap, keep nothing from one call to the next, and do no input or output. So they can run at the
  * same time, each on what it is given. A call uses at most 50 KiB of stack, matcher_match at most 160 KiB.
@@ -44,24 +50,26 @@ extern "C" {
 /* ---- refusals */
 
 enum matcher_refusal {
-    MATCHER_ACCEPTED = 0,      /* not refused */
-    MATCHER_DIMENSION = 1,     /* d not 1 to 32, or a dimension number not 1 to d */
-    MATCHER_BITS = 2,          /* b above 6 d, or a number of regions other than 1, 2, 4, 8, 16, 32 or 64 */
-    MATCHER_COUNT = 3,         /* n not 1 to 512 */
-    MATCHER_NEIGHBOURS = 4,    /* k is 0 or above n */
-    MATCHER_LENGTH = 5,        /* the length of a buffer is not the exact one */
-    MATCHER_COMPONENT = 6,     /* a component out of range, or not zero beyond d */
-    MATCHER_MARK = 7,          /* a mark out of range, or below the one before it in its dimension */
-    MATCHER_OUTSIDE = 8,       /* a vector, or a value whose region is sought, outside the marks */
-    MATCHER_CODE = 9,          /* a code naming an empty region, a region number past the last, a spare bit set */
-    MATCHER_CELL = 10,         /* the search reads a vector that is not in its code's cell */
-    MATCHER_KIND = 11,         /* a kind byte not 1 to 7 */
-    MATCHER_TRUNCATED = 12,    /* the input ends inside a record, or before the next */
-    MATCHER_STALE = 13,        /* a reading is lost, or its age above 20 */
-    MATCHER_NOT_A_NUMBER = 14, /* a value is NaN */
-    MATCHER_OUT_OF_RANGE = 15, /* a value is infinite, or its component out of range */
-    MATCHER_TRAILING = 16,     /* bytes after a query */
-    MATCHER_MISPLACED = 17     /* a record of a known kind in a wrong place */
+    MATCHER_ACCEPTED = 0,         /* not refused */
+    MATCHER_DIMENSION = 1,        /* d not 1 to 32, or a dimension number not 1 to d */
+    MATCHER_BITS = 2,             /* b above 6 d, or a number of regions other than 1, 2, 4, 8, 16, 32 or 64 */
+    MATCHER_COUNT = 3,            /* n not 1 to 512 */
+    MATCHER_NEIGHBOURS = 4,       /* k is 0 or above n */
+    MATCHER_LENGTH = 5,           /* the length of a buffer is not the exact one */
+    MATCHER_COMPONENT = 6,        /* a component out of range, or not zero beyond d */
+    MATCHER_MARK = 7,             /* a mark out of range, or below the one before it in its dimension */
+    MATCHER_OUTSIDE = 8,          /* a vector, or a value whose region is sought, outside the marks */
+    MATCHER_CODE = 9,             /* a code naming an empty region, a region number past the last, a spare bit set */
+    MATCHER_CELL = 10,            /* the search reads a vector that is not in its code's cell */
+    MATCHER_KIND = 11,            /* a kind byte not 1 to 7 */
+    MATCHER_TRUNCATED = 12,       /* the input ends inside a record, or before the next */
+    MATCHER_STALE = 13,           /* a reading is lost, or its age above 20 */
+    MATCHER_NOT_A_NUMBER = 14,    /* a value is NaN */
+    MATCHER_OUT_OF_RANGE = 15,    /* a value is infinite, or its component out of range */
+    MATCHER_TRAILING = 16,        /* bytes after a query */
+    MATCHER_MISPLACED = 17,       /* a record of a known kind in a wrong place */
+    MATCHER_TOO_FEW_PRESENT = 18, /* fewer than four dimensions present, or fewer than d where d is below four */
+    MATCHER_PRESENCE_BIT = 19     /* a bit of the presence word at or above d */
 };
 
 /* ---- limits */
@@ -77,6 +85,11 @@ enum matcher_refusal {
 #define MATCHER_GREATEST_MARK 32768
 #define MATCHER_UNIT 256               /* a component of 1 is a reading of 1/256 */
 #define MATCHER_AGE_LIMIT 20           /* tenths of a second: a held reading is good up to this age */
+#define MATCHER_LEAST_PRESENT 4        /* so many dimensions have to be present, or all where d is below this */
+
+/* ---- the presence word of d dimensions, d within its limit, that are all present */
+
+#define MATCHER_FULL_WORD(d) ((uint32_t)0xFFFFFFFF >> (MATCHER_MAX_DIMENSIONS - (d)))
 
 /* ---- lengths, in elements. Counts are within the limits; an argument is evaluated more than once. */
 
@@ -125,6 +138,47 @@ uint32_t matcher_held_value(float value, uint8_t age, int32_t *component);
  * Refusals: 13. It is always refused.
  */
 uint32_t matcher_lost(int32_t *component);
+
+/*
+ * ---- readings, by the second intake: a reading that is lost or over age is absent, and no fault
+ *
+ * A call sets present to 1 and gives the component; or the reading is absent, and it sets present to 0 and the
+ * component to 0, a filler; or it is refused, sets present to 0 and leaves the component as it was.
+ */
+
+/*
+ * A fresh reading, whose binary32 value has these 32 bits. It is never absent.
+ * Counts: present.
+ * Refusals: 14, 15.
+ */
+uint32_t matcher_fresh_present(uint32_t bits, int32_t *component, uint32_t *present);
+
+/*
+ * The same for a float.
+ * Counts: present.
+ * Refusals: 14, 15.
+ */
+uint32_t matcher_fresh_value_present(float value, int32_t *component, uint32_t *present);
+
+/*
+ * A held reading, of an age in tenths of a second. Above MATCHER_AGE_LIMIT it is absent, whatever its value.
+ * Counts: present.
+ * Refusals: 14, 15.
+ */
+uint32_t matcher_held_present(uint32_t bits, uint8_t age, int32_t *component, uint32_t *present);
+
+/*
+ * The same for a held reading of a float.
+ * Counts: present.
+ * Refusals: 14, 15.
+ */
+uint32_t matcher_held_value_present(float value, uint8_t age, int32_t *component, uint32_t *present);
+
+/*
+ * A lost reading, which is absent. It is never refused.
+ * Counts: present.
+ */
+uint32_t matcher_lost_present(int32_t *component, uint32_t *present);
 
 /* ---- marks and regions */
 
@@ -227,7 +281,7 @@ uint32_t matcher_check_codes(size_t d, size_t b, size_t n, const int32_t *marks,
 /* ---- distances */
 
 /*
- * The distance of a vector from a query. The query's length is d.
+ * The distance of a vector from a query, every dimension present. The query's length is d.
  * Lengths: query d; vector d.
  * Refusals: 1, 5, 6 (query and vector).
  */
@@ -235,17 +289,18 @@ uint32_t matcher_distance(const int32_t *query, size_t query_len, const int32_t 
                           uint64_t *distance);
 
 /*
- * For each of n codes, the least and the greatest distance from a query that a vector in its cell can have.
+ * For each of n codes, the least and the greatest distance from a query that a vector in its cell can have, over the
+ * dimensions that the word has present.
  * Lengths: query d; marks MATCHER_MARKS(d, b); codes MATCHER_CODES(b, n); lowers n; uppers n.
- * Refusals: 1, 2, 3, 5, 6 (query), 7, 9 (any code).
+ * Refusals: 1, 2, 3, 19, 18, 5, 6 (query, absent components too), 7, 9 (any code).
  */
-uint32_t matcher_bounds(size_t d, size_t b, size_t n, const int32_t *query, size_t query_len, const int32_t *marks,
-                        size_t marks_len, const uint8_t *codes, size_t codes_len, uint64_t *lowers, size_t lowers_len,
-                        uint64_t *uppers, size_t uppers_len);
+uint32_t matcher_bounds(size_t d, size_t b, size_t n, uint32_t word, const int32_t *query, size_t query_len,
+                        const int32_t *marks, size_t marks_len, const uint8_t *codes, size_t codes_len,
+                        uint64_t *lowers, size_t lowers_len, uint64_t *uppers, size_t uppers_len);
 
 /* ---- the nearest vectors */
 
-/* A vector's number and its distance from the query. */
+/* A vector's number and its distance from the query, over the dimensions that the word has present. */
 struct matcher_entry {
     uint32_t number;
     uint64_t distance;
@@ -253,17 +308,18 @@ struct matcher_entry {
 
 /*
  * The k of n vectors that are nearest to a query, nearest first and of equally near ones the lower number first. The
- * scan looks at every vector.
+ * word says which dimensions are present: distances are sums over these. The scan looks at every vector.
  * Lengths: query d; vectors n d; entries k.
- * Refusals: 1, 3, 4, 5, 6 (query and vectors).
+ * Refusals: 1, 3, 4, 19, 18, 5, 6 (query and vectors, absent components too).
  */
-uint32_t matcher_scan(size_t d, size_t n, size_t k, const int32_t *query, size_t query_len, const int32_t *vectors,
-                      size_t vectors_len, struct matcher_entry *entries, size_t entries_len);
+uint32_t matcher_scan(size_t d, size_t n, size_t k, uint32_t word, const int32_t *query, size_t query_len,
+                      const int32_t *vectors, size_t vectors_len, struct matcher_entry *entries, size_t entries_len);
 
 /*
  * The same from the codes. Where the codes are the vectors' own, as matcher_pack_vectors makes them, the entries are
  * the scan's, and no vector is read that could be left out, but for those whose cell has one distance: with some other
- * vector of its cell in its place alone, a number or a distance of the answer would be another.
+ * vector of its cell in its place alone, a number or a distance of the answer would be another. Both hold for every
+ * word that is not refused; a cell's distances, too, are over the present dimensions.
  *
  * The search reads vectors in order of the least distance of their cells, of equal ones the lower number first. It
  * reads the next while fewer than k have been read, or while the pair of that least distance and the number is below
@@ -274,9 +330,10 @@ uint32_t matcher_scan(size_t d, size_t n, size_t k, const int32_t *query, size_t
  * The components of a vector that is not read are not looked at.
  * Counts: count, of the vectors read.
  * Lengths: query d; marks MATCHER_MARKS(d, b); codes MATCHER_CODES(b, n); vectors n d; entries k; reads n.
- * Refusals: 1, 2, 3, 4, 5, 6 (query), 7, 9 (any code), 10. A refusal with 10 leaves the buffers as they were, too.
+ * Refusals: 1, 2, 3, 4, 19, 18, 5, 6 (query, absent components too), 7, 9 (any code), 10 (in any dimension). A
+ * refusal with 10 leaves the buffers as they were, too.
  */
-uint32_t matcher_search(size_t d, size_t b, size_t n, size_t k, const int32_t *query, size_t query_len,
+uint32_t matcher_search(size_t d, size_t b, size_t n, size_t k, uint32_t word, const int32_t *query, size_t query_len,
                         const int32_t *marks, size_t marks_len, const uint8_t *codes, size_t codes_len,
                         const int32_t *vectors, size_t vectors_len, struct matcher_entry *entries, size_t entries_len,
                         uint32_t *reads, size_t reads_len, size_t *count);
@@ -335,10 +392,21 @@ uint32_t matcher_load(const uint8_t *bytes, size_t bytes_len, int32_t *marks, si
  */
 uint32_t matcher_query(size_t d, const uint8_t *bytes, size_t bytes_len, int32_t *components, size_t components_len);
 
+/*
+ * The same by the second intake: the components of a query's readings, 0 where a reading is absent, and its presence
+ * word.
+ * Counts: word.
+ * Lengths: bytes any; components d.
+ * Refusals: 1, 5; then from the left 12, 11, 17, 12, 14, 15 for each record; 16; 18.
+ */
+uint32_t matcher_query_present(size_t d, const uint8_t *bytes, size_t bytes_len, int32_t *components,
+                               size_t components_len, uint32_t *word);
+
 /* ---- the whole program */
 
 /*
- * What the kit program writes for a match: a library, k (2 bytes), a query. The text goes into the front of the
+ * What the kit program writes for a match: a library, k (2 bytes), a query, which is taken in by the second intake: it
+ * is matched on the readings that are present, and never refused with 13. The text goes into the front of the
  * output, which keeps its content past it, and the count is its length. It is "refused " and the number of the
  * match's first fault from the left (4 behind k, 12 for an end inside it); or, on line one, k and how many vectors
  * were read, then a line for each of the k nearest: number, settings, distance. Numbers are decimal, with single

@@ -13,8 +13,9 @@ enum Reading {
     Fresh(f32),
     /// with its age in tenths of a second
     Held(f32, u8),
+    Lost,
 }
-use Reading::{Fresh, Held};
+use Reading::{Fresh, Held, Lost};
 
 // ---- records
 
@@ -41,6 +42,7 @@ fn query(readings: &[Reading]) -> Vec<u8> {
     let record = |reading: &Reading| match reading {
         Fresh(value) => [&[5][..], &value.to_le_bytes()].concat(),
         Held(value, age) => [&[6][..], &value.to_le_bytes(), &[*age]].concat(),
+        Lost => vec![7],
     };
     readings.iter().flat_map(record).collect()
 }
@@ -112,17 +114,29 @@ fn made_marks(b: usize, vectors: &[Vector]) -> Vec<Vec<i32>> {
     (0..READINGS).map(dimension).collect()
 }
 
+/// The three of the forty that are nearest to what was measured.
+fn of_forty(measured: &[Reading; READINGS]) -> Vec<u8> {
+    let (b, vectors) = (24, forty_tractors());
+    input(library(b, &made_marks(b, &vectors), &vectors), 3, query(measured))
+}
+
 /// A long row crop tractor with a plough, not one of the forty. The smallest turn was measured some time before.
 fn forty() -> Vec<u8> {
-    let (b, vectors) = (24, forty_tractors());
-    let wheels = [Fresh(0.25), Fresh(0.35), Fresh(0.79), Fresh(1.7), Fresh(1.5), Fresh(24.25)];
-    let measured: Vec<Reading> = wheels.into_iter().chain([Fresh(-0.375), Held(6.25, 14)]).collect();
-    input(library(b, &made_marks(b, &vectors), &vectors), 3, query(&measured))
+    let [dead_time, lag, gain, overshoot, play, rate, drift] = [0.25, 0.35, 0.79, 1.7, 1.5, 24.25, -0.375].map(Fresh);
+    of_forty(&[dead_time, lag, gain, overshoot, play, rate, drift, Held(6.25, 14)])
+}
+
+/// The same tractor under trees. What the receiver's track gives is gone: overshoot and smallest turn are older than two
+/// seconds, the drift is lost. What is measured at the wheels is there.
+fn trees() -> Vec<u8> {
+    let [dead_time, lag, gain, play, rate] = [0.25, 0.35, 0.79, 1.5, 24.25].map(Fresh);
+    of_forty(&[dead_time, lag, gain, Held(1.7, 26), play, rate, Lost, Held(6.25, 44)])
 }
 
 fn main() -> Result<(), Box<dyn Error>> {
     let folder = PathBuf::from(env::args_os().nth(1).ok_or("name a folder")?);
     fs::write(folder.join("a.match"), library_a())?;
     fs::write(folder.join("forty.match"), forty())?;
+    fs::write(folder.join("trees.match"), trees())?;
     Ok(())
 }

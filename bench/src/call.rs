@@ -130,13 +130,13 @@ impl Call {
     fn by_rust(self, data: &Data, i: usize, answer: &mut Answer) {
         let query = &data.queries[i];
         let Answer { entries, reads, .. } = answer;
-        let &Data { d, b, ref vectors, .. } = data;
+        let &Data { d, b, word, ref vectors, .. } = data;
         match self {
             Call::Search => {
                 let library = Library { d, b, marks: &data.marks, codes: &data.codes, vectors };
-                answer.count = library.search(query, entries, reads);
+                answer.count = library.search(word, query, entries, reads);
             }
-            Call::Scan => scan::scan(d, query, vectors, entries),
+            Call::Scan => scan::scan(d, word, query, vectors, entries),
             Call::Marks => marks::make(d, b, &data.others[i], &mut answer.marks),
             Call::Pack => codes::pack(d, b, &data.regions, &mut answer.codes),
             Call::Codes => {

@@ -34,6 +34,8 @@ pub struct Data {
     pub settings: Vec<u32>,
     pub bytes: Vec<u8>,
     pub queries: Vec<Vec<i32>>,
+    /// The queries' presence word: every dimension is present.
+    pub word: u32,
     /// As many other sets of vectors as there are queries: marks are made from another set each time, since a processor learns the
     /// branches of a sort that it sees again.
     pub others: Vec<Vec<i32>>,
@@ -73,6 +75,7 @@ impl Data {
             settings: (1..=n as u32).collect(),
             bytes: Vec::new(),
             queries,
+            word: u32::MAX >> (32 - d),
             others,
             matches: Vec::new(),
         };

@@ -26,7 +26,7 @@ int layout_scan_from_c(void) {
     const int32_t query[1] = {5};
     const int32_t vectors[3] = {9, 4, 7};
     struct matcher_entry entries[2] = {{7, 7}, {7, 7}};
-    if (matcher_scan(1, 3, 2, query, 1, vectors, 3, entries, 2) != 0) {
+    if (matcher_scan(1, 3, 2, MATCHER_FULL_WORD(1), query, 1, vectors, 3, entries, 2) != 0) {
         return 0;
     }
     return entries[0].number == 1 && entries[0].distance == 1 && entries[1].number == 2 && entries[1].distance == 4;

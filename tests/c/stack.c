@@ -20,6 +20,7 @@ static uint8_t input[MATCHER_MAX_MATCH], file[MATCHER_MAX_LIBRARY], output[MATCH
 static size_t length, d, b, n, used, place, bits;
 static int32_t marks[MATCHER_MAX_MARKS], made[MATCHER_MAX_MARKS], vectors[MATCHER_MAX_COMPONENTS];
 static int32_t query[MATCHER_MAX_DIMENSIONS], component;
+static uint32_t word, present;
 static uint32_t settings[MATCHER_MAX_VECTORS], reads[MATCHER_MAX_VECTORS];
 static struct matcher_entry entries[MATCHER_MAX_VECTORS];
 static uint64_t distance, lowers[MATCHER_MAX_VECTORS], uppers[MATCHER_MAX_VECTORS];
@@ -42,6 +43,7 @@ static size_t given;
 CALL(load, input, length, marks, MATCHER_MAX_MARKS, settings, MATCHER_MAX_VECTORS,
      vectors, MATCHER_MAX_COMPONENTS, &d, &b, &n, &used)
 CALL(query, d, input + used + 2, length - used - 2, query, d)
+CALL(query_present, d, input + used + 2, length - used - 2, query, d, &word)
 CALL(library_length, d, b, n, &place)
 CALL(write, d, b, n, MARKS, settings, n, VECTORS, file, MATCHER_LIBRARY(d, b, n))
 CALL(fresh, 0x3F800000, &component)
@@ -49,6 +51,11 @@ CALL(fresh_value, 1.0F, &component)
 CALL(held, 0x3F800000, 20, &component)
 CALL(held_value, 1.0F, 20, &component)
 CALL(lost, &component)
+CALL(fresh_present, 0x3F800000, &component, &present)
+CALL(fresh_value_present, 1.0F, &component, &present)
+CALL(held_present, 0x3F800000, 20, &component, &present)
+CALL(held_value_present, 1.0F, 20, &component, &present)
+CALL(lost_present, &component, &present)
 CALL(stretch, d, b, d, &place, &bits)
 CALL(check_marks, d, b, MARKS)
 CALL(check_part, d, b, MARKS, d)
@@ -63,9 +70,9 @@ CALL(pack, d, b, n, regions, n * d, CODES)
 CALL(unpack, d, b, n, CODES, regions, n * d)
 CALL(check_codes, d, b, n, MARKS, CODES)
 CALL(distance, query, d, vectors, d, &distance)
-CALL(bounds, d, b, n, query, d, MARKS, CODES, lowers, n, uppers, n)
-CALL(scan, d, n, n, query, d, VECTORS, entries, n)
-CALL(search, d, b, n, n, query, d, MARKS, CODES, VECTORS, entries, n, reads, n, &place)
+CALL(bounds, d, b, n, word, query, d, MARKS, CODES, lowers, n, uppers, n)
+CALL(scan, d, n, n, word, query, d, VECTORS, entries, n)
+CALL(search, d, b, n, n, word, query, d, MARKS, CODES, VECTORS, entries, n, reads, n, &place)
 CALL(match, input, length, output, MATCHER_MAX_TEXT, &place)
 
 static void *run_nothing(void *argument)
@@ -111,6 +118,7 @@ int main(void)
     painted_over(run_nothing);
     MEASURE(load);
     MEASURE(query);
+    MEASURE(query_present);
     MEASURE(library_length);
     MEASURE(write);
     MEASURE(fresh);
@@ -118,6 +126,11 @@ int main(void)
     MEASURE(held);
     MEASURE(held_value);
     MEASURE(lost);
+    MEASURE(fresh_present);
+    MEASURE(fresh_value_present);
+    MEASURE(held_present);
+    MEASURE(held_value_present);
+    MEASURE(lost_present);
     MEASURE(stretch);
     MEASURE(check_marks);
     MEASURE(check_part);

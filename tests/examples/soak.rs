@@ -20,11 +20,13 @@ use tests::{
 /// The length of the output's buffer.
 const ROOM: usize = 14_344;
 
-/// The inputs of a seed: a match that is right, the same damaged some times, bytes of no plan.
+/// The inputs of a seed: a match that is right, with absent readings or without, the same damaged some times, bytes of no
+/// plan.
 fn inputs(seed: u64) -> Vec<Vec<u8>> {
     let mut random = Random::new(seed);
     let most = random.one_of(&[3, 10, 10, 30, 30, 512]);
-    let right = Match::random(seed, most).bytes();
+    let made = random.one_of(&[Match::random, Match::random_with_absent]);
+    let right = made(seed, most).bytes();
     let mut inputs = vec![noise(&mut random), right.clone()];
     for _ in 0..6 {
         let mut input = right.clone();
@@ -60,7 +62,7 @@ fn main() {
     let (seconds, first) = (argument(1, 60), argument(2, clock));
     let end = Instant::now() + Duration::from_secs(seconds);
     let (next, faults) = (AtomicU64::new(first), Mutex::new(vec![]));
-    let counts: [AtomicUsize; 18] = Default::default();
+    let counts: [AtomicUsize; 20] = Default::default();
     let worker = || {
         while Instant::now() < end && faults.lock().is_ok_and(|faults| faults.is_empty()) {
             let seed = next.fetch_add(1, Relaxed);

@@ -12,6 +12,8 @@ pub enum Given {
     K,
     /// a dimension
     J,
+    /// the presence word
+    Word,
     /// a query, of d components
     Query,
     /// a query whose length is d, and a vector
@@ -44,6 +46,7 @@ pub enum Given {
 pub struct Call {
     pub name: &'static str,
     pub takes: &'static [Given],
+    /// in the order in which they are tested
     pub causes: &'static [u32],
     number: fn(&Input) -> u32,
 }
@@ -100,12 +103,13 @@ pub const PACK_VECTORS: Call =
 pub const UNPACK: Call = call!(unpack, [D, B, N, Codes, RoomRegions], [1, 2, 3, 5, 9]);
 pub const CHECK_CODES: Call = call!(check_codes, [D, B, N, Marks, Codes], [1, 2, 3, 5, 7, 9]);
 pub const DISTANCE: Call = call!(distance, [Pair], [1, 5, 6]);
-pub const BOUNDS: Call = call!(bounds, [D, B, N, Query, Marks, Codes, RoomLowers, RoomUppers], [1, 2, 3, 5, 6, 7, 9]);
-pub const SCAN: Call = call!(scan, [D, N, K, Query, Vectors, Components, RoomEntries], [1, 3, 4, 5, 6]);
+pub const BOUNDS: Call =
+    call!(bounds, [D, B, N, Word, Query, Marks, Codes, RoomLowers, RoomUppers], [1, 2, 3, 19, 18, 5, 6, 7, 9]);
+pub const SCAN: Call = call!(scan, [D, N, K, Word, Query, Vectors, Components, RoomEntries], [1, 3, 4, 19, 18, 5, 6]);
 pub const SEARCH: Call = call!(
     search,
-    [D, B, N, K, Query, Marks, Codes, Vectors, Cells, RoomEntries, RoomReads],
-    [1, 2, 3, 4, 5, 6, 7, 9, 10]
+    [D, B, N, K, Word, Query, Marks, Codes, Vectors, Cells, RoomEntries, RoomReads],
+    [1, 2, 3, 4, 19, 18, 5, 6, 7, 9, 10]
 );
 pub const WRITE: Call = call!(write, [D, B, N, Marks, Settings, Vectors, Components, RoomBytes], [1, 2, 3, 5, 6, 7, 8]);
 pub const LIBRARY_LENGTH: Call = call!(library_length, [D, B, N], [1, 2, 3]);

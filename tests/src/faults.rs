@@ -8,6 +8,15 @@ use crate::{
 };
 use Given::*;
 
+/// The causes of calls on numbers, in the order in which they are tested: that of document 01's table, with "18 .. after 19
+/// in search and scan" and "19 .. after 4" (document 02, Slip 1).
+const ORDER: [u32; 12] = [1, 2, 3, 4, 19, 18, 5, 6, 7, 8, 9, 10];
+
+/// A cause's place in the order.
+fn place_of(cause: u32) -> usize {
+    ORDER.iter().position(|&other| other == cause).expect("the cause has a place")
+}
+
 /// A fault of an input that was right.
 pub struct Fault {
     cause: u32,
@@ -142,7 +151,7 @@ fn ends(count: usize) -> Vec<usize> {
     ends
 }
 
-/// Faults of an input that is right: each has its cause, whatever faults of a higher number there are besides.
+/// Faults of an input that is right: each has its cause, whatever faults of later causes there are besides.
 fn faults(input: &Input) -> Vec<Fault> {
     // not seen in a count's low 32 bits
     const WIDE: usize = 1 << 32;
@@ -159,6 +168,7 @@ fn faults(input: &Input) -> Vec<Fault> {
     faults.counts(2, &[DimensionMarks], &none, |input| &mut input.one.regions);
     faults.counts(3, &[N], &[0, 513, 1024, n + WIDE, n + (1 << 61), usize::MAX], |input| &mut input.n);
     faults.counts(4, &[K], &[0, n + 1, 513, k + WIDE, usize::MAX], |input| &mut input.k);
+    word_faults(input, &mut faults);
 
     for (at, buffer) in BUFFERS.into_iter().enumerate() {
         let exact = length(input, buffer);
@@ -205,6 +215,22 @@ fn faults(input: &Input) -> Vec<Fault> {
     faults.0
 }
 
+/// 19: bits at and above d; 18: too few dimensions present, the first of them or the last.
+fn word_faults(input: &Input, faults: &mut Faults) {
+    let d = input.d;
+    let full = reference::full_word(d);
+    if d < 32 {
+        for bits in [1 << d, 1 << 31, !full] {
+            faults.add(19, &[Word], format!("bits {bits:x} at or above d"), move |input| input.word |= bits);
+        }
+    }
+    for count in 0..d.min(4) {
+        for word in [reference::full_word(count), full & !reference::full_word(d - count)] {
+            faults.add(18, &[Word], format!("word {word:x}"), move |input| input.word = word);
+        }
+    }
+}
+
 /// 9: region numbers past the last, spare bits set, empty regions named.
 fn code_faults(input: &Input, faults: &mut Faults) {
     let Input { d, b, n, .. } = *input;
@@ -248,11 +274,11 @@ fn cell_faults(input: &Input, faults: &mut Faults) {
     }
 }
 
-/// The faults of an input that concern a call, in the order of their numbers.
+/// The faults of an input that concern a call, in the order in which their causes are tested.
 fn faults_for(call: &Call, input: &Input) -> Vec<Fault> {
     call.gives(0, input);
     let faults: Vec<Fault> = faults(input).into_iter().filter(|fault| fault.concerns(call)).collect();
-    assert!(faults.is_sorted_by_key(|fault| fault.cause));
+    assert!(faults.is_sorted_by_key(|fault| place_of(fault.cause)));
     faults
 }
 
@@ -261,7 +287,7 @@ pub fn assert_each_refusal(call: &Call, input: &Input) {
     faults_for(call, input).iter().for_each(|fault| assert_refused(call, input, &[fault]));
 }
 
-/// Each fault is refused with its number, and of any two faults the one with the lower number decides. Each cause of
+/// Each fault is refused with its number, and of any two faults the one whose cause is tested first decides. Each cause of
 /// the call is there.
 pub fn assert_refusals(call: &Call, inputs: &[Input]) {
     let mut causes = vec![];
@@ -273,19 +299,19 @@ pub fn assert_refusals(call: &Call, inputs: &[Input]) {
         }
         causes.extend(faults.iter().map(|fault| fault.cause));
     }
-    causes.sort();
+    causes.sort_by_key(|&cause| place_of(cause));
     causes.dedup();
     assert_eq!(causes, call.causes, "the causes of {} that were tried", call.name);
 }
 
-/// The faults stand with the higher number first, so that a length is changed after the contents.
+/// The faults stand with the later cause first, so that a length is changed after the contents.
 fn assert_refused(call: &Call, input: &Input, faults: &[&Fault]) {
     let mut faulty = input.clone();
     for fault in faults {
         (fault.make)(&mut faulty);
         faulty.origin += &format!("; {}", fault.name);
     }
-    let cause = faults.iter().map(|fault| fault.cause).min();
+    let cause = faults.iter().map(|fault| fault.cause).min_by_key(|&cause| place_of(cause));
     call.gives(cause.expect("there is a fault"), &faulty);
 }
 

@@ -14,6 +14,8 @@ pub struct Input {
     pub k: usize,
     /// a dimension, from 1
     pub j: usize,
+    /// the presence word: bit j - 1 for dimension j
+    pub word: u32,
     pub query: Vec<i32>,
     pub marks: Vec<i32>,
     pub vectors: Vec<i32>,
@@ -104,6 +106,13 @@ pub struct Entry {
 pub struct Found {
     pub entries: Vec<Entry>,
     pub reads: Vec<u32>,
+}
+
+/// A query that was taken in by the second intake: its components, 0 where absent, and its presence word.
+#[derive(Clone, PartialEq, Eq, Debug)]
+pub struct Query {
+    pub components: Vec<i32>,
+    pub word: u32,
 }
 
 /// A library that was loaded, and how many bytes it is.

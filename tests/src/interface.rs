@@ -13,9 +13,12 @@ mod search;
 
 pub use approximation::{check_codes, pack, pack_vectors, unpack};
 pub use distance::{bounds, distance};
-pub use intake::{fresh, fresh_value, held, held_value, intake, lost};
+pub use intake::{
+    fresh, fresh_present, fresh_value, fresh_value_present, held, held_present, held_value, held_value_present, intake,
+    intake_present, lost, lost_present,
+};
 pub use layout::{entry_layout, scan_from_c};
-pub use library::{library_length, load, query, write};
+pub use library::{library_length, load, query, query_present, write};
 pub use partition::{check_marks, dimension_region, make_marks, part, region, regions, stretch};
 pub use program::program;
 pub use search::{scan, search};

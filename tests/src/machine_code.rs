@@ -38,19 +38,25 @@ impl Code {
         Code(functions)
     }
 
+    /// A function and all that it calls, by their names.
+    pub fn reached(&self, function: &str) -> BTreeSet<&str> {
+        let (mut seen, mut waiting) = (BTreeSet::new(), vec![function]);
+        while let Some(name) = waiting.pop() {
+            if let Some((_, code)) = self.0.get_key_value(name).filter(|(name, _)| seen.insert(name.as_str())) {
+                waiting.extend(code.iter().filter_map(|instruction| instruction.callee.as_deref()));
+            }
+        }
+        seen
+    }
+
     /// Where the bits of a float are taken in a function and in all that it calls.
     pub fn bits_taken(&self, function: &str) -> Taken {
-        let (mut seen, mut waiting) = (BTreeSet::new(), vec![function]);
         let mut taken = Taken { all: 0, of_a_nan: 0 };
-        while let Some(name) = waiting.pop() {
-            let Some(code) = self.0.get(name).filter(|_| seen.insert(name)) else {
-                continue;
-            };
+        for code in self.reached(function).into_iter().map(|name| &self.0[name]) {
             let reached = reached_by_a_nan(code);
             let places = || code.iter().enumerate().filter(|(_, instruction)| instruction.float_taken().is_some());
             taken.all += places().count();
             taken.of_a_nan += places().filter(|(place, _)| reached.contains(place)).count();
-            waiting.extend(code.iter().filter_map(|instruction| instruction.callee.as_deref()));
         }
         taken
     }
@@ -153,6 +159,14 @@ mod tests {
   20:\txor    %eax,%eax
   22:\tret
 ";
+
+    #[test]
+    fn what_is_called_is_reached() {
+        let code = Code::of(LISTING);
+        assert_eq!(code.reached("call").into_iter().collect::<Vec<_>>(), ["a::taken", "call"]);
+        assert_eq!(code.reached("a::taken").into_iter().collect::<Vec<_>>(), ["a::taken"]);
+        assert!(code.reached("another").is_empty());
+    }
 
     #[test]
     fn no_nan_passes_two_comparisons() {

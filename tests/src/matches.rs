@@ -4,7 +4,7 @@ use crate::{
     input::{LoadRoom, Loaded},
     random::Random,
     reference,
-    samples::{file, largest_input, random_input, readings},
+    samples::{file, largest_input, random_input, random_input_with_word, readings, readings_present},
 };
 
 /// The parts of an input whose library is right.
@@ -27,6 +27,13 @@ impl Match {
     pub fn random(seed: u64, most: usize) -> Match {
         let input = random_input(seed, most);
         let query = readings(&mut Random::new(seed), &input.query);
+        Match { library: file(&input), k: input.k as u16, query }
+    }
+
+    /// A random one of at most this many vectors, in which no more readings are absent than may be.
+    pub fn random_with_absent(seed: u64, most: usize) -> Match {
+        let input = random_input_with_word(seed, most);
+        let query = readings_present(&mut Random::new(seed), &input.query, input.word);
         Match { library: file(&input), k: input.k as u16, query }
     }
 

@@ -1,22 +1,25 @@
-//! Document 01 in Rust, written from the document alone: what the matcher's answers are held to. Where there is an
-//! obvious method, this is another one. A call's outcome is what it answers, or the number of the refusal.
+//! Document 01 in Rust, with the change requests of document 02 that have landed (the first), written from the documents
+//! alone: what the matcher's answers are held to. Where there is an obvious method, this is another one. A call's outcome
+//! is what it answers, or the number of the refusal.
 
 mod approximation;
 mod causes;
 mod distance;
 mod library;
 mod partition;
+mod presence;
 mod program;
 mod reading;
 mod search;
 
 pub use approximation::{check_codes, codes_length, pack, pack_vectors, packed, regions_of, unpack};
 pub use distance::{bounds, cell_vectors, distance, distance_between};
-pub use library::{bytes_length, library_length, load, query, write};
+pub use library::{bytes_length, library_length, load, query, query_present, write};
 pub use partition::{
     bits_of, check_marks, dimension_region, made_marks, make_marks, marks_length, part, parts, region, region_of,
     regions, stretch,
 };
+pub use presence::{full_word, kept, present, word_of};
 pub use program::program;
-pub use reading::{intake, is_nan, Reading};
+pub use reading::{intake, intake_present, is_nan, Reading};
 pub use search::{best, scan, search};

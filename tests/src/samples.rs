@@ -16,7 +16,8 @@ pub fn shapes() -> impl Iterator<Item = (usize, usize)> {
     (1..=32).flat_map(|d| (0..=6 * d).map(move |b| (d, b)))
 }
 
-/// Vectors inside these marks, with their own codes and settings from 101 on, and a query for the k nearest.
+/// Vectors inside these marks, with their own codes and settings from 101 on, and a query for the k nearest, in which every
+/// dimension is present.
 pub fn input(d: usize, b: usize, marks: &[i32], vectors: &[i32], query: &[i32], k: usize) -> Input {
     let (n, parts) = (vectors.len() / d, reference::parts(d, b));
     let region = |(place, &value): (usize, &i32)| {
@@ -48,6 +49,7 @@ pub fn input(d: usize, b: usize, marks: &[i32], vectors: &[i32], query: &[i32], 
         n,
         k,
         j: 1,
+        word: reference::full_word(d),
         query: query.to_vec(),
         marks: marks.to_vec(),
         vectors: vectors.to_vec(),
@@ -69,6 +71,12 @@ impl Input {
     /// The same for another query.
     pub fn with_query(mut self, query: &[i32]) -> Input {
         self.query = query.to_vec();
+        self
+    }
+
+    /// The same with this presence word.
+    pub fn with_word(mut self, word: u32) -> Input {
+        self.word = word;
         self
     }
 
@@ -109,6 +117,12 @@ pub fn small_inputs() -> Vec<Input> {
     inputs
 }
 
+/// Small libraries with queries of which some dimensions are absent: never fewer than four are present.
+pub fn small_inputs_with_words() -> Vec<Input> {
+    let all = (0..200).map(|seed| random_input_with_word(seed, 5));
+    all.filter(|input| input.word != reference::full_word(input.d)).take(30).collect()
+}
+
 /// As many dimensions, bits and vectors as there can be.
 pub fn largest_input() -> Input {
     random_of_shape(&mut Random::new(0), 32, 192, 512).from("the largest shape".to_string())
@@ -125,6 +139,29 @@ pub fn random_input(seed: u64, most: usize) -> Input {
     let (few, more, any) = (1 + random.below(8), 1 + random.below(40), 1 + random.below(512));
     let n = random.one_of(&[few, more, any]).min(most);
     random_of_shape(random, d, b, n).from(format!("seed {seed}, at most {most} vectors"))
+}
+
+/// A random library of at most this many vectors, with a query and a word that is allowed for it.
+pub fn random_input_with_word(seed: u64, most: usize) -> Input {
+    let input = random_input(seed, most);
+    let word = random_word(&mut Random::new(!seed), input.d);
+    let origin = format!("{}, word {word:b}", input.origin);
+    input.with_word(word).from(origin)
+}
+
+/// A word that is allowed for d dimensions: as few present as may be, all, or any number between.
+pub fn random_word(random: &mut Random, d: usize) -> u32 {
+    let least = d.min(4);
+    let any = least + random.below(d - least + 1);
+    let count = random.one_of(&[least, any, any, d]);
+    random_word_of(random, d, count)
+}
+
+/// A word of d dimensions with so many of them present.
+pub fn random_word_of(random: &mut Random, d: usize, count: usize) -> u32 {
+    let mut dimensions: Vec<usize> = (0..d).collect();
+    let chosen: Vec<usize> = (0..count).map(|_| dimensions.swap_remove(random.below(dimensions.len()))).collect();
+    reference::word_of((0..d).map(|dimension| chosen.contains(&dimension)))
 }
 
 /// A random library of this shape, with a query.
@@ -233,6 +270,23 @@ pub fn small_marks(random: &mut Random, above: i32) -> (usize, usize, Vec<i32>) 
     (d, b, marks)
 }
 
+/// Five or six dimensions of up to two regions, most of one value: cells whose vectors can all be tried, and dimensions
+/// enough for some of them to be absent.
+pub fn small_marks_of_more_dimensions(random: &mut Random) -> (usize, usize, Vec<i32>) {
+    let d = 5 + random.below(2);
+    let b = random.below(d + 1);
+    let mut marks = vec![];
+    for part in reference::parts(d, b) {
+        let mut mark = random.between(0, 3);
+        marks.push(mark);
+        for _ in 1..part.len() {
+            mark += random.one_of(&[1, 1, 1, 2, 3]);
+            marks.push(mark);
+        }
+    }
+    (d, b, marks)
+}
+
 /// A vector inside the marks.
 pub fn vector_inside(random: &mut Random, d: usize, b: usize, marks: &[i32]) -> Vec<i32> {
     let mut component = |part: Range<usize>| random.between(marks[part.start], marks[part.end - 1] - 1);
@@ -255,4 +309,24 @@ pub fn readings(random: &mut Random, components: &[i32]) -> Vec<u8> {
         }
     };
     components.iter().flat_map(&mut record).collect()
+}
+
+/// A record of a reading that is absent: lost, or held past the age limit, whatever its value.
+pub fn absent_reading(random: &mut Random) -> Vec<u8> {
+    let (any, near) = (random.next_u32(), (component(random) as f32 / 256.0).to_bits());
+    let bits = random.one_of(&[any, near, near, 0x7FC0_0000, 0x7F80_0000, 0x4300_0000]);
+    let later = random.between(21, 255) as u8;
+    match random.below(3) {
+        0 => [&[6], &bits.to_le_bytes()[..], &[random.one_of(&[21, 255, later])]].concat(),
+        _ => vec![7],
+    }
+}
+
+/// Records of readings that have these components where the word has a dimension present, and are absent elsewhere.
+pub fn readings_present(random: &mut Random, components: &[i32], word: u32) -> Vec<u8> {
+    let mut record = |(dimension, component): (usize, &i32)| match word >> dimension & 1 {
+        1 => readings(random, &[*component]),
+        _ => absent_reading(random),
+    };
+    components.iter().enumerate().flat_map(&mut record).collect()
 }

@@ -48,7 +48,7 @@ fn assert_answers(test: &str, matches: &[Match], status: i32) {
 
 #[test]
 fn no_sample_is_answered_otherwise() {
-    for name in ["a.match", "forty.match"] {
+    for name in ["a.match", "forty.match", "trees.match"] {
         assert_answers("sample", &[sample(name)], 0);
     }
 }
@@ -63,7 +63,9 @@ fn case_library_a_with_its_query() {
 #[test]
 fn no_random_library_goes_wrong() {
     for seed in 0..150 {
-        assert_answers("random", &[Match::random(seed, if seed % 10 == 0 { 512 } else { 40 })], 0);
+        let most = if seed % 10 == 0 { 512 } else { 40 };
+        assert_answers("random", &[Match::random(seed, most)], 0);
+        assert_answers("random", &[Match::random_with_absent(seed, most)], 0);
     }
 }
 
@@ -73,8 +75,9 @@ fn no_query_has_a_say_in_the_next() {
     let first = sample("forty.match");
     let second = Match { query: [5, 0, 0, 0, 0].repeat(8), ..first.clone() };
     let lost = Match { query: [7].repeat(8), ..first.clone() };
-    assert_answers("several", &[first.clone(), second.clone(), first.clone()], 0);
-    assert_answers("several", &[second, lost, first], 1);
+    let absent = sample("trees.match");
+    assert_answers("several", &[first.clone(), second.clone(), absent.clone(), first.clone()], 0);
+    assert_answers("several", &[second, lost, absent, first], 1);
 }
 
 #[test]
@@ -85,7 +88,8 @@ fn no_refused_input_is_answered() {
     let longer = [&good.query[..], &[7].repeat(200)].concat();
     let cases =
         [with_k(0), with_k(6), with_k(512), with_k(513), with_k(65535), with_query(&[]), with_query(&good.query[..9])];
-    let others = [with_query(&longer), with_query(&longer[..11]), with_query(&[9]), with_query(&[3; 80])];
+    let others =
+        [with_query(&longer), with_query(&longer[..11]), with_query(&[9]), with_query(&[3; 80]), with_query(&[7, 7])];
     cases.into_iter().chain(others).for_each(|wrong| assert_answers("refused", &[wrong], 1));
 
     // both at once: the first fault from the left is that of k

@@ -8,8 +8,8 @@ use tests::{
     random::Random,
     reference,
     samples::{
-        self, component, largest_input, library_a, random_input, random_of_shape, small_inputs, small_marks,
-        vector_inside, GREATEST, LEAST,
+        self, component, largest_input, library_a, random_input, random_of_shape, random_word, small_inputs,
+        small_marks, small_marks_of_more_dimensions, vector_inside, GREATEST, LEAST,
     },
 };
 
@@ -106,6 +106,31 @@ fn no_bound_is_off_the_cell() {
             assert_eq!((least, greatest), (Some(lower.into()), Some(upper.into())), "case {case}, vector {i}");
         }
     }
+}
+
+/// The same with a word: "L and U over present dimensions only", both reached inside the cell.
+#[test]
+fn no_bound_is_off_the_cell_for_any_word() {
+    let (mut random, mut absent) = (Random::new(23), 0);
+    for case in 0..6000 {
+        let (d, b, marks) = small_marks_of_more_dimensions(&mut random);
+        let word = random_word(&mut random, d);
+        let vector = vector_inside(&mut random, d, b, &marks);
+        let query: Vec<i32> = (0..d).map(|_| random.between(-3, 9)).collect();
+        let input = samples::input(d, b, &marks, &vector, &query, 1).with_word(word).from(format!("case {case}"));
+        BOUNDS.gives(0, &input);
+        let Bounds { lower, upper } = interface::bounds(&input).expect("the library is right")[0];
+        let present = |vector: &[i32]| {
+            let steps = query.iter().zip(vector).enumerate().filter(|(t, _)| word >> t & 1 == 1);
+            steps.map(|(_, (&q, &v))| u64::from(q.abs_diff(v)).pow(2)).sum::<u64>()
+        };
+        let cell = reference::cell_vectors(&input, 0);
+        let distances = cell.iter().map(|vector| present(vector));
+        let (least, greatest) = (distances.clone().min(), distances.max());
+        assert_eq!((least, greatest), (Some(lower), Some(upper)), "case {case}");
+        absent += i32::from(word.count_ones() < d as u32);
+    }
+    assert!(absent > 2000, "{absent} with a dimension absent");
 }
 
 /// Every query of one dimension, each region of some marks: queries far outside are not taken for the end region's.

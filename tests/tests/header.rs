@@ -60,7 +60,7 @@ fn no_refusal_has_another_number() {
     let (_, rest) = header.split_once("enum matcher_refusal {").expect("the header has the refusals");
     let (listed, _) = rest.split_once('}').expect("the list ends");
     let listed: Vec<&str> = listed.split(',').map(str::trim).collect();
-    assert_eq!(listed.len(), 18);
+    assert_eq!(listed.len(), 20);
     assert_eq!(listed, numbers, "the header, and crates/refusal");
 }
 
@@ -86,16 +86,29 @@ fn name_in_c(call: &Call) -> String {
 }
 
 /// The calls on readings, with their refusals.
-const READINGS: [(&str, &[u32]); 5] = [
+const READINGS: [(&str, &[u32]); 9] = [
     ("matcher_fresh", &[14, 15]),
     ("matcher_fresh_value", &[14, 15]),
     ("matcher_held", &[13, 14, 15]),
     ("matcher_held_value", &[13, 14, 15]),
     ("matcher_lost", &[13]),
+    ("matcher_fresh_present", &[14, 15]),
+    ("matcher_fresh_value_present", &[14, 15]),
+    ("matcher_held_present", &[14, 15]),
+    ("matcher_held_value_present", &[14, 15]),
 ];
 
-/// The calls on bytes, whose refusals are no plain list, and the two that hand back a part of the marks and give no number.
-const OTHERS: [&str; 5] = ["matcher_load", "matcher_query", "matcher_match", "matcher_part_length", "matcher_part_at"];
+/// The calls on bytes, whose refusals are no plain list; the two that hand back a part of the marks and give no number; the
+/// second intake of a lost reading, which is never refused.
+const OTHERS: [&str; 7] = [
+    "matcher_load",
+    "matcher_query",
+    "matcher_query_present",
+    "matcher_match",
+    "matcher_part_length",
+    "matcher_part_at",
+    "matcher_lost_present",
+];
 
 /// The calls on numbers, whose causes are tried one by one and two by two elsewhere, and those on readings: each call that
 /// the header declares.
@@ -140,11 +153,23 @@ fn printed(name: &str, statements: &str) -> Vec<String> {
 fn no_limit_is_another() {
     let mut limits = constants("crates/limits/src/lib.rt");
     limits.extend(constants("crates/reading/src/lib.rt"));
+    limits.extend(constants("crates/presence/src/lib.rt"));
     let print = |(name, _): &(String, String)| format!("    printf(\"%lld\\n\", (long long)(MATCHER_{name}));\n");
     let lines = printed("limits.c", &limits.iter().map(print).collect::<String>());
     let named: Vec<(String, String)> = limits.iter().map(|(name, _)| name.clone()).zip(lines).collect();
-    assert_eq!(named.len(), 11);
-    assert_eq!(named, limits, "the header, and crates/limits and crates/reading");
+    assert_eq!(named.len(), 12);
+    assert_eq!(named, limits, "the header, and crates/limits, crates/reading and crates/presence");
+}
+
+/// Every number of dimensions.
+#[test]
+fn no_full_word_is_another() {
+    let statement = "    for (size_t d = 1; d <= MATCHER_MAX_DIMENSIONS; d++)
+        printf(\"%lu\\n\", (unsigned long)MATCHER_FULL_WORD(d));
+";
+    let lines = printed("words.c", statement);
+    let words: Vec<String> = (1..=32).map(|d| reference::full_word(d).to_string()).collect();
+    assert_eq!(lines, words, "the header's, and on the right the reference's");
 }
 
 /// "The calls use no heap, keep nothing from one call to the next, and do no input or output": the library has code and

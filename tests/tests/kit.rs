@@ -1,4 +1,4 @@
-//! The kit program as a process (document 01, "The program"), against the reference.
+//! The kit program as a process (document 01, "The program"; document 02, Slip 1), against the reference.
 
 use std::{
     fs::{self, File},
@@ -8,7 +8,7 @@ use tests::{
     c,
     input::told,
     kit::{self, kit, kit_within},
-    matches::{damage, noise, Match},
+    matches::{damage, loaded, noise, Match},
     random::Random,
     reference,
 };
@@ -26,8 +26,8 @@ fn sample(name: &str) -> Vec<u8> {
     fs::read(c::root().join("samples").join(name)).expect("the sample can be read")
 }
 
-fn samples() -> [Vec<u8>; 2] {
-    ["a.match", "forty.match"].map(sample)
+fn samples() -> [Vec<u8>; 3] {
+    ["a.match", "forty.match", "trees.match"].map(sample)
 }
 
 fn longest() -> Vec<u8> {
@@ -57,6 +57,34 @@ fn no_run_goes_wrong() {
     }
 }
 
+/// Lost and over-age readings: enough others are there, or too few.
+#[test]
+fn no_run_with_absent_readings_goes_wrong() {
+    for seed in 0..200 {
+        let one = Match::random_with_absent(seed, if seed % 20 == 0 { 512 } else { 30 });
+        assert_run(&one.bytes());
+        let d = loaded(&one.library).d;
+        assert_eq!(kit::run(&Match { query: [7].repeat(d), ..one }.bytes()), "refused 18\n", "seed {seed}");
+    }
+}
+
+/// A match as long as can be with every reading but four over age: it is answered, with one more gone it is not.
+#[test]
+fn no_longest_run_with_absent_readings_goes_wrong() {
+    let longest = Match::longest();
+    let over_age = |count: usize| {
+        let mut query = longest.query.clone();
+        query.chunks_mut(6).take(count).for_each(|held| held[5] = 21);
+        Match { query, ..longest.clone() }.bytes()
+    };
+    for count in [1, 17, 28] {
+        assert_eq!(over_age(count).len(), LONGEST);
+        assert!(kit::run(&over_age(count)).starts_with("512 512\n"), "{count} over age");
+        assert_run(&over_age(count));
+    }
+    assert_eq!(kit::run(&over_age(29)), "refused 18\n");
+}
+
 /// Each sample cut at every length, and each byte of it damaged.
 #[test]
 fn no_run_on_a_wrong_input_is_answered_otherwise() {
@@ -75,9 +103,11 @@ fn no_run_on_a_wrong_input_is_answered_otherwise() {
 fn no_damaged_run_goes_wrong() {
     let mut random = Random::new(65);
     for seed in 0..200 {
-        let mut input = Match::random(seed, 12).bytes();
-        damage(&mut random, &mut input);
-        assert_run(&input);
+        for one in [Match::random(seed, 12), Match::random_with_absent(seed, 12)] {
+            let mut input = one.bytes();
+            damage(&mut random, &mut input);
+            assert_run(&input);
+        }
         assert_run(&noise(&mut random));
     }
 }

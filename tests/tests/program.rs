@@ -1,11 +1,11 @@
-//! The program's function (document 01, "The program"): the C interface against the reference.
+//! The program's function (document 01, "The program"; document 02, Slip 1): the C interface against the reference.
 
 use std::fs;
 use tests::{
     c,
     input::told,
     interface,
-    matches::{damage, noise, Match},
+    matches::{damage, loaded, noise, Match},
     random::Random,
     reference,
 };
@@ -21,8 +21,8 @@ fn sample(name: &str) -> Vec<u8> {
     fs::read(c::root().join("samples").join(name)).expect("the sample can be read")
 }
 
-fn samples() -> [Vec<u8>; 2] {
-    ["a.match", "forty.match"].map(sample)
+fn samples() -> [Vec<u8>; 3] {
+    ["a.match", "forty.match", "trees.match"].map(sample)
 }
 
 fn longest() -> Vec<u8> {
@@ -44,9 +44,11 @@ fn number(input: &[u8]) -> usize {
 }
 
 /// How often each number is given for these inputs.
-fn counts(inputs: impl IntoIterator<Item = Vec<u8>>) -> [usize; 18] {
-    let mut counts = [0; 18];
+fn counts(inputs: impl IntoIterator<Item = Vec<u8>>) -> [usize; 20] {
+    let mut counts = [0; 20];
     inputs.into_iter().for_each(|input| counts[number(&input)] += 1);
+    assert_eq!(counts[13], 0, "change request 1: the program no longer gives 13");
+    assert_eq!(counts[19], 0, "no query has a bit at or above d");
     counts
 }
 
@@ -64,10 +66,46 @@ fn no_random_match_goes_wrong() {
     assert_eq!(counts[0], 20_000, "{counts:?}");
 }
 
+/// Lost and over-age readings, four others or more there.
+#[test]
+fn no_random_match_with_absent_readings_goes_wrong() {
+    let most = |seed: u64| if seed.is_multiple_of(100) { 512 } else { 30 };
+    let counts = counts((0..20_000).map(|seed| Match::random_with_absent(seed, most(seed)).bytes()));
+    assert_eq!(counts[0], 20_000, "{counts:?}");
+}
+
+/// The forty tractors with every choice of lost readings, and with every choice of readings that are over age.
+#[test]
+fn no_choice_of_absent_readings_is_answered_otherwise() {
+    let forty = Match::of(&sample("forty.match"));
+    let fresh: Vec<&[u8]> = forty.query[..35].chunks(5).chain([&forty.query[35..]]).collect();
+    for word in 0..256 {
+        for absent in [&[7][..], &[6, 0, 0, 192, 127, 21], &[6, 0, 0, 128, 63, 255]] {
+            let record = |t: usize| if word >> t & 1 == 1 { fresh[t] } else { absent };
+            let query = (0..8).flat_map(record).copied().collect();
+            let due = if u32::count_ones(word) < 4 { 18 } else { 0 };
+            assert_eq!(number(&Match { query, ..forty.clone() }.bytes()), due, "{word:b}, {absent:?}");
+        }
+    }
+}
+
+/// All readings lost, or over age, in every number of dimensions.
+#[test]
+fn no_match_of_absent_readings_alone_is_answered() {
+    for seed in 0..100 {
+        let one = Match::random(seed, 6);
+        let d = loaded(&one.library).d;
+        for absent in [&[7][..], &[6, 0, 0, 128, 63, 21]] {
+            assert_eq!(number(&Match { query: absent.repeat(d), ..one.clone() }.bytes()), 18, "seed {seed}, d {d}");
+        }
+    }
+}
+
 /// Each sample, and random matches, cut at every length.
 #[test]
 fn no_cut_match_is_answered() {
-    for input in samples().into_iter().chain((0..100).map(|seed| Match::random(seed, 6).bytes())) {
+    let absent = (0..100).map(|seed| Match::random_with_absent(seed, 6).bytes());
+    for input in samples().into_iter().chain((0..100).map(|seed| Match::random(seed, 6).bytes())).chain(absent) {
         let cut = (0..input.len()).map(|length| input[..length].to_vec());
         let counts = counts(cut);
         assert_eq!(counts[12], input.len(), "{counts:?}");
@@ -87,7 +125,8 @@ fn no_damaged_byte_of_library_a_is_misread() {
         })
     };
     let counts = counts((0..input.len()).flat_map(damaged));
-    for number in (0..18).filter(|&number| ![5, 9, 10, 16].contains(&number)) {
+    // 16 is given since change request 1: a reading turned into a lost one is no longer refused itself
+    for number in (0..20).filter(|&number| ![5, 9, 10, 13, 18, 19].contains(&number)) {
         assert!(counts[number] > 0, "{number} was never given: {counts:?}");
     }
 }
@@ -110,12 +149,13 @@ fn no_damaged_byte_of_forty_tractors_is_misread() {
 fn no_damaged_match_is_misread() {
     let mut random = Random::new(62);
     let damaged = (0..60_000).map(|seed| {
-        let mut input = Match::random(seed % 500, 6).bytes();
+        let made = if seed % 2 == 0 { Match::random } else { Match::random_with_absent };
+        let mut input = made(seed / 2 % 500, 6).bytes();
         damage(&mut random, &mut input);
         input
     });
     let counts = counts(damaged);
-    for number in (0..18).filter(|&number| ![5, 9, 10].contains(&number)) {
+    for number in (0..20).filter(|&number| ![5, 9, 10, 13, 19].contains(&number)) {
         assert!(counts[number] > 20, "{number} is rare: {counts:?}");
     }
     assert_eq!(counts[5] + counts[9] + counts[10], 0, "no input has these causes: {counts:?}");
@@ -137,7 +177,9 @@ fn no_input_past_the_limit_is_answered() {
     assert_eq!(number(&longest), 0);
     for more in [1, 2, 3, 100, 1 << 16, 1 << 20] {
         assert_eq!(number(&[&longest[..], &vec![6; more]].concat()), 16, "{more} bytes more");
-        assert_eq!(number(&[&longest[..LONGEST - 1], &vec![21; more]].concat()), 13, "{more} bytes more");
+        // change request 1: an over-age reading was 13, and is absent; what is behind it is 16
+        let over_age = if more == 1 { 0 } else { 16 };
+        assert_eq!(number(&[&longest[..LONGEST - 1], &vec![21; more]].concat()), over_age, "{more} bytes more");
         assert_eq!(number(&[&sample("a.match")[..], &vec![0; more + LONGEST]].concat()), 16, "{more} bytes more");
         assert_eq!(number(&[&longest[..5], &vec![2; more + LONGEST]].concat()), 7, "{more} bytes more");
     }

@@ -1,7 +1,7 @@
 //! README.md and docs/FORMAT.md say what the crates are.
 
 use std::fs;
-use tests::{c, map};
+use tests::{c, map, reference};
 
 fn read(path: &str) -> String {
     fs::read_to_string(c::root().join(path)).unwrap_or_else(|error| panic!("{path}: {error}"))
@@ -14,6 +14,17 @@ fn no_crate_is_left_out_of_the_map() {
     let (_, map) = readme.split_once("\n## The map\n").expect("README.md has a map");
     let faults = map::faults(map, &read("crates.txt"));
     assert!(faults.is_empty(), "README.md, the map:\n{}", faults.join("\n"));
+}
+
+/// What README.md shows of the sample matches is what the program prints for them.
+#[test]
+fn no_sample_is_answered_otherwise_than_the_readme_shows() {
+    let readme = read("README.md");
+    for name in ["a.match", "forty.match", "trees.match"] {
+        let input = fs::read(c::root().join("samples").join(name)).expect("the sample can be read");
+        let shown: String = reference::program(&input).lines().map(|line| format!("      {line}\n")).collect();
+        assert!(readme.contains(&format!("\n\n{shown}\n")), "README.md does not show, for {name}:\n{shown}");
+    }
 }
 
 /// The rows `| cell | cell | ..` of a text that begin with a number, by their first two cells.
@@ -32,7 +43,7 @@ fn no_refusal_has_another_number() {
     let rows =
         source.lines().filter_map(|line| line.trim().strip_prefix("Refusal::")?.strip_suffix(',')?.split_once(" => "));
     let numbers: Vec<String> = rows.map(|(name, number)| format!("`{name}` {number}")).collect();
-    assert_eq!(numbers.len(), 17);
+    assert_eq!(numbers.len(), 19);
     assert_eq!(numbered(told), numbers, "docs/FORMAT.md, and crates/refusal");
 }
 

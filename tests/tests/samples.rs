@@ -8,7 +8,7 @@ use tests::{
     samples::{file, library_a},
 };
 
-const NAMES: [&str; 2] = ["a.match", "forty.match"];
+const NAMES: [&str; 3] = ["a.match", "forty.match", "trees.match"];
 
 fn sample(name: &str) -> Vec<u8> {
     fs::read(c::root().join("samples").join(name)).expect("the sample can be read")
@@ -49,4 +49,21 @@ fn forty_tractors_of_eight_readings() {
     assert_eq!((vectors.len(), settings.len()), (40, 40), "vectors and settings, equal ones once");
     assert_eq!(Match::of(&bytes).k, 3);
     assert_eq!(reference::program(&bytes), "3 7\n28 1503 1417\n24 1404 139251\n25 1500 142611\n");
+}
+
+/// Document 02, Slip 1: the same tractor with three of its eight readings gone, one lost and two over age. The nearest is
+/// the same, over the five readings that are there; before the request the match was refused with 13.
+#[test]
+fn forty_tractors_with_three_readings_gone() {
+    let (forty, trees) = (Match::of(&sample("forty.match")), Match::of(&sample("trees.match")));
+    assert_eq!((&trees.library, trees.k), (&forty.library, forty.k));
+    let whole = reference::query_present(8, &forty.query, 8).expect("no reading is refused");
+    let less = reference::query_present(8, &trees.query, 8).expect("no reading is refused");
+    assert_eq!((whole.word, less.word), (0b1111_1111, 0b0011_0111));
+    for (dimension, (component, whole)) in less.components.iter().zip(&whole.components).enumerate() {
+        let present = less.word >> dimension & 1 == 1;
+        assert_eq!(component, if present { whole } else { &0 }, "dimension {}", dimension + 1);
+    }
+    assert_eq!(reference::query(8, &trees.query, 8), Err(13), "by the first intake");
+    assert_eq!(reference::program(&trees.bytes()), "3 7\n28 1503 1361\n21 1401 31947\n22 1402 61189\n");
 }

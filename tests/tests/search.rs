@@ -1,6 +1,10 @@
-//! Scan and search (document 01, "Distance, bounds, reading order"): the C interface against the reference.
+//! Scan and search (document 01, "Distance, bounds, reading order"): the C interface against the reference. Every dimension
+//! is present, but for the two tests that say so; `presence.rs` has the words.
 
-use std::mem::{align_of, offset_of, size_of};
+use std::{
+    collections::BTreeSet,
+    mem::{align_of, offset_of, size_of},
+};
 use tests::{
     calls::{Call, SCAN, SEARCH},
     faults::{assert_each_refusal, assert_lengths, assert_refusals},
@@ -174,6 +178,52 @@ fn no_vector_is_read_without_need() {
         }
     }
     assert!(tried > 2000 && spared > 1000, "{tried} libraries, {spared} with unread vectors");
+}
+
+/// The same with a word: demand 3 is due "for every allowed word". Every word of five and six dimensions that has at least
+/// four present is met.
+#[test]
+fn no_vector_is_read_without_need_for_any_word() {
+    let (mut random, mut tried, mut spared, mut words) = (Random::new(39), 0, 0, BTreeSet::new());
+    for case in 0..12_000 {
+        let (d, b, marks) = samples::small_marks_of_more_dimensions(&mut random);
+        let word = samples::random_word(&mut random, d);
+        let n = 1 + random.below(5);
+        let vectors: Vec<i32> = (0..n).flat_map(|_| samples::vector_inside(&mut random, d, b, &marks)).collect();
+        let query: Vec<i32> = (0..d).map(|_| random.between(-1, 8)).collect();
+        let k = 1 + random.below(n);
+        let input = samples::input(d, b, &marks, &vectors, &query, k).with_word(word).from(format!("case {case}"));
+        let choices: usize = (0..n).map(|i| reference::cell_vectors(&input, i).len()).product();
+        if choices <= 1500 {
+            assert_settled(&input);
+            assert_found(&input);
+            tried += 1;
+            spared += i32::from(found(&input).reads.len() < n);
+            words.insert((d, word));
+        }
+    }
+    assert!(tried > 3000 && spared > 1000, "{tried} libraries, {spared} with unread vectors");
+    assert_eq!(words.len(), 1 + 5 + 1 + 6 + 15, "{words:?}");
+}
+
+/// Every library of two vectors in five dimensions of which one has two regions and is present or absent, and one is
+/// absent: marks from 0 to 2, every query and word.
+#[test]
+fn no_tiny_library_goes_wrong_for_any_word() {
+    let mut libraries = 0;
+    let marks = [0, 1, 3, 0, 2, 0, 1, 0, 1, 0, 1];
+    for list in 0..36 {
+        let vectors = [list / 12, list / 6 % 2, 0, 0, 0, list / 2 % 3, list % 2, 0, 0, 0];
+        for (first, second) in (-1..=3).flat_map(|first| (-1..=2).map(move |second| (first, second))) {
+            for (word, k) in (0..32u32).flat_map(|word| [(word, 1), (word, 2)]).filter(|(w, _)| w.count_ones() >= 4) {
+                let input = samples::input(5, 1, &marks, &vectors, &[first, second, 0, 0, 0], k).with_word(word);
+                assert_settled(&input);
+                assert_found(&input);
+                libraries += 1;
+            }
+        }
+    }
+    assert_eq!(libraries, 36 * 20 * 6 * 2);
 }
 
 /// Every row of vectors of their own cells, with the set of the numbers at which it differs from the library's. Sets of

@@ -1,12 +1,12 @@
 //! The full scan: all distances, the k least by selection, and these sorted.
 
-use super::distance;
+use super::{distance, masks};
 use crate::matcher::Entry;
 
-pub fn scan(d: usize, query: &[i32], vectors: &[i32], entries: &mut [Entry]) {
-    let k = entries.len();
+pub fn scan(d: usize, word: u32, query: &[i32], vectors: &[i32], entries: &mut [Entry]) {
+    let (k, masks) = (entries.len(), masks(word));
     let mut pairs: Vec<(u64, u32)> =
-        vectors.chunks_exact(d).zip(0..).map(|(vector, number)| (distance(query, vector), number)).collect();
+        vectors.chunks_exact(d).zip(0..).map(|(vector, number)| (distance(&masks, query, vector), number)).collect();
     if k < pairs.len() {
         pairs.select_nth_unstable(k - 1);
     }

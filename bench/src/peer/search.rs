@@ -1,7 +1,7 @@
 //! The vector-approximation search: lower bounds from the codes by a table of the query, and vectors read in their order, of which no
 //! more is found than can be read.
 
-use super::{bits, distance};
+use super::{bits, distance, masks, Masks};
 use crate::matcher::Entry;
 use std::collections::BinaryHeap;
 
@@ -13,7 +13,7 @@ pub struct Library<'a> {
     pub vectors: &'a [i32],
 }
 
-/// The squared steps from a query to the regions of one dimension.
+/// The squared steps from a query to the regions of one dimension, all zero where it is absent.
 struct Steps {
     bits: u32,
     mask: usize,
@@ -24,14 +24,14 @@ struct Steps {
 const SELECTED: usize = 16;
 
 impl Library<'_> {
-    /// The numbers and distances of the nearest, and the numbers of the vectors read, whose count is given.
-    pub fn search(&self, query: &[i32], entries: &mut [Entry], reads: &mut [u32]) -> usize {
-        let k = entries.len();
-        let mut order = self.lower_bounds(&self.table(query));
+    /// The numbers and distances of the nearest over the present dimensions, and the numbers of the vectors read, whose count is given.
+    pub fn search(&self, word: u32, query: &[i32], entries: &mut [Entry], reads: &mut [u32]) -> usize {
+        let (k, masks) = (entries.len(), masks(word));
+        let mut order = self.lower_bounds(&self.table(&masks, query));
         rank_first(&mut order, k);
         let read = |&(_, number): &(u64, u32)| {
             let at = number as usize * self.d;
-            (distance(query, &self.vectors[at..at + self.d]), number)
+            (distance(&masks, query, &self.vectors[at..at + self.d]), number)
         };
         let mut best: BinaryHeap<(u64, u32)> = order[..k].iter().map(read).collect();
         let worst = |best: &BinaryHeap<(u64, u32)>| *best.peek().expect("k is at least 1");
@@ -56,15 +56,16 @@ impl Library<'_> {
         count
     }
 
-    fn table(&self, query: &[i32]) -> Vec<Steps> {
+    fn table(&self, masks: &Masks, query: &[i32]) -> Vec<Steps> {
         let mut rest = self.marks;
-        let dimensions = query.iter().zip(bits(self.d, self.b));
+        let dimensions = query.iter().zip(masks).zip(bits(self.d, self.b));
         dimensions
-            .map(|(&q, w)| {
+            .map(|((&q, &mask), w)| {
                 let (part, behind) = rest.split_at((1 << w) + 1);
                 rest = behind;
                 let step = |low: i32, high: i32| if q < low { low - q } else { (q - high + 1).max(0) };
-                let squares = part.windows(2).map(|m| u64::from(step(m[0], m[1]).unsigned_abs()).pow(2)).collect();
+                let square = |step: i32| u64::from(step.unsigned_abs() & mask).pow(2);
+                let squares = part.windows(2).map(|m| square(step(m[0], m[1]))).collect();
                 Steps { bits: w as u32, mask: (1 << w) - 1, squares }
             })
             .collect()

@@ -1,14 +1,13 @@
 -- The answer of a match (document 01, "The program") and a refusal, as text. Assumes nothing.
 use mathlib.Core.List.{List, [], _∷_, _++_}
 use Prim.Native.Nat.{ℕ}
-use lib.IntN.{ℤ}
 use lib.ListN.{length, getD}
 use Rattle.refusal.specs.declared.Refusal.{Refusal}
 use Rattle.refusal.specs.Refusal.{numberOf}
 use Rattle.order.specs.Pair.{Pair}
 use Rattle.selection.specs.Reading.{Reading}
 use Rattle.approximation.specs.Vectors.{vectorCodes}
-use Rattle.search.specs.Search.{Index as Searchable, searched}
+use Rattle.search.specs.Search.{Index as Searchable, Query, searched}
 use Rattle.library.specs.Library.{Library}
 use Rattle.text.specs.Text.{line, refusedLine}
 
@@ -43,5 +42,5 @@ abbrev pub answerLines : List ℕ → ℕ → Reading → List ℕ
 answerLines settings k reading = linesOf settings k (length (reading .reads)) (reading .best)
 
 -- the k nearest vectors to the query
-abbrev pub answerText : Library → List ℤ → ℕ → List ℕ
+abbrev pub answerText : Library → Query → ℕ → List ℕ
 answerText l query k = answerLines (l .settings) k (searched (searchable l) query k)

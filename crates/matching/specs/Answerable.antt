@@ -1,18 +1,16 @@
 -- Behind a match whose rows pass nothing else can refuse: packing takes the library, and the search takes it with the codes that packing
 -- gave and the query. Assumes nothing.
 use mathlib.Core.Path.{_≡_, refl, ap, _∙_}
-use mathlib.Core.Bool.{Bool, true, false, not, _&&_, _||_}
+use mathlib.Core.Bool.{true, not, _&&_}
 use mathlib.Core.List.{List, [], _∷_, _++_, List·Memᴰ·head, List·Memᴰ·tail}
-use Prim.Native.Nat.{ℕ, zero, suc, _*_, _<_}
+use Prim.Native.Nat.{ℕ, _*_, _<_}
 use borrow.Author.Tests.{not-false, eq-eqb}
 use lib.Dec.{leb}
-use lib.IntN.{ℤ}
-use lib.Ieee.{Float}
 use lib.ListN.{length, drop}
-use Rattle.refusal.specs.declared.Refusal.the-variants.{NotANumber, OutOfRange, Stale}
 use Rattle.refusal.specs.declared.Verdict.the-variants.{Accepted}
 use Rattle.refusal.specs.First.{first, outcome-accepted, passed}
-use Rattle.limits.specs.Limits.{isDimensionCount, isBits, isComponent}
+use Rattle.limits.specs.Limits.{isDimensionCount, isBits}
+use Rattle.presence.specs.Presence.{wordCauses}
 use Rattle.signed.specs.Components.{areComponents}
 use Rattle.order.specs.Pair.{Pair}
 use Rattle.order.specs.Members.{_∈_}
@@ -21,57 +19,21 @@ use Rattle.codes.specs.Codes.{codeLength}
 use Rattle.codes.specs.PackLaws.{length-packed}
 use Rattle.approximation.specs.VectorCauses.{packVectorsCauses}
 use Rattle.approximation.specs.OwnCodes.{own-good}
-use Rattle.search.specs.Search.{inOwnCells, scanned, searched, searchCauses}
+use Rattle.search.specs.Search.{Query, inOwnCells, scanned, searched, searchCauses}
 use Rattle.search.specs.Search.{Index as Searchable}
 use Rattle.search.specs.Ready.{roomOf}
 use Rattle.search.specs.Accepted.{accepts, lengths-exact}
 use Rattle.search.specs.Settled.{OwnCodes}
 use Rattle.search.specs.Theorems.{search-is-scan}
-use Rattle.reading.specs.declared.Reading.{Reading}
-use Rattle.reading.specs.declared.Reading.the-variants.{Fresh, Held, Lost}
-use Rattle.reading.specs.Component.{component}
-use Rattle.reading.specs.Intake.{isInfinite, valueCauses, causes, readingComponent}
-use Rattle.records.specs.Records.{kindOf}
-use Rattle.records.specs.Frame.{frameCauses}
 use Rattle.records.specs.RowLaws.{both}
 use Rattle.library.specs.Library.{Library, readLibrary}
 use Rattle.loading.specs.Load.{recordsCauses as libraryCauses}
-use Rattle.query.specs.Query.{isReading, readingOf, readingCauses, recordsCauses as queryCauses, componentsOf, nextRecord}
 use Rattle.text.specs.Text.{line}
 use Rattle.matching.specs.Answer.{searchable, refusedText, entryLines}
 use Rattle.matching.specs.Lines.{read-below}
-use Rattle.matching.specs.Match.{behind, kLength, kOf, matchCauses, matchText}
+use Rattle.matching.specs.Match.{behind, kLength, kOf, readQuery, matchCauses, matchText}
 use Rattle.loading.specs.Loaded.{loaded-shape, loaded-count, marks-count, components-count, loaded-marks, loaded-components}
 use Rattle.matching.specs.Packed.{packed-inside, packed-own}
-
--- ---- the query
-
-second-fails : (s t : Bool) → s || t ≡ false → t ≡ false
-second-fails true t e = cc
-second-fails false t e = e
-
-value-component : (x : Float) → first (valueCauses x) ≡ Accepted → isComponent (component x) ≡ true
-value-component x accepted =
-    let range = passed _ OutOfRange [] (passed _ NotANumber _ accepted .rest) in
-    not-false _ (second-fails (isInfinite x) _ (range .fails))
-
-reading-component : (r : Reading) → first (causes r) ≡ Accepted → isComponent (readingComponent r) ≡ true
-reading-component (Fresh x) accepted = value-component x accepted
-reading-component (Held x age) accepted = value-component x (passed _ Stale _ accepted .rest)
-reading-component Lost accepted = refl
-
-pub query-components : (d : ℕ) (bytes : List ℕ) → first (queryCauses d bytes) ≡ Accepted → areComponents (componentsOf d bytes) ≡ true
-unfolding queryCauses readingCauses componentsOf areComponents
-query-components zero bytes accepted = refl
-query-components (suc d) bytes accepted =
-    let parts = both (readingCauses bytes) (queryCauses d (nextRecord bytes)) accepted in
-    let own = both (frameCauses (isReading (kindOf bytes)) bytes) (causes (readingOf bytes)) (parts .front) .back in
-    rw (reading-component (readingOf bytes) own, query-components d (nextRecord bytes) (parts .back))
-
-pub query-length : (d : ℕ) (bytes : List ℕ) → length (componentsOf d bytes) ≡ d
-unfolding componentsOf
-query-length zero bytes = refl
-query-length (suc d) bytes = ap suc (query-length d (nextRecord bytes))
 
 -- ---- cells
 
@@ -110,9 +72,10 @@ module _ (bytes : List ℕ) (accepted : first (libraryCauses (readLibrary bytes)
         packed-inside bytes accepted,
       )
 
-  pub searches : (query : List ℤ) (k : ℕ) → length query ≡ l .d → areComponents query ≡ true → leb 1 k && leb k (l .n) ≡ true
+  pub searches : (query : Query) (k : ℕ) → length (query .components) ≡ l .d → areComponents (query .components) ≡ true
+      → first (wordCauses (l .d) (query .word)) ≡ Accepted → leb 1 k && leb k (l .n) ≡ true
       → first (searchCauses (searchable l) query k (roomOf k (l .n))) ≡ Accepted
-  searches query k size components neighbours =
+  searches query k size components word neighbours =
       let s = searchable l in
       let own = packed-own bytes accepted in
       accepts s query k (roomOf k (l .n))
@@ -121,6 +84,7 @@ module _ (bytes : List ℕ) (accepted : first (libraryCauses (readLibrary bytes)
         bits = bits;
         count = loaded-count bytes accepted;
         neighbours = neighbours;
+        word = word;
         lengths = lengths-exact s query k (roomOf k (l .n)) (record {
           of-query = size;
           of-marks = marks-count bytes accepted;
@@ -135,17 +99,18 @@ module _ (bytes : List ℕ) (accepted : first (libraryCauses (readLibrary bytes)
         cells = cells-own s own (searched s query k .reads) (read-below s query k);
       })
 
-  entries-are-the-scan : (query : List ℤ) (k : ℕ) → searched (searchable l) query k .best ≡ scanned (searchable l) query k
+  entries-are-the-scan : (query : Query) (k : ℕ) → searched (searchable l) query k .best ≡ scanned (searchable l) query k
   entries-are-the-scan query k = search-is-scan (searchable l) query k (packed-own bytes accepted)
 
 -- ---- the theorem
 
--- A match that is accepted prints k, how many vectors were read, and a line for each entry of the full scan's answer.
+-- A match that is accepted prints k, how many vectors were read, and a line for each entry of the full scan's answer, over the dimensions
+-- that are present.
 pub printed-is-the-scan : (input : List ℕ) → first (matchCauses input) ≡ Accepted
     → let l = readLibrary input in
     let rest = behind l input in
     let k = kOf rest in
-    let query = componentsOf (l .d) (drop kLength rest) in
+    let query = readQuery (l .d) (drop kLength rest) in
     matchText input
     ≡ line k (length (searched (searchable l) query k .reads) ∷ []) ++ entryLines (l .settings) (scanned (searchable l) query k)
 unfolding matchText matchCauses
@@ -153,7 +118,7 @@ printed-is-the-scan input accepted =
     let l = readLibrary input in
     let rest = behind l input in
     let k = kOf rest in
-    let query = componentsOf (l .d) (drop kLength rest) in
+    let query = readQuery (l .d) (drop kLength rest) in
     let library = both (libraryCauses l input) _ accepted .front in
     outcome-accepted _ refusedText accepted
     ∙ ap (λ (ps : List Pair). line k (length (searched (searchable l) query k .reads) ∷ []) ++ entryLines (l .settings) ps)

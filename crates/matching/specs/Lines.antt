@@ -4,7 +4,6 @@ use mathlib.Core.List.{List, [], _∷_, _++_, List·Memᴰ·head, List·Memᴰ·
 use Prim.Native.Nat.{ℕ, zero, suc, _+_, _≤_, _<_}
 use native.Mathlib.Numerals.{add-one}
 use native.Mathlib.Omega.{arith}
-use lib.IntN.{ℤ}
 use lib.ListN.{length, getD, take, drop, drop-of-length-le}
 use lib.Seq.{drop-cons}
 use Rattle.limits.specs.Limits.{maxNeighbours}
@@ -13,7 +12,7 @@ use Rattle.order.specs.Pairs.{pair}
 use Rattle.order.specs.Members.{_∈_}
 use Rattle.order.specs.Counted.{counted}
 use Rattle.selection.specs.Theorems.{reads-among, best-entries}
-use Rattle.search.specs.Search.{Index as Searchable, numbersIn, distanceIn, lowIn, searched}
+use Rattle.search.specs.Search.{Index as Searchable, Query, numbersIn, distanceIn, lowIn, searched}
 use Rattle.entries.specs.declared.Entry.{Entry}
 use Rattle.entries.specs.Entries.{entriesOf}
 use Rattle.matching.specs.Answer.{entryLine, entryLines}
@@ -41,10 +40,10 @@ number-below n (e ∷ es) none below zero within = below _ (List·Memᴰ·head r
 number-below n (e ∷ es) none below (suc i) within = number-below n es none (λ p m. below p (List·Memᴰ·tail m)) i (omega arith)
 
 -- the numbers that the search reads and answers are those of vectors
-pub read-below : (l : Searchable) (query : List ℤ) (k i : ℕ) → i ∈ searched l query k .reads → i < l .n
+pub read-below : (l : Searchable) (query : Query) (k i : ℕ) → i ∈ searched l query k .reads → i < l .n
 read-below l query k i m = omega (arith, counted 0 (l .n) (reads-among k (lowIn l query) (distanceIn l query) (numbersIn l) m) .below)
 
-pub best-below : (l : Searchable) (query : List ℤ) (k : ℕ) (p : Pair) → p ∈ searched l query k .best → p .number < l .n
+pub best-below : (l : Searchable) (query : Query) (k : ℕ) (p : Pair) → p ∈ searched l query k .best → p .number < l .n
 best-below l query k p m =
     read-below l query k (p .number) (best-entries k (lowIn l query) (distanceIn l query) (numbersIn l) m .its-number)
 

@@ -24,7 +24,8 @@ use Rattle.limits.specs.Tests.{between}
 use Rattle.layout.specs.Layout.{bitsOf, markCount, firstMarks}
 use Rattle.layout.specs.Laws.{marks-within}
 use Rattle.layout.specs.Stretch.{shapeCauses, Shape, shape}
-use Rattle.reading.specs.Intake.{causes}
+use Rattle.reading.specs.declared.Reading.{Reading}
+use Rattle.reading.specs.Intake.{presentCauses}
 use Rattle.records.specs.Records.{headKind, markKind, vectorKind, endKind, freshKind, heldKind, lostKind, formats, widthsAmong, widthsOf}
 use Rattle.records.specs.Records.{sum, recordLength, isKind, kindOf, valueOf}
 use Rattle.records.specs.Frame.{frameCauses, framed}
@@ -39,7 +40,7 @@ use Rattle.loading.specs.Load.{recordCauses, headCauses, markCauses, zeroBeyond
 use Rattle.loading.specs.Load.{endCauses}
 use Rattle.region.specs.Region.{inMarks}
 use Rattle.partition.specs.Marks.{dimensionMarks}
-use Rattle.query.specs.Query.{isReading, readingOf, readingCauses, recordsCauses as queryCauses, nextRecord}
+use Rattle.query.specs.Query.{isReading, readingOf, readingCauses, recordsCauses, presentCausesOf, nextRecord}
 use Rattle.matching.specs.Answer.{refusedText}
 use Rattle.matching.specs.Match.{behind, kLength, kCauses, matchCauses, matchText}
 use Rattle.matching.specs.Alike.{Alike, alike-take, alike-drop, same-number, same-value, same-kind, record-most, same-frame}
@@ -114,53 +115,65 @@ same-reading {m} {a} {b} is room =
       same-value heldKind 1 is (rw held-length (omega arith)),
     )
 
--- a kind that is no reading's is refused whatever follows
-misplaced : (bytes : List ℕ) → 0 < length bytes → isReading (kindOf bytes) ≡ false
-    → first (readingCauses bytes) ≡ Refused (cond (isKind (kindOf bytes)) Misplaced Kind)
-unfolding readingCauses
-misplaced bytes some not-reading =
-    stop (frameCauses (isReading (kindOf bytes)) bytes) (causes (readingOf bytes)) (go (isKind (kindOf bytes)) refl)
-  where
-    go : (t : Bool) → isKind (kindOf bytes) ≡ t → first (frameCauses (isReading (kindOf bytes)) bytes) ≡ Refused (cond t Misplaced Kind)
-    go true e = unfold first frameCauses in rw (ne-eqb (length bytes) 0 (λ z. omega arith), e, not-reading)
-    go false e = unfold first frameCauses in rw (ne-eqb (length bytes) 0 (λ z. omega arith), e)
+module _ (own : Reading → List Row) where
+  -- a kind that is no reading's is refused whatever follows
+  misplaced : (bytes : List ℕ) → 0 < length bytes → isReading (kindOf bytes) ≡ false
+      → first (readingCauses own bytes) ≡ Refused (cond (isKind (kindOf bytes)) Misplaced Kind)
+  unfolding readingCauses
+  misplaced bytes some not-reading =
+      stop (frameCauses (isReading (kindOf bytes)) bytes) (own (readingOf bytes)) (go (isKind (kindOf bytes)) refl)
+    where
+      go : (t : Bool) → isKind (kindOf bytes) ≡ t → first (frameCauses (isReading (kindOf bytes)) bytes) ≡ Refused (cond t Misplaced Kind)
+      go true e = unfold first frameCauses in rw (ne-eqb (length bytes) 0 (λ z. omega arith), e, not-reading)
+      go false e = unfold first frameCauses in rw (ne-eqb (length bytes) 0 (λ z. omega arith), e)
 
-same-first : {m : ℕ} {a b : List ℕ} → Alike m a b → 6 ≤ m → first (readingCauses a) ≡ first (readingCauses b)
-same-first {m} {a} {b} is room = go (isReading (kindOf a)) refl
-  where
-    kinds : kindOf a ≡ kindOf b
-    kinds = same-kind is (omega arith)
+  same-first : {m : ℕ} {a b : List ℕ} → Alike m a b → 6 ≤ m → first (readingCauses own a) ≡ first (readingCauses own b)
+  same-first {m} {a} {b} is room = go (isReading (kindOf a)) refl
+    where
+      kinds : kindOf a ≡ kindOf b
+      kinds = same-kind is (omega arith)
 
-    go : (t : Bool) → isReading (kindOf a) ≡ t → first (readingCauses a) ≡ first (readingCauses b)
-    go true e =
-        unfold readingCauses in rw
-        (same-frame (isReading (kindOf a)) is (omega (arith, reading-most (kindOf a) e)), kinds, same-reading is room)
-    go false e =
-        misplaced a (omega (arith, is .one-has)) e ∙ ap (λ (kind : ℕ). Refused (cond (isKind kind) Misplaced Kind)) kinds
-        ∙ sym (misplaced b (omega (arith, is .other-has)) (rw kinds at e))
+      go : (t : Bool) → isReading (kindOf a) ≡ t → first (readingCauses own a) ≡ first (readingCauses own b)
+      go true e =
+          unfold readingCauses in rw
+          (same-frame (isReading (kindOf a)) is (omega (arith, reading-most (kindOf a) e)), kinds, same-reading is room)
+      go false e =
+          misplaced a (omega (arith, is .one-has)) e ∙ ap (λ (kind : ℕ). Refused (cond (isKind kind) Misplaced Kind)) kinds
+          ∙ sym (misplaced b (omega (arith, is .other-has)) (rw kinds at e))
 
-reading-there : (bytes : List ℕ) → first (readingCauses bytes) ≡ Accepted → isReading (kindOf bytes) ≡ true
-unfolding readingCauses
-reading-there bytes accepted =
-    framed (isReading (kindOf bytes)) bytes
-    (both (frameCauses (isReading (kindOf bytes)) bytes) (causes (readingOf bytes)) accepted .front) .there
+  reading-there : (bytes : List ℕ) → first (readingCauses own bytes) ≡ Accepted → isReading (kindOf bytes) ≡ true
+  unfolding readingCauses
+  reading-there bytes accepted =
+      framed (isReading (kindOf bytes)) bytes
+      (both (frameCauses (isReading (kindOf bytes)) bytes) (own (readingOf bytes)) accepted .front) .there
 
--- more bytes than d readings can have
-too-long-query : (d : ℕ) {m : ℕ} {a b : List ℕ} → Alike m a b → d * 6 < m → BothRefuse (queryCauses d a) (queryCauses d b)
-unfolding queryCauses
-too-long-query zero {m} {a} {b} is long = record {
-  cause = Trailing;
-  one = first-here Trailing [] (lt-ltb 0 (length a) (omega (arith, is .one-has)));
-  other = first-here Trailing [] (lt-ltb 0 (length b) (omega (arith, is .other-has)));
-}
-too-long-query (suc d) {m} {a} {b} is long =
-    let six : 6 ≤ m = omega (arith, suc-mul d 6) in
-    in-front (readingCauses a) (readingCauses b) (queryCauses d (nextRecord a)) (queryCauses d (nextRecord b)) (same-first is six)
-    (λ accepted.
-    let short = reading-most (kindOf a) (reading-there a accepted) in
-    let behind : Alike (m - recordLength (kindOf a)) (nextRecord a) (nextRecord b) =
-    rw (← same-kind is (omega arith)) (alike-drop (recordLength (kindOf a)) is) in
-    too-long-query d behind (omega (arith, suc-mul d 6)))
+  -- more bytes than d readings can have
+  too-long-query : (d : ℕ) {m : ℕ} {a b : List ℕ} → Alike m a b → d * 6 < m → BothRefuse (recordsCauses own d a) (recordsCauses own d b)
+  unfolding recordsCauses
+  too-long-query zero {m} {a} {b} is long = record {
+    cause = Trailing;
+    one = first-here Trailing [] (lt-ltb 0 (length a) (omega (arith, is .one-has)));
+    other = first-here Trailing [] (lt-ltb 0 (length b) (omega (arith, is .other-has)));
+  }
+  too-long-query (suc d) {m} {a} {b} is long =
+      let six : 6 ≤ m = omega (arith, suc-mul d 6) in
+      in-front (readingCauses own a) (readingCauses own b) (recordsCauses own d (nextRecord a)) (recordsCauses own d (nextRecord b)) (same-first is six)
+      (λ accepted.
+      let short = reading-most (kindOf a) (reading-there a accepted) in
+      let behind : Alike (m - recordLength (kindOf a)) (nextRecord a) (nextRecord b) =
+      rw (← same-kind is (omega arith)) (alike-drop (recordLength (kindOf a)) is) in
+      too-long-query d behind (omega (arith, suc-mul d 6)))
+
+-- so it is with the second intake, whatever it says of the word
+too-long-present : (d : ℕ) {m : ℕ} {a b : List ℕ} → Alike m a b → d * 6 < m → BothRefuse (presentCausesOf d a) (presentCausesOf d b)
+unfolding presentCausesOf
+too-long-present d {m} {a} {b} is long =
+    let refused = too-long-query presentCauses d is long in
+    record {
+      cause = refused .cause;
+      one = stop (recordsCauses presentCauses d a) _ (refused .one);
+      other = stop (recordsCauses presentCauses d b) _ (refused .other);
+    }
 
 -- ---- the library
 
@@ -307,19 +320,19 @@ module _ (a b : List ℕ) (is : Alike (suc longestMatch) a b) where
     same-k : kCauses (one .n) (behind one a) ≡ kCauses (other .n) (behind other b)
     same-k = same-k-causes (one .n) rest-alike (omega (arith, used-few)) ∙ ap (λ (n : ℕ). kCauses n (behind other b)) same-n
 
-    long-query : BothRefuse (queryCauses (one .d) (drop kLength (behind one a))) (queryCauses (other .d) (drop kLength (behind other b)))
+    long-query : BothRefuse (presentCausesOf (one .d) (drop kLength (behind one a))) (presentCausesOf (other .d) (drop kLength (behind other b)))
     long-query =
         subst
-        (λ (d : ℕ). BothRefuse (queryCauses (one .d) (drop kLength (behind one a))) (queryCauses d (drop kLength (behind other b)))) same-d
-        (too-long-query (one .d) (alike-drop kLength rest-alike) (omega (arith, used-few, shaped .few)))
+        (λ (d : ℕ). BothRefuse (presentCausesOf (one .d) (drop kLength (behind one a))) (presentCausesOf d (drop kLength (behind other b)))) same-d
+        (too-long-present (one .d) (alike-drop kLength rest-alike) (omega (arith, used-few, shaped .few)))
 
     behind-head : BothRefuse
         (marksCauses one a ++
         (vectorsCauses one a ++
-        (endCauses one a ++ (kCauses (one .n) (behind one a) ++ queryCauses (one .d) (drop kLength (behind one a))))))
+        (endCauses one a ++ (kCauses (one .n) (behind one a) ++ presentCausesOf (one .d) (drop kLength (behind one a))))))
         (marksCauses other b ++
         (vectorsCauses other b ++
-        (endCauses other b ++ (kCauses (other .n) (behind other b) ++ queryCauses (other .d) (drop kLength (behind other b))))))
+        (endCauses other b ++ (kCauses (other .n) (behind other b) ++ presentCausesOf (other .d) (drop kLength (behind other b))))))
     behind-head =
         in-front _ _ _ _ (ap first same-marks)
         (λ _. in-front _ _ _ _ (ap first same-vectors)

@@ -13,7 +13,8 @@ use Rattle.limits.specs.Limits.{maxNeighbours}
 use Rattle.records.specs.Bytes.{fromLowFirst}
 use Rattle.library.specs.Library.{Library, libraryLength, readLibrary}
 use Rattle.loading.specs.Load.{recordsCauses as libraryCauses}
-use Rattle.query.specs.Query.{recordsCauses as queryCauses, componentsOf}
+use Rattle.search.specs.Search.{Query}
+use Rattle.query.specs.Query.{presentCausesOf, componentsOf, wordOf}
 use Rattle.matching.specs.declared.Printed.{Printed}
 use Rattle.matching.specs.Answer.{refusedText, answerText}
 
@@ -30,15 +31,19 @@ kLength = 2
 abbrev pub kOf : List ℕ → ℕ
 kOf rest = fromLowFirst kLength rest
 
+-- the query of d readings, by the second intake (document 02, Slip 1: "The kit program goes over to both and no longer gives 13.")
+abbrev pub readQuery : ℕ → List ℕ → Query
+readQuery d bytes = record { components = componentsOf d bytes; word = wordOf d bytes }
+
 -- ---- causes
 
 -- "input ending before both bytes of k gives 12"; then 4
 abbrev pub kCauses : ℕ → List ℕ → List Row
 kCauses n rest = (ltb (length rest) kLength ⇒ Truncated) ∷ (not (leb 1 (kOf rest) && leb (kOf rest) n) ⇒ Neighbours) ∷ []
 
--- those of a library's records, of k and of the query's d records, left to right
+-- those of a library's records, of k and of the query's d records, left to right, then 18
 abbrev pub causesWith : Library → List ℕ → List Row
-causesWith l input = libraryCauses l input ++ (kCauses (l .n) (behind l input) ++ queryCauses (l .d) (drop kLength (behind l input)))
+causesWith l input = libraryCauses l input ++ (kCauses (l .n) (behind l input) ++ presentCausesOf (l .d) (drop kLength (behind l input)))
 
 unfoldable pub matchCauses : List ℕ → List Row
 matchCauses input = causesWith (readLibrary input) input
@@ -49,7 +54,7 @@ matchCauses input = causesWith (readLibrary input) input
 abbrev pub textWith : Library → List ℕ → List ℕ
 textWith l input =
     outcome (first (causesWith l input))
-    (answerText l (componentsOf (l .d) (drop kLength (behind l input))) (kOf (behind l input)))
+    (answerText l (readQuery (l .d) (drop kLength (behind l input))) (kOf (behind l input)))
     refusedText
 
 unfoldable pub matchText : List ℕ → List ℕ

@@ -3,7 +3,7 @@ use mathlib.Core.Path.{_≡_, refl}
 use mathlib.Core.Bool.{true, _&&_, and-eq-true-iff}
 use mathlib.Core.List.{List, [], _∷_, List·Memᴰ·head, List·Memᴰ·tail}
 use Prim.Native.Nat.{ℕ, zero, suc, _+_, _*_, _^_, _≤_, _<_}
-use native.Mathlib.Nat.{suc-mul, mul-le-mul-right, le-trans}
+use native.Mathlib.Nat.{suc-mul, mul-le-mul, mul-le-mul-right, le-trans}
 use native.Mathlib.Decide.{decLt}
 use native.Mathlib.Omega.{arith}
 use borrow.Author.Tests.{leb-true, not-false}
@@ -14,23 +14,25 @@ use lib.ListN.{length, getD, drop, length-append}
 use lib.Seq.{getD-take, getD-drop}
 use Rattle.refusal.specs.declared.Refusal.{Refusal}
 use Rattle.refusal.specs.declared.Refusal.the-variants.{Dimension, Bits, Count, Neighbours, Length, Component, Mark, Outside, Code, Cell}
-use Rattle.refusal.specs.declared.Refusal.the-variants.{Kind, Truncated, Stale, NotANumber, OutOfRange, Trailing, Misplaced}
+use Rattle.refusal.specs.declared.Refusal.the-variants.{Kind, Truncated, Stale, NotANumber, OutOfRange, Trailing, Misplaced, TooFewPresent, PresenceBit}
 use Rattle.refusal.specs.declared.Verdict.{Verdict}
 use Rattle.refusal.specs.declared.Verdict.the-variants.{Accepted, Refused}
 use Rattle.refusal.specs.Refusal.{numberOf}
 use Rattle.refusal.specs.First.{first, outcome, passed}
 use Rattle.limits.specs.Limits.{maxDimensions, maxVectors, leastComponent, isComponent}
 use Rattle.limits.specs.Tests.{between}
+use Rattle.presence.specs.Presence.{factorsOf}
+use Rattle.presence.specs.PresenceLaws.{factors-le}
 use Rattle.signed.specs.Components.{areComponents, component-at}
 use Rattle.order.specs.Pair.{Pair}
 use Rattle.order.specs.Members.{_∈_}
 use Rattle.order.specs.Counted.{counted-length}
 use Rattle.selection.specs.Theorems.{reads-count, best-length, best-entries}
 use Rattle.cells.specs.Cells.{vectorAt}
-use Rattle.step.specs.Step.{gap, squared, squared-le}
+use Rattle.step.specs.Step.{gap, weighed, squared-le}
 use Rattle.step.specs.Places.{gap-size}
-use Rattle.distance.specs.Distance.{firstDistance, distanceOf}
-use Rattle.search.specs.Search.{Index as Searchable, numbersIn, distanceIn, lowIn, searched}
+use Rattle.distance.specs.Distance.{firstWeighed, weighedDistance}
+use Rattle.search.specs.Search.{Index as Searchable, Query, numbersIn, distanceIn, lowIn, searched}
 use Rattle.records.specs.Bytes.{AreBytes}
 use Rattle.records.specs.ByteLaws.{bytes-drop}
 use Rattle.records.specs.Records.{vectorKind}
@@ -40,14 +42,14 @@ use Rattle.library.specs.EachLaws.{tabulate-past}
 use Rattle.library.specs.Read.{settings-read, setting-read}
 use Rattle.library.specs.Library.{Library, markTotal, vectorPlace, settingsAt, readLibrary}
 use Rattle.loading.specs.Load.{recordsCauses as libraryCauses}
-use Rattle.query.specs.Query.{recordsCauses as queryCauses, componentsOf}
+use Rattle.query.specs.Query.{presentCausesOf}
+use Rattle.query.specs.QueryLaws.{present-components}
 use Rattle.text.specs.TextLaws.{decimal-length}
 use Rattle.text.specs.Text.{line}
 use Rattle.matching.specs.Answer.{searchable, refusedText, entryLine, entryLines, answerText}
 use Rattle.matching.specs.Lines.{best-below}
-use Rattle.matching.specs.Match.{behind, kLength, kOf, kCauses, causesWith, matchText, textRoom}
+use Rattle.matching.specs.Match.{behind, kLength, kOf, readQuery, kCauses, causesWith, matchText, textRoom}
 use Rattle.loading.specs.Loaded.{shaped, loaded-count, loaded-components}
-use Rattle.matching.specs.Answerable.{query-components}
 
 -- ---- distances
 
@@ -55,24 +57,24 @@ component-size : (z : ℤ) → isComponent z ≡ true → mag z ≤ 32767
 component-size (pos n) is = leb-true n 32767 is
 component-size (negsuc n) is = leb-true n 32767 (and-eq-true-iff (leZ leastComponent (negsuc n)) true .0 is .0)
 
-first-distance : (query vector : List ℤ) (d : ℕ) → ((t : ℕ) → t < d → isComponent (getD query t (pos 0)) ≡ true)
-    → ((t : ℕ) → t < d → isComponent (getD vector t (pos 0)) ≡ true)
-    → firstDistance query vector d ≤ d * (65535 * 65535)
-unfolding firstDistance
-first-distance query vector zero of-query of-vector = omega arith
-first-distance query vector (suc t) of-query of-vector =
-    let before = first-distance query vector t (λ i h. of-query i (omega arith)) (λ i h. of-vector i (omega arith)) in
+first-distance : (factors : List ℕ) → ((t : ℕ) → getD factors t 0 ≤ 1) → (query vector : List ℤ) (d : ℕ)
+    → ((t : ℕ) → t < d → isComponent (getD query t (pos 0)) ≡ true) → ((t : ℕ) → t < d → isComponent (getD vector t (pos 0)) ≡ true)
+    → firstWeighed factors query vector d ≤ d * (65535 * 65535)
+unfolding firstWeighed
+first-distance factors few query vector zero of-query of-vector = omega arith
+first-distance factors few query vector (suc t) of-query of-vector =
+    let before = first-distance factors few query vector t (λ i h. of-query i (omega arith)) (λ i h. of-vector i (omega arith)) in
     let q = getD query t (pos 0) in
     let z = getD vector t (pos 0) in
     let near : gap q z ≤ 65535 =
     omega (arith, gap-size q z, component-size q (of-query t (omega arith)), component-size z (of-vector t (omega arith))) in
-    let here : squared (gap q z) ≤ 65535 * 65535 = squared-le near in
+    let here : weighed (getD factors t 0) (gap q z) ≤ 65535 * 65535 = squared-le (mul-le-mul {n₂ = 1} {m₂ = 65535} (few t) near) in
     omega arith
 
-distance-below : (d i : ℕ) (query vectors : List ℤ) → d ≤ maxDimensions → areComponents query ≡ true → areComponents vectors ≡ true
-    → distanceOf d query (vectorAt d vectors i) < 10 ^ 12
-distance-below d i query vectors few of-query of-vectors =
-    let sum = first-distance query (vectorAt d vectors i) d (λ t h. component-at query of-query t)
+distance-below : (d i word : ℕ) (query vectors : List ℤ) → d ≤ maxDimensions → areComponents query ≡ true → areComponents vectors ≡ true
+    → weighedDistance d (factorsOf word) query (vectorAt d vectors i) < 10 ^ 12
+distance-below d i word query vectors few of-query of-vectors =
+    let sum = first-distance (factorsOf word) (factors-le word) query (vectorAt d vectors i) d (λ t h. component-at query of-query t)
     (λ t h. rw (getD-take d (drop (i * d) vectors) t (pos 0) h, getD-drop (i * d) vectors t (pos 0))
     (component-at vectors of-vectors (i * d + t))) in
     let most : d * (65535 * 65535) ≤ maxDimensions * (65535 * 65535) = mul-le-mul-right (65535 * 65535) few in
@@ -128,6 +130,8 @@ number-small NotANumber = lit< tt
 number-small OutOfRange = lit< tt
 number-small Trailing = lit< tt
 number-small Misplaced = lit< tt
+number-small TooFewPresent = lit< tt
+number-small PresenceBit = lit< tt
 
 refused-room : (cause : Refusal) → length (refusedText cause) ≤ textRoom
 unfolding line
@@ -153,7 +157,7 @@ settings-below bytes are i = go (decLt i (readLibrary bytes .n))
         rw (settings-read bytes, tabulate-past (l .n) (settingsAt (markTotal (l .d) (l .b)) bytes) 0 i (omega arith)) (lit< tt)
 
 module _ (bytes : List ℕ) (accepted : first (libraryCauses (readLibrary bytes) bytes) ≡ Accepted) (are : AreBytes bytes)
-    (query : List ℤ) (of-query : areComponents query ≡ true) (k : ℕ) (some : k ≤ readLibrary bytes .n) where
+    (query : Query) (of-query : areComponents (query .components) ≡ true) (k : ℕ) (some : k ≤ readLibrary bytes .n) where
   abbrev l : Library
   l = readLibrary bytes
 
@@ -175,7 +179,7 @@ module _ (bytes : List ℕ) (accepted : first (libraryCauses (readLibrary bytes)
       record {
         number = omega (arith, best-below s query k p m, few);
         distance = rw (entry .its-key)
-            (distance-below (l .d) (p .number) query (l .components) (shaped bytes accepted .few) of-query
+            (distance-below (l .d) (p .number) (query .word) (query .components) (l .components) (shaped bytes accepted .few) of-query
             (loaded-components bytes accepted));
       }
 
@@ -197,13 +201,13 @@ text-room input are = go (first (causesWith l input)) refl
 
     go : (v : Verdict) → first (causesWith l input) ≡ v
         → length (outcome v
-        (answerText l (componentsOf (l .d) (drop kLength (behind l input))) (kOf (behind l input))) refusedText) ≤ textRoom
+        (answerText l (readQuery (l .d) (drop kLength (behind l input))) (kOf (behind l input))) refusedText) ≤ textRoom
     go Accepted e =
         let library = both (libraryCauses l input) _ e in
-        let rest = both (kCauses (l .n) (behind l input)) (queryCauses (l .d) (drop kLength (behind l input))) (library .back) in
+        let rest = both (kCauses (l .n) (behind l input)) (presentCausesOf (l .d) (drop kLength (behind l input))) (library .back) in
         let neighbours = passed _ Neighbours [] (passed _ Truncated _ (rest .front) .rest) in
         let k = kOf (behind l input) in
-        answer-room input (library .front) are (componentsOf (l .d) (drop kLength (behind l input)))
-        (query-components (l .d) (drop kLength (behind l input)) (rest .back)) k
+        answer-room input (library .front) are (readQuery (l .d) (drop kLength (behind l input)))
+        (present-components (l .d) (drop kLength (behind l input)) (rest .back)) k
         (between 1 k (l .n) (not-false (leb 1 k && leb k (l .n)) (neighbours .fails)) .below)
     go (Refused cause) e = refused-room cause

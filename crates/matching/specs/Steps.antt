@@ -17,36 +17,38 @@ use Rattle.refusal.specs.declared.Verdict.the-variants.{Accepted, Refused}
 use Rattle.refusal.specs.First.{_⇒_, first, outcome, outcome-refused, first-here, first-next, passed}
 use Rattle.limits.specs.Limits.{maxDimensions, maxVectors, isDimensionCount}
 use Rattle.limits.specs.Tests.{between}
+use Rattle.presence.specs.Presence.{wordCauses}
 use Rattle.signed.specs.Components.{areComponents}
 use Rattle.layout.specs.Stretch.{shapeCauses}
 use Rattle.codes.specs.Codes.{codeLength}
 use Rattle.approximation.specs.VectorCauses.{packVectorsCauses}
-use Rattle.search.specs.Search.{searchCauses}
+use Rattle.search.specs.Search.{Query, searchCauses}
 use Rattle.search.specs.Ready.{roomOf}
 use Rattle.records.specs.RowLaws.{go-on, stop}
 use Rattle.loading.specs.declared.Loaded.{Loaded}
 use Rattle.library.specs.Library.{Library, libraryWith, markTotal, libraryLength, readLibrary}
 use Rattle.loading.specs.Load.{marksRoom, settingsRoom, componentsRoom, recordsCauses as libraryCauses, loadCauses, counts, filled}
 use Rattle.loading.specs.Loaded.{loaded-shape, loaded-count, shaped, marks-count, settings-count, components-count, loaded-within}
-use Rattle.query.specs.Query.{queryCauses as lentCauses, recordsCauses as queryCauses, componentsOf}
+use Rattle.query.specs.Query.{presentQueryCauses as lentCauses, presentCausesOf}
 use Rattle.matching.specs.Answer.{searchable, refusedText, answerText}
-use Rattle.matching.specs.Match.{behind, kLength, kOf, kCauses, matchText}
+use Rattle.matching.specs.Match.{behind, kLength, kOf, readQuery, kCauses, matchText}
 use Rattle.matching.specs.Answerable.{packs, searches}
 
 -- behind a library that passes, and behind a k that passes; `rest` is what stands behind the library
 abbrev pub restText : Library → List ℕ → List ℕ
 restText l rest =
-    outcome (first (kCauses (l .n) rest ++ queryCauses (l .d) (drop kLength rest)))
-    (answerText l (componentsOf (l .d) (drop kLength rest)) (kOf rest))
+    outcome (first (kCauses (l .n) rest ++ presentCausesOf (l .d) (drop kLength rest)))
+    (answerText l (readQuery (l .d) (drop kLength rest)) (kOf rest))
     refusedText
 
 abbrev pub queryText : Library → ℕ → List ℕ → List ℕ
-queryText l k bytes = outcome (first (queryCauses (l .d) bytes)) (answerText l (componentsOf (l .d) bytes) k) refusedText
+queryText l k bytes = outcome (first (presentCausesOf (l .d) bytes)) (answerText l (readQuery (l .d) bytes) k) refusedText
 
 -- what the library can be asked: packing takes it, the search takes it with any query and any k that pass, and each vector has settings
 pub record Ready (l : Library) : Type 0 where
   pub of-packing : first (packVectorsCauses (l .d) (l .b) (l .n) (l .components) (l .marks) (codeLength (l .b) (l .n))) ≡ Accepted
-  pub of-search : (query : List ℤ) (k : ℕ) → length query ≡ l .d → areComponents query ≡ true → leb 1 k && leb k (l .n) ≡ true
+  pub of-search : (query : Query) (k : ℕ) → length (query .components) ≡ l .d → areComponents (query .components) ≡ true
+      → first (wordCauses (l .d) (query .word)) ≡ Accepted → leb 1 k && leb k (l .n) ≡ true
       → first (searchCauses (searchable l) query k (roomOf k (l .n))) ≡ Accepted
   pub of-settings : length (l .settings) ≡ l .n
 
@@ -71,7 +73,7 @@ unfolding matchText
 library-passes input passes =
     let l = readLibrary input in
     let rest = behind l input in
-    ap (λ (v : Verdict). outcome v (answerText l (componentsOf (l .d) (drop kLength rest)) (kOf rest)) refusedText)
+    ap (λ (v : Verdict). outcome v (answerText l (readQuery (l .d) (drop kLength rest)) (kOf rest)) refusedText)
     (go-on (libraryCauses l input) _ passes)
 
 pub k-refused : (l : Library) (rest : List ℕ) {cause : Refusal} → first (kCauses (l .n) rest) ≡ Refused cause
@@ -81,7 +83,7 @@ k-refused l rest refused = outcome-refused _ refusedText (stop (kCauses (l .n) r
 pub k-passes : (l : Library) (rest : List ℕ) → first (kCauses (l .n) rest) ≡ Accepted
     → restText l rest ≡ queryText l (kOf rest) (drop kLength rest)
 k-passes l rest passes =
-    ap (λ (v : Verdict). outcome v (answerText l (componentsOf (l .d) (drop kLength rest)) (kOf rest)) refusedText)
+    ap (λ (v : Verdict). outcome v (answerText l (readQuery (l .d) (drop kLength rest)) (kOf rest)) refusedText)
     (go-on (kCauses (l .n) rest) _ passes)
 
 pub k-among : (n : ℕ) (rest : List ℕ) → first (kCauses n rest) ≡ Accepted → leb 1 (kOf rest) && leb (kOf rest) n ≡ true
@@ -107,7 +109,7 @@ pub ready-dimensions : {l : Library} → Ready l → isDimensionCount (l .d) ≡
 ready-dimensions {l} is = not-false _ (passed (not (isDimensionCount (l .d))) Dimension _ (is .of-packing) .fails)
 
 pub query-rows : (d room : ℕ) (bytes : List ℕ) → isDimensionCount d ≡ true → room ≡ d
-    → first (lentCauses d room bytes) ≡ first (queryCauses d bytes)
+    → first (lentCauses d room bytes) ≡ first (presentCausesOf d bytes)
 unfolding first lentCauses
 query-rows d room bytes dimensions exact = rw (dimensions, eq-eqb room d exact)
 

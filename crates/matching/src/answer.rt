@@ -14,7 +14,7 @@ ghost use Rattle.refusal.specs.First.{first};
 ghost use Rattle.codes.specs.Codes.{codeLength};
 ghost use Rattle.approximation.specs.VectorCauses.{packVectorsCauses};
 ghost use Rattle.search.specs.Search.{searched, searchCauses};
-ghost use Rattle.search.specs.Ready.{indexOf, roomOf};
+ghost use Rattle.search.specs.Ready.{indexOf, queryOf, roomOf};
 ghost use Rattle.library.specs.Library.{libraryWith};
 ghost use Rattle.text.specs.Puts.{Puts};
 ghost use Rattle.matching.specs.Answer.{searchable, answerLines, answerText};
@@ -24,29 +24,35 @@ const CODES_ROOM: usize = KIT_VECTORS * MAX_DIMENSION_BITS * MAX_DIMENSIONS / 8;
 
 // The text of the answer to a query.
 pub(crate) fn answer(
-    d: usize,
-    b: usize,
-    n: usize,
-    k: usize,
+    terms: Terms,
     query: &[i32],
     marks: &[i32],
     settings: &[u32],
     components: &[i32],
     text: &mut [u8],
 ) -> usize
-    requires { ⌜ first (packVectorsCauses d b n (now components) (now marks) (codeLength b n)) ≡ Accepted ⌝ }
-    requires { ⌜ first (searchCauses (searchable (libraryWith d b n (now marks) (now settings) (now components))) (now query) k (roomOf k n))
+    requires { ⌜ first (packVectorsCauses (terms .d) (terms .b) (terms .n) (now components) (now marks) (codeLength (terms .b) (terms .n)))
         ≡ Accepted ⌝ }
-    requires { ⌜ length (now settings) ≡ n ⌝ }
-    requires { ⌜ length (answerText (libraryWith d b n (now marks) (now settings) (now components)) (now query) k) ≤ length (now text) ⌝ }
-    ensures { λ r. ⌜ Puts (answerText (libraryWith d b n (now (marks .entry)) (now (settings .entry)) (now (components .entry))) (now (query .entry)) k) 0
-        (now (text .entry)) (now (text .exit)) r ⌝ }
+    requires { let l = libraryWith (terms .d) (terms .b) (terms .n) (now marks) (now settings) (now components) in
+        ⌜ first (searchCauses (searchable l) (queryOf terms (now query)) (terms .k) (roomOf (terms .k) (terms .n))) ≡ Accepted ⌝ }
+    requires { ⌜ length (now settings) ≡ terms .n ⌝ }
+    requires { let l = libraryWith (terms .d) (terms .b) (terms .n) (now marks) (now settings) (now components) in
+        ⌜ length (answerText l (queryOf terms (now query)) (terms .k)) ≤ length (now text) ⌝ }
+    ensures { λ r. let l = libraryWith (terms .d) (terms .b) (terms .n) (now (marks .entry)) (now (settings .entry)) (now (components .entry)) in
+        ⌜ Puts (answerText l (queryOf terms (now (query .entry))) (terms .k)) 0 (now (text .entry)) (now (text .exit)) r ⌝ }
 {
-    let size = layout::codes_length(d, b, n);
+    let size = layout::codes_length(terms.d, terms.b, terms.n);
     let mut codes = [0u8; CODES_ROOM];
-    approximation::pack_vectors(d, b, n, components, marks, &mut codes[..size]);
+    approximation::pack_vectors(
+        terms.d,
+        terms.b,
+        terms.n,
+        components,
+        marks,
+        &mut codes[..size],
+    );
     answer_coded(
-        Terms { d, b, n, k },
+        terms,
         query,
         marks,
         &codes[..size],
@@ -66,13 +72,13 @@ fn answer_coded(
     components: &[i32],
     text: &mut [u8],
 ) -> usize
-    requires { ⌜ first (searchCauses (indexOf terms (now marks) (now codes) (now components)) (now query) (terms .k)
+    requires { ⌜ first (searchCauses (indexOf terms (now marks) (now codes) (now components)) (queryOf terms (now query)) (terms .k)
         (roomOf (terms .k) (terms .n))) ≡ Accepted ⌝ }
     requires { ⌜ length (now settings) ≡ terms .n ⌝ }
     requires { ⌜ length (answerLines (now settings) (terms .k)
-        (searched (indexOf terms (now marks) (now codes) (now components)) (now query) (terms .k))) ≤ length (now text) ⌝ }
+        (searched (indexOf terms (now marks) (now codes) (now components)) (queryOf terms (now query)) (terms .k))) ≤ length (now text) ⌝ }
     ensures { λ r. ⌜ Puts (answerLines (now (settings .entry)) (terms .k)
-        (searched (indexOf terms (now (marks .entry)) (now (codes .entry)) (now (components .entry))) (now (query .entry)) (terms .k))) 0
+        (searched (indexOf terms (now (marks .entry)) (now (codes .entry)) (now (components .entry))) (queryOf terms (now (query .entry))) (terms .k))) 0
         (now (text .entry)) (now (text .exit)) r ⌝ }
 {
     let n = terms.n;

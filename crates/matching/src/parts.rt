@@ -5,6 +5,7 @@ use crate::lines::put_refusal;
 use limits::MAX_DIMENSIONS;
 use refusal::Refusal;
 use refusal::Verdict;
+use search::Terms;
 ghost use mathlib.Core.Path.{_≡_};
 ghost use mathlib.Core.Bool.{true, _&&_};
 ghost use Prim.Native.Nat.{_≤_};
@@ -82,9 +83,18 @@ fn match_query(
         (now (bytes .entry))) 0 (now (text .entry)) (now (text .exit)) r ⌝ }
 {
     let mut query = [0i32; MAX_DIMENSIONS];
-    let verdict = query::query(d, bytes, &mut query[..d]);
+    let taken = query::query_present(d, bytes, &mut query[..d]);
+    let word = taken.word;
+    let verdict = taken.verdict;
     match verdict {
-        Verdict::Accepted => answer(d, b, n, k, &query[..d], marks, settings, components, text),
+        Verdict::Accepted => answer(
+            Terms { d, b, n, k, word },
+            &query[..d],
+            marks,
+            settings,
+            components,
+            text,
+        ),
         Verdict::Refused(cause) => put_refusal(cause, text),
     }
 }

@@ -88,12 +88,12 @@ impl<T: Number> Lent<T> {
     }
 }
 
-/// A count that a call gives: 0 where it is refused.
+/// A count or a word that a call gives: 0 where it is refused.
 #[track_caller]
-pub fn counted(place: &Lent<usize>, number: u32) -> usize {
+pub fn counted<T: Number>(place: &Lent<T>, number: u32) -> T {
     place.kept_past(1);
     let count = place.contents()[0];
-    assert!(number == 0 || count == 0, "refused with {number}, and {count} is not 0");
+    assert!(number == 0 || count == T::of_bits(0), "refused with {number}, and {count:?} is not 0");
     count
 }
 

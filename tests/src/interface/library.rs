@@ -2,7 +2,7 @@
 
 use super::lent::{counted, outcome, Lent};
 use crate::{
-    input::{Input, LoadRoom, Loaded},
+    input::{Input, LoadRoom, Loaded, Query},
     reference,
 };
 
@@ -36,6 +36,14 @@ extern "C" {
         used: *mut usize,
     ) -> u32;
     fn matcher_query(d: usize, bytes: *const u8, bytes_len: usize, components: *mut i32, components_len: usize) -> u32;
+    fn matcher_query_present(
+        d: usize,
+        bytes: *const u8,
+        bytes_len: usize,
+        components: *mut i32,
+        components_len: usize,
+        word: *mut u32,
+    ) -> u32;
 }
 
 pub fn library_length(input: &Input) -> Result<usize, u32> {
@@ -104,4 +112,15 @@ pub fn query(d: usize, bytes: &[u8], room: usize) -> Result<Vec<i32>, u32> {
     let number = unsafe { matcher_query(d, bytes.pointer(), bytes.len(), components.pointer(), components.len()) };
     bytes.kept();
     components.filled(number)
+}
+
+/// The second intake: the word is 0 where it is refused.
+pub fn query_present(d: usize, bytes: &[u8], room: usize) -> Result<Query, u32> {
+    let (mut bytes, mut components, mut word) = (Lent::given(bytes), Lent::room(room), Lent::room(1));
+    let number = unsafe {
+        matcher_query_present(d, bytes.pointer(), bytes.len(), components.pointer(), components.len(), word.pointer())
+    };
+    bytes.kept();
+    let word = counted(&word, number);
+    Ok(Query { components: components.filled(number)?, word })
 }

@@ -1,6 +1,6 @@
-//! The causes of document 01's table, "When a call says no", each with its number.
+//! The causes of document 01's table, "When a call says no", and of document 02, each with its number.
 
-use super::partition::parts;
+use super::{partition::parts, presence::present};
 
 /// The number of the cause that holds, if one does.
 pub type Checked = Result<(), u32>;
@@ -105,4 +105,21 @@ pub fn no_more(rest: &[u8]) -> Checked {
 /// 17: "known kind in a wrong place".
 pub fn placed(kind: u8, places: &[u8]) -> Checked {
     refused_unless(places.contains(&kind), 17)
+}
+
+/// 18 (document 02, Slip 1): "At least four must be present, or all d where d is below four".
+pub fn enough_present(d: usize, word: u32) -> Checked {
+    let count = present(word).len();
+    refused_unless(if d < 4 { count == d } else { count >= 4 }, 18)
+}
+
+/// 19 (document 02, Slip 1): "a bit at or above d".
+pub fn word_within(d: usize, word: u32) -> Checked {
+    refused_unless(present(word).into_iter().all(|bit| bit < d), 19)
+}
+
+/// 19, then 18: "after 19 in search and scan".
+pub fn word(d: usize, word: u32) -> Checked {
+    word_within(d, word)?;
+    enough_present(d, word)
 }

@@ -1,9 +1,10 @@
-//! Distances, and the bounds of a cell (document 01, "Distance, bounds, reading order").
+//! Distances, and the bounds of a cell (document 01, "Distance, bounds, reading order"; document 02, Slip 1).
 
 use super::{
     approximation::{codes_length, good_codes, regions_of},
     causes,
     partition::{marks_length, parts},
+    presence::{kept, present},
 };
 use crate::input::{Bounds, Input};
 use std::ops::{Range, RangeInclusive};
@@ -11,6 +12,11 @@ use std::ops::{Range, RangeInclusive};
 /// "Distance is the sum of squared differences."
 pub fn distance_between(query: &[i32], vector: &[i32]) -> i128 {
     query.iter().zip(vector).map(|(&q, &v)| square(q, v)).sum()
+}
+
+/// "sums distance, L and U over present dimensions only"
+pub fn present_distance(present: &[usize], query: &[i32], vector: &[i32]) -> i128 {
+    distance_between(&kept(present, query), &kept(present, vector))
 }
 
 fn square(q: i32, v: i32) -> i128 {
@@ -41,10 +47,15 @@ pub fn cell_vectors(input: &Input, i: usize) -> Vec<Vec<i32>> {
 }
 
 /// "sums over dimensions of the square of the shortest and longest step from query to region"
-pub fn cell_bounds(query: &[i32], cell: &Cell) -> (i128, i128) {
+fn cell_bounds(query: &[i32], cell: &Cell) -> (i128, i128) {
     let shortest = |(&q, region): (&i32, &RangeInclusive<i32>)| square(q, q.clamp(*region.start(), *region.end()));
     let longest = |(&q, region): (&i32, &RangeInclusive<i32>)| square(q, *region.start()).max(square(q, *region.end()));
     (query.iter().zip(cell).map(shortest).sum(), query.iter().zip(cell).map(longest).sum())
+}
+
+/// The same "over present dimensions only".
+pub fn present_bounds(present: &[usize], query: &[i32], cell: &Cell) -> (i128, i128) {
+    cell_bounds(&kept(present, query), &kept(present, cell))
 }
 
 /// A distance as it is lent.
@@ -66,17 +77,19 @@ pub fn distance(input: &Input) -> Result<u64, u32> {
 
 /// Of each code's cell.
 pub fn bounds(input: &Input) -> Result<Vec<Bounds>, u32> {
-    let Input { d, b, n, query, marks, codes, room, .. } = input;
+    let Input { d, b, n, word, query, marks, codes, room, .. } = input;
     causes::shape(*d, *b)?;
     causes::count(*n)?;
+    causes::word(*d, *word)?;
     let codes = (codes.len(), codes_length(*n, *b));
     causes::lengths(&[(query.len(), *d), (marks.len(), marks_length(*d, *b)), codes])?;
     causes::lengths(&[(room.lowers, *n), (room.uppers, *n)])?;
     causes::components(query)?;
     causes::marks(*d, *b, marks)?;
     good_codes(input)?;
+    let present = present(*word);
     let of_cell = |cell: &Cell| {
-        let (lower, upper) = cell_bounds(query, cell);
+        let (lower, upper) = present_bounds(&present, query, cell);
         Bounds { lower: lent(lower), upper: lent(upper) }
     };
     Ok(cells(input).iter().map(of_cell).collect())

@@ -1,13 +1,15 @@
-//! The program (document 01, "The program"): its whole output for an input.
+//! The program (document 01, "The program"; document 02, Slip 1: "goes over to both and no longer gives 13"): its whole
+//! output for an input.
 
 use super::{
     causes,
-    distance::{cell_bounds, distance_between, Cell},
-    library::{load, query},
+    distance::{present_bounds, present_distance, Cell},
+    library::{load, query_present},
     partition::{parts, region_of},
+    presence::present,
     search::{reading, scanned},
 };
-use crate::input::{LoadRoom, Loaded};
+use crate::input::{LoadRoom, Loaded, Query};
 
 /// "Standard input: a library, k (2 bytes), a query. Its first fault from the left comes out as `refused ` and the
 /// number"; "each line ended by byte 10".
@@ -23,13 +25,15 @@ fn matched(input: &[u8]) -> Result<Vec<String>, u32> {
     let (k, rest) = causes::whole(input[library.used..].split_first_chunk())?;
     let k = usize::from(u16::from_le_bytes(*k));
     causes::neighbours(library.n, k)?;
-    let query = query(library.d, rest, library.d)?;
+    let Query { components: query, word } = query_present(library.d, rest, library.d)?;
+    let present = present(word);
 
     let vectors: Vec<&[i32]> = library.components.chunks(library.d).collect();
-    let bounds: Vec<i128> = vectors.iter().map(|vector| cell_bounds(&query, &cell(&library, vector)).0).collect();
-    let read = reading(&bounds, k, |number| Ok(distance_between(&query, vectors[number])))?;
+    let bounds: Vec<i128> =
+        vectors.iter().map(|vector| present_bounds(&present, &query, &cell(&library, vector)).0).collect();
+    let read = reading(&bounds, k, |number| Ok(present_distance(&present, &query, vectors[number])))?;
     let mut lines = vec![format!("{k} {}", read.len())];
-    for (distance, number) in scanned(&query, &library.components, k) {
+    for (distance, number) in scanned(&present, &query, &library.components, k) {
         lines.push(format!("{number} {} {distance}", library.settings[number]));
     }
     Ok(lines)
@@ -69,7 +73,10 @@ mod tests {
         assert_eq!(with_a(&REST[..1]), "refused 12\n", "inside k");
         assert_eq!(with_a(&[0, 0, 7]), "refused 4\n", "k is 0, and the reading lost");
         assert_eq!(with_a(&[6, 0, 7]), "refused 4\n", "k above n");
-        assert_eq!(with_a(&[5, 0, 7]), "refused 13\n");
+        assert_eq!(with_a(&[5, 0, 7]), "refused 12\n", "change request 1: a lost reading is no fault by itself");
+        assert_eq!(with_a(&[5, 0, 7, 7]), "refused 18\n", "both lost");
+        assert_eq!(with_a(&[&[5, 0, 7], &REST[2..7]].concat()), "refused 18\n", "one lost of two");
+        assert_eq!(with_a(&[5, 0, 7, 7, 7]), "refused 16\n", "both lost, and a byte behind");
         assert_eq!(with_a(&REST[..11]), "refused 12\n", "inside the query");
         assert_eq!(with_a(&[&REST[..], &[0]].concat()), "refused 16\n");
     }

@@ -1,10 +1,11 @@
-//! The full scan and the search (document 01, "Distance, bounds, reading order").
+//! The full scan and the search (document 01, "Distance, bounds, reading order"; document 02, Slip 1).
 
 use super::{
     approximation::{codes_length, good_codes},
     causes,
-    distance::{cell_bounds, cells, distance_between, lent},
+    distance::{cells, lent, present_bounds, present_distance},
     partition::marks_length,
+    presence::present,
 };
 use crate::input::{Entry, Found, Input};
 
@@ -40,30 +41,32 @@ pub fn reading(
 }
 
 /// "A full scan's answer is the k least pairs (distance, number) over all patterns, least first."
-pub fn scanned(query: &[i32], vectors: &[i32], k: usize) -> Vec<(i128, usize)> {
+pub fn scanned(present: &[usize], query: &[i32], vectors: &[i32], k: usize) -> Vec<(i128, usize)> {
     let vectors = vectors.chunks(query.len()).enumerate();
-    let pairs: Vec<(i128, usize)> = vectors.map(|(i, vector)| (distance_between(query, vector), i)).collect();
+    let pairs: Vec<(i128, usize)> = vectors.map(|(i, vector)| (present_distance(present, query, vector), i)).collect();
     best(&pairs, k)
 }
 
 // ---- the calls
 
 pub fn scan(input: &Input) -> Result<Vec<Entry>, u32> {
-    let Input { d, n, k, query, vectors, room, .. } = input;
+    let Input { d, n, k, word, query, vectors, room, .. } = input;
     causes::dimensions(*d)?;
     causes::count(*n)?;
     causes::neighbours(*n, *k)?;
+    causes::word(*d, *word)?;
     causes::lengths(&[(query.len(), *d), (vectors.len(), n * d), (room.entries, *k)])?;
     causes::components(query)?;
     causes::components(vectors)?;
-    Ok(entries(scanned(query, vectors, *k)))
+    Ok(entries(scanned(&present(*word), query, vectors, *k)))
 }
 
 pub fn search(input: &Input) -> Result<Found, u32> {
-    let Input { d, b, n, k, query, marks, codes, vectors, room, .. } = input;
+    let Input { d, b, n, k, word, query, marks, codes, vectors, room, .. } = input;
     causes::shape(*d, *b)?;
     causes::count(*n)?;
     causes::neighbours(*n, *k)?;
+    causes::word(*d, *word)?;
     let given = [(query.len(), *d), (marks.len(), marks_length(*d, *b)), (codes.len(), codes_length(*n, *b))];
     causes::lengths(&given)?;
     causes::lengths(&[(vectors.len(), n * d), (room.entries, *k), (room.reads, *n)])?;
@@ -71,12 +74,12 @@ pub fn search(input: &Input) -> Result<Found, u32> {
     causes::marks(*d, *b, marks)?;
     good_codes(input)?;
 
-    let cells = cells(input);
-    let bounds: Vec<i128> = cells.iter().map(|cell| cell_bounds(query, cell).0).collect();
+    let (cells, present) = (cells(input), present(*word));
+    let bounds: Vec<i128> = cells.iter().map(|cell| present_bounds(&present, query, cell).0).collect();
     let read = reading(&bounds, *k, |number| {
         let vector = &vectors[number * d..(number + 1) * d];
         causes::in_cell(vector.iter().zip(&cells[number]).all(|(component, region)| region.contains(component)))?;
-        Ok(distance_between(query, vector))
+        Ok(present_distance(&present, query, vector))
     })?;
     let reads = read.iter().map(|&(_, number)| number as u32).collect();
     Ok(Found { entries: entries(best(&read, *k)), reads })

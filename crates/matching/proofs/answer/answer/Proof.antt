@@ -16,7 +16,7 @@ use Rattle.codes.specs.Pack.{lengthCauses, sizeCauses, sizes}
 use Rattle.approximation.specs.VectorCauses.{locateCauses, packVectorsCauses}
 use Rattle.approximation.specs.Vectors.{vectorCodes}
 use Rattle.search.specs.Search.{searched}
-use Rattle.search.specs.Ready.{indexOf, termsOf}
+use Rattle.search.specs.Ready.{indexOf, queryOf}
 use Rattle.text.specs.Puts.{puts-length, puts-same}
 use Rattle.matching.specs.Answer.{answerLines}
 use Rattle.order.proofs.Prefix.{back-within, shared-is}
@@ -31,8 +31,8 @@ few-bits d b n codes vectors marks accepted =
     (accepted-front (sizeCauses d b n (length vectors) codes) (locateCauses d b vectors marks) accepted) in
     mul-le-mul {n₂ = 512} {m₂ = 192} (is .few) (omega (arith, is .shaped .bits, is .shaped .few))
 
-few : (s : tie.Start) → s .args .n * s .args .b ≤ 98304
-few s = few-bits (s .args .d) (s .args .b) (s .args .n) _ (s .args .components .now) (s .args .marks .now) (s .pre .0)
+few : (s : tie.Start) → s .args .terms .n * s .args .terms .b ≤ 98304
+few s = few-bits (s .args .terms .d) (s .args .terms .b) (s .args .terms .n) _ (s .args .components .now) (s .args .marks .now) (s .pre .0)
 
 -- so many bytes the codes have
 length-is : (d b n codes : ℕ) (vectors marks : List ℤ) → first (packVectorsCauses d b n vectors marks codes) ≡ Accepted
@@ -42,11 +42,11 @@ length-is d b n codes vectors marks accepted =
     codes-length-is d b n (accepted-front (shapeCauses d b) (lengthCauses d b n (length vectors) codes) sized)
     (sizes d b n (length vectors) codes sized .few)
 
-size-is : (c : tie.After-codes-length) → let a = c .before .before .before .args in c .codes-length .result ≡ codeLength (a .b) (a .n)
+size-is : (c : tie.After-codes-length) → let a = c .before .before .before .args in c .codes-length .result ≡ codeLength (a .terms .b) (a .terms .n)
 size-is c =
     let s = c .before .before .before in
     c .codes-length .ensures
-    ∙ length-is (s .args .d) (s .args .b) (s .args .n) _ (s .args .components .now) (s .args .marks .now) (s .pre .0)
+    ∙ length-is (s .args .terms .d) (s .args .terms .b) (s .args .terms .n) _ (s .args .components .now) (s .args .marks .now) (s .pre .0)
 
 codes-hold : tie.Need-array-borrow-prefix-codes
 codes-hold c = omega (arith, few (c .before .before .before), size-is c)
@@ -71,12 +71,12 @@ codes-back c = c .pack-vectors .last .1 .1 .1 .1 .1 .0
 -- the codes that were shared
 codes-are : (c : tie.After-pack-vectors) → let a = c .before .before .before .before .before .args in
     let size = c .before .before .codes-length .result in
-    take size (codes-back c ++ drop size (replicate 12288 0)) ≡ vectorCodes (a .d) (a .b) (a .n) (a .marks .now) (a .components .now)
+    take size (codes-back c ++ drop size (replicate 12288 0)) ≡ vectorCodes (a .terms .d) (a .terms .b) (a .terms .n) (a .marks .now) (a .components .now)
 codes-are c =
     let s = c .before .before .before .before .before in
     let hold = codes-hold (c .before .before) in
     shared-is _ _ (codes-back c) hold (c .pack-vectors .kept .1 .1 .1 .1 .1 .0)
-    ∙ packed-are (s .args .d) (s .args .b) (s .args .n) (s .args .components .now) (s .args .marks .now) _ _ (s .pre .0)
+    ∙ packed-are (s .args .terms .d) (s .args .terms .b) (s .args .terms .n) (s .args .components .now) (s .args .marks .now) _ _ (s .pre .0)
     (length-take-le _ _ hold ∙ size-is (c .before .before)) (c .pack-vectors .ensures .1)
 
 answer-coded-requires : tie.Need-answer-coded-requires
@@ -91,8 +91,8 @@ returns c =
     let back = put .before .before .before .before in
     let a = back .before .before .before .before .before .args in
     puts-same (ap
-    (λ (codes : List ℕ). answerLines (a .settings .now) (a .k)
-    (searched (indexOf (termsOf (a .d) (a .b) (a .n) (a .k)) (a .marks .now) codes (a .components .now)) (a .query .now) (a .k)))
+    (λ (codes : List ℕ). answerLines (a .settings .now) (a .terms .k)
+    (searched (indexOf (a .terms) (a .marks .now) codes (a .components .now)) (queryOf (a .terms) (a .query .now)) (a .terms .k)))
     (codes-are back))
     (put .answer-coded .ensures)
 

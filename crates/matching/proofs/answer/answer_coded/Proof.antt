@@ -4,7 +4,6 @@ use mathlib.Core.Path.{_≡_, sym, ap, subst, _∙_}
 use mathlib.Core.List.{List}
 use Prim.Native.Nat.{ℕ, _≤_}
 use borrow.Author.Needs.{needs}
-use lib.IntN.{ℤ}
 use lib.ListN.{length, take}
 use lib.Seq.{length-take-le}
 use Rattle.refusal.specs.declared.Verdict.the-variants.{Accepted}
@@ -15,8 +14,8 @@ use Rattle.order.specs.Pair.{Pair}
 use Rattle.order.specs.Members.{_∈_}
 use Rattle.search.specs.declared.Found.{Found}
 use Rattle.search.specs.Answer.{searchedCount}
-use Rattle.search.specs.Search.{Index, searched, searchCauses}
-use Rattle.search.specs.Ready.{indexOf, roomOf}
+use Rattle.search.specs.Search.{Index, Query, searched, searchCauses}
+use Rattle.search.specs.Ready.{indexOf, queryOf, roomOf}
 use Rattle.search.specs.Accepted.{Passes, passes}
 use Rattle.least_reading.specs.Searching.{Searches, found-front}
 use Rattle.text.specs.Puts.{puts-length, puts-same}
@@ -29,10 +28,13 @@ use Rattle.matching.proofs.answer.answer_coded.Tie as tie
 abbrev given : tie.Start → Index
 given s = indexOf (s .args .terms) (s .args .marks .now) (s .args .codes .now) (s .args .components .now)
 
-passing : (s : tie.Start) → let t = s .args .terms in Passes (given s) (s .args .query .now) (t .k) (roomOf (t .k) (t .n))
+abbrev asked : tie.Start → Query
+asked s = queryOf (s .args .terms) (s .args .query .now)
+
+passing : (s : tie.Start) → let t = s .args .terms in Passes (given s) (asked s) (t .k) (roomOf (t .k) (t .n))
 passing s =
     let t = s .args .terms in
-    passes (given s) (s .args .query .now) (t .k) (roomOf (t .k) (t .n)) (s .pre .0)
+    passes (given s) (asked s) (t .k) (roomOf (t .k) (t .n)) (s .pre .0)
 
 few : (s : tie.Start) → s .args .terms .n ≤ maxVectors
 few s = between 1 (s .args .terms .n) maxVectors (passing s .count) .below
@@ -41,7 +43,7 @@ few-neighbours : (s : tie.Start) → s .args .terms .k ≤ maxNeighbours
 few-neighbours s = neighbours (s .args .terms .n) (s .args .terms .k) (passing s .count) (passing s .neighbours) .few
 
 -- the lines of what was found, and that its numbers are those of settings
-module _ (l : Index) (query : List ℤ) (k n reads : ℕ) {f : Found} {old new : List ℕ}
+module _ (l : Index) (query : Query) (k n reads : ℕ) {f : Found} {old new : List ℕ}
     (accepted : first (searchCauses l query k (roomOf k n)) ≡ Accepted) (same : reads ≡ n)
     (found : Searches (first (searchCauses l query k (roomOf k reads))) l query k f old new) where
   held : first (searchCauses l query k (roomOf k reads)) ≡ Accepted
@@ -65,12 +67,12 @@ start c = c .before .before .before .before .before .before .before .before
 
 text-is : (c : tie.After-read-count) → let a = start c .args in let found = c .before .before .before .nearest-by-bounds in
     linesOf (a .settings .now) (a .terms .k) (c .read-count .result) (pairsIn (take (a .terms .k) (found .result .entries)))
-    ≡ answerLines (a .settings .now) (a .terms .k) (searched (given (start c)) (a .query .now) (a .terms .k))
+    ≡ answerLines (a .settings .now) (a .terms .k) (searched (given (start c)) (asked (start c)) (a .terms .k))
 text-is c =
     let s = start c in
     let t = s .args .terms in
     let found = c .before .before .before .nearest-by-bounds in
-    lines-are (given s) (s .args .query .now) (t .k) (t .n) _ (s .pre .0) (length-take-le _ _ (few s)) (found .ensures) (s .args .settings .now)
+    lines-are (given s) (asked s) (t .k) (t .n) _ (s .pre .0) (length-take-le _ _ (few s)) (found .ensures) (s .args .settings .now)
     (c .read-count .ensures)
 
 put-answer-requires : tie.Need-put-answer-requires
@@ -79,7 +81,7 @@ put-answer-requires c κs =
     let s = start count in
     let t = s .args .terms in
     let found = count .before .before .before .nearest-by-bounds in (
-      listed (given s) (s .args .query .now) (t .k) (t .n) _ (s .pre .0) (length-take-le _ _ (few s)) (found .ensures)
+      listed (given s) (asked s) (t .k) (t .n) _ (s .pre .0) (length-take-le _ _ (few s)) (found .ensures)
           (s .args .settings .now) (few-neighbours s) (s .pre .1 .0),
       rw (text-is count) (s .pre .1 .1),
     )
