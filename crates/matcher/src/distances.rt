@@ -20,8 +20,7 @@ pub extern "C" fn matcher_distance(query: &[i32], vector: &[i32], distance: &mut
     c_answers::put_distance(distance::measure(query, vector), distance)
 }
 
-// The least and the greatest distance of each of n codes' cells from a query, in a buffer each, over the dimensions that the presence word
-// names.
+// The least and the greatest distance of each of n codes' cells from a query over the dimensions that are present, in a buffer each.
 #[no_mangle]
 pub extern "C" fn matcher_bounds(
     d: usize,

@@ -11,7 +11,7 @@ ghost use Rattle.search.specs.Search.{searched, searchCauses};
 ghost use Rattle.search.specs.Answer.{searchEntries, searchReads};
 ghost use Rattle.search.specs.Ready.{indexOf, queryOf, termsOf, roomOf};
 
-// The k of n vectors that are nearest to a query, by all their distances over the dimensions that the presence word names.
+// The k of n vectors that are nearest to a query, by all their distances over the dimensions that are present.
 #[no_mangle]
 pub extern "C" fn matcher_scan(
     d: usize,

@@ -87,22 +87,25 @@ stayed = (
       stay-dropped (plain (λ _. usize)) yes,
       (
         stay-dropped (plain (λ _. usize)) yes,
-        (stay-dropped (plain (λ _. u32)) yes, (
-          stay-dropped (shrSliceOf (0 ∷ []) tt (plain (λ _. i32))) yes,
+        (
+          stay-dropped (plain (λ _. u32)) yes,
           (
-            stay-dropped (shrSliceOf (1 ∷ []) tt (plain (λ _. i32))) yes,
+            stay-dropped (shrSliceOf (0 ∷ []) tt (plain (λ _. i32))) yes,
             (
-              stay-dropped (shrSliceOf (2 ∷ []) tt (plain (λ _. u8))) yes,
+              stay-dropped (shrSliceOf (1 ∷ []) tt (plain (λ _. i32))) yes,
               (
-                stay-dropped (shrSliceOf (3 ∷ []) tt (plain (λ _. i32))) yes,
+                stay-dropped (shrSliceOf (2 ∷ []) tt (plain (λ _. u8))) yes,
                 (
-                  gave-slice (4 ∷ []) tt (plain (λ _. R)),
-                  (gave-slice (5 ∷ []) tt (plain (λ _. u32)), (gave-ref (6 ∷ []) tt (plain (λ _. usize)), tt)),
+                  stay-dropped (shrSliceOf (3 ∷ []) tt (plain (λ _. i32))) yes,
+                  (
+                    gave-slice (4 ∷ []) tt (plain (λ _. R)),
+                    (gave-slice (5 ∷ []) tt (plain (λ _. u32)), (gave-ref (6 ∷ []) tt (plain (λ _. usize)), tt)),
+                  ),
                 ),
               ),
             ),
           ),
-        )),
+        ),
       ),
     ),
   ),
@@ -119,8 +122,8 @@ module _ {M : Type 1} (𝓤 : URA M) (H : Heap 𝓤) (A : Atoms 𝓤) (mem : Mem
 module _ {M : Type 1} (𝓤 : URA M) (H : Heap 𝓤) (A : Atoms 𝓤) (W : Given 𝓤 H A) (mem : Memory → SProp 𝓤) (run : Routine → Fun 𝓤)
     (κ-query κ-marks κ-codes κ-vectors κ-entries κ-reads κ-count : Lft)
     (q-query q-marks q-codes q-vectors q-entries q-reads q-count : Share) (d : ℕ) (b : ℕ) (n : ℕ) (k : ℕ) (word : ℕ)
-    (query : RefT (List ℤ)) (marks : RefT (List ℤ)) (codes : RefT (List ℕ)) (vectors : RefT (List ℤ)) (entries : RefT (List Entry)) (reads : RefT (List ℕ))
-    (count : RefT ℕ) where
+    (query : RefT (List ℤ)) (marks : RefT (List ℤ)) (codes : RefT (List ℕ)) (vectors : RefT (List ℤ)) (entries : RefT (List Entry))
+    (reads : RefT (List ℕ)) (count : RefT ℕ) where
   -- the parameters' machine values
   abbrev at : Vals face.signature (κ-query, (κ-marks, (κ-codes, (κ-vectors, (κ-entries, (κ-reads, (κ-count, tt)))))))
   at = (
@@ -220,8 +223,8 @@ module _ {M : Type 1} (𝓤 : URA M) (H : Heap 𝓤) (A : Atoms 𝓤) (W : Given
       (tt, (tt, (tt, (tt, (tt, (tt, (tt, (tt, (tt, (zs, (rs, (w, tt))))))))))))
       (tt, (tt, (tt, (tt, (tt, (tt, (tt, (tt, (tt, (size, (size-reads, (tt, tt))))))))))))) $ says ! claim $
       nothing ! $ move ! (5 ∷ 6 ∷ 7 ∷ 8 ∷ 9 ∷ 10 ∷ 11 ∷ 0 ∷ []) $ group ! 8 $ frame ! $ nothing ! $ nothing ! $ nothing ! $ nothing ! $
-      nothing ! $ nothing ! $ nothing ! $
-      nothing ! $ nothing ! $ nothing ! $ move ! (9 ∷ 8 ∷ 7 ∷ 6 ∷ 5 ∷ 4 ∷ 3 ∷ 2 ∷ 1 ∷ 10 ∷ 11 ∷ 12 ∷ 0 ∷ []) $ group ! 13 $ frame ! $ done !
+      nothing ! $ nothing ! $ nothing ! $ nothing ! $ nothing ! $ nothing ! $
+      move ! (9 ∷ 8 ∷ 7 ∷ 6 ∷ 5 ∷ 4 ∷ 3 ∷ 2 ∷ 1 ∷ 10 ∷ 11 ∷ 12 ∷ 0 ∷ []) $ group ! 13 $ frame ! $ done !
 
   abbrev lfts : Lfts (core.signature .lifetimes)
   lfts = (κ-query, (κ-marks, (κ-codes, (κ-vectors, (κ-entries, (κ-reads, tt))))))
@@ -267,14 +270,15 @@ module _ {M : Type 1} (𝓤 : URA M) (H : Heap 𝓤) (A : Atoms 𝓤) (W : Given
 
   module _ (𝓣 : Tables 𝓤 H) (known-core : Triple 𝓤 (𝓣 .C #core) (Core 𝓤 H A mem run))
       (known-number : Triple 𝓤 (𝓣 .C #number) (Number 𝓤 H A mem run)) (fits-d : d < 2 ^ 64) (fits-b : b < 2 ^ 64) (fits-n : n < 2 ^ 64)
-      (fits-k : k < 2 ^ 64) (fits-word : word < 2 ^ 32) (room-query : Room i32 (length (now query))) (room-marks : Room i32 (length (now marks)))
-      (room-codes : Room u8 (length (now codes))) (room-vectors : Room i32 (length (now vectors)))
-      (room-entries : Room R (length (now entries))) (room-reads : Room u32 (length (now reads))) where
+      (fits-k : k < 2 ^ 64) (fits-word : word < 2 ^ 32) (room-query : Room i32 (length (now query)))
+      (room-marks : Room i32 (length (now marks))) (room-codes : Room u8 (length (now codes)))
+      (room-vectors : Room i32 (length (now vectors))) (room-entries : Room R (length (now entries)))
+      (room-reads : Room u32 (length (now reads))) where
     fm : FmC 𝓤 H (W .laws) (𝓣 .C)
     fm = fmOf 𝓤 H (W .laws) 𝓣
 
     terms-is : Is Terms-row terms (terms-val ∷ [])
-    terms-is = LL.owes Tm.the-type Tm′.the-laws terms 
+    terms-is = LL.owes Tm.the-type Tm′.the-laws terms
         ((refl, fits-d), ((refl, fits-b), ((refl, fits-n), ((refl, fits-k), ((refl, fits-word), tt)))))
 
     terms-made : Makes 𝓤 H A Terms-row (Is Terms-row)
@@ -287,9 +291,10 @@ module _ {M : Type 1} (𝓤 : URA M) (H : Heap 𝓤) (A : Atoms 𝓤) (W : Given
         (q-query, (q-marks, (q-codes, (q-vectors, (q-entries, (q-reads, (q-count, tt)))))))
         (d, (b, (n, (k, (word, (query, (marks, (codes, (vectors, (entries, (reads, (count, tt)))))))))))) at)
         (WpFn 𝓤 H (𝓣 .C) (𝓣 .Λ) code.function
-        (vint w64 d ∷ vint w64 b ∷ vint w64 n ∷ vint w64 k ∷ vint w32 word ∷ sliceVal (query .ptr) (length (now query)) ∷ sliceVal (marks .ptr)
-        (length (now marks)) ∷ sliceVal (codes .ptr) (length (now codes)) ∷ sliceVal (vectors .ptr) (length (now vectors)) ∷ sliceVal
-        (entries .ptr) (length (now entries)) ∷ sliceVal (reads .ptr) (length (now reads)) ∷ vptr (count .ptr .0) (count .ptr .1) ∷ [])
+        (vint w64 d ∷ vint w64 b ∷ vint w64 n ∷ vint w64 k ∷ vint w32 word ∷ sliceVal (query .ptr) (length (now query)) ∷ sliceVal
+        (marks .ptr) (length (now marks)) ∷ sliceVal (codes .ptr) (length (now codes)) ∷ sliceVal (vectors .ptr) (length (now vectors)) ∷
+        sliceVal (entries .ptr) (length (now entries)) ∷ sliceVal (reads .ptr) (length (now reads)) ∷ vptr (count .ptr .0)
+        (count .ptr .1) ∷ [])
         Post)
     walk =
         qed W ((‵ (flft κ-query q-query) ⊛
@@ -306,9 +311,10 @@ module _ {M : Type 1} (𝓤 : URA M) (H : Heap 𝓤) (A : Atoms 𝓤) (W : Given
         (MutSlice (named 5) κ-reads u32 .own reads (slice-vals reads)) ∷ ‵
         (MutRef (named 6) κ-count usize .own count (ptr-vals count)) ∷ ‵ ftrue ∷ []) ∵
         enter ! (𝓣 .C) (𝓣 .Λ) code.function
-        (vint w64 d ∷ vint w64 b ∷ vint w64 n ∷ vint w64 k ∷ vint w32 word ∷ sliceVal (query .ptr) (length (now query)) ∷ sliceVal (marks .ptr)
-        (length (now marks)) ∷ sliceVal (codes .ptr) (length (now codes)) ∷ sliceVal (vectors .ptr) (length (now vectors)) ∷ sliceVal
-        (entries .ptr) (length (now entries)) ∷ sliceVal (reads .ptr) (length (now reads)) ∷ vptr (count .ptr .0) (count .ptr .1) ∷ []) _ $
+        (vint w64 d ∷ vint w64 b ∷ vint w64 n ∷ vint w64 k ∷ vint w32 word ∷ sliceVal (query .ptr) (length (now query)) ∷ sliceVal
+        (marks .ptr) (length (now marks)) ∷ sliceVal (codes .ptr) (length (now codes)) ∷ sliceVal (vectors .ptr) (length (now vectors)) ∷
+        sliceVal (entries .ptr) (length (now entries)) ∷ sliceVal (reads .ptr) (length (now reads)) ∷ vptr (count .ptr .0)
+        (count .ptr .1) ∷ []) _ $
         alloc1 ! (λ l₀. alloc1 ! (λ l₁. alloc1 ! (λ l₂. alloc1 ! (λ l₃. alloc1 ! (λ l₄. alloc1 ! (λ l₅. alloc1 ! (λ l₆. alloc1 ! (λ l₇.
         alloc1 ! (λ l₈. alloc1 ! (λ l₉. alloc1 ! (λ l₁₀. alloc1 ! (λ l₁₁. alloc1 ! (λ l₁₂. alloc1 ! (λ l₁₃. alloc1 ! (λ l₁₄.
         alloc1 ! (λ l₁₅. alloc1 ! (λ l₁₆. alloc1 ! (λ l₁₇. alloc1 ! (λ l₁₈. alloc1 ! (λ l₁₉. alloc0 ! $ params1 ! $
@@ -429,22 +435,28 @@ module _ {M : Type 1} (𝓤 : URA M) (H : Heap 𝓤) (A : Atoms 𝓤) (W : Given
             uint-tells w64,
             (
               uint-tells w64,
-              (uint-tells w32, (
-                shr-slice-tells (named 0) (κs .0) i32,
+              (
+                uint-tells w32,
                 (
-                  shr-slice-tells (named 1) (κs .1 .0) i32,
+                  shr-slice-tells (named 0) (κs .0) i32,
                   (
-                    shr-slice-tells (named 2) (κs .1 .1 .0) u8,
+                    shr-slice-tells (named 1) (κs .1 .0) i32,
                     (
-                      shr-slice-tells (named 3) (κs .1 .1 .1 .0) i32,
+                      shr-slice-tells (named 2) (κs .1 .1 .0) u8,
                       (
-                        mut-slice-tells (named 4) (κs .1 .1 .1 .1 .0) R,
-                        (mut-slice-tells (named 5) (κs .1 .1 .1 .1 .1 .0) u32, (mut-tells (named 6) (κs .1 .1 .1 .1 .1 .1 .0) usize, tt)),
+                        shr-slice-tells (named 3) (κs .1 .1 .1 .0) i32,
+                        (
+                          mut-slice-tells (named 4) (κs .1 .1 .1 .1 .0) R,
+                          (
+                            mut-slice-tells (named 5) (κs .1 .1 .1 .1 .1 .0) u32,
+                            (mut-tells (named 6) (κs .1 .1 .1 .1 .1 .1 .0) usize, tt),
+                          ),
+                        ),
                       ),
                     ),
                   ),
                 ),
-              )),
+              ),
             ),
           ),
         ),
@@ -468,22 +480,25 @@ module _ {M : Type 1} (𝓤 : URA M) (H : Heap 𝓤) (A : Atoms 𝓤) (W : Given
         goes-dropped 𝓤 H A W 7 (plain (λ _. usize)) yes (λ κs y f. refl),
         (
           goes-dropped 𝓤 H A W 7 (plain (λ _. usize)) yes (λ κs y f. refl),
-          (goes-dropped 𝓤 H A W 7 (plain (λ _. u32)) yes (λ κs y f. refl), (
-            goes-dropped 𝓤 H A W 7 (shrSliceOf (0 ∷ []) tt (plain (λ _. i32))) yes (λ κs y f. refl),
+          (
+            goes-dropped 𝓤 H A W 7 (plain (λ _. u32)) yes (λ κs y f. refl),
             (
-              goes-dropped 𝓤 H A W 7 (shrSliceOf (1 ∷ []) tt (plain (λ _. i32))) yes (λ κs y f. refl),
+              goes-dropped 𝓤 H A W 7 (shrSliceOf (0 ∷ []) tt (plain (λ _. i32))) yes (λ κs y f. refl),
               (
-                goes-dropped 𝓤 H A W 7 (shrSliceOf (2 ∷ []) tt (plain (λ _. u8))) yes (λ κs y f. refl),
+                goes-dropped 𝓤 H A W 7 (shrSliceOf (1 ∷ []) tt (plain (λ _. i32))) yes (λ κs y f. refl),
                 (
-                  goes-dropped 𝓤 H A W 7 (shrSliceOf (3 ∷ []) tt (plain (λ _. i32))) yes (λ κs y f. refl),
+                  goes-dropped 𝓤 H A W 7 (shrSliceOf (2 ∷ []) tt (plain (λ _. u8))) yes (λ κs y f. refl),
                   (
-                    goes-gave-slice 𝓤 H A W 7 4 tt (plain (λ _. R)),
-                    (goes-gave-slice 𝓤 H A W 7 5 tt (plain (λ _. u32)), (goes-gave-ref 𝓤 H A W 7 6 tt (plain (λ _. usize)), tt)),
+                    goes-dropped 𝓤 H A W 7 (shrSliceOf (3 ∷ []) tt (plain (λ _. i32))) yes (λ κs y f. refl),
+                    (
+                      goes-gave-slice 𝓤 H A W 7 4 tt (plain (λ _. R)),
+                      (goes-gave-slice 𝓤 H A W 7 5 tt (plain (λ _. u32)), (goes-gave-ref 𝓤 H A W 7 6 tt (plain (λ _. usize)), tt)),
+                    ),
                   ),
                 ),
               ),
             ),
-          )),
+          ),
         ),
       ),
     ),
