@@ -3,16 +3,17 @@
 use distance::Distance;
 use loading::Loaded;
 use reading::Intake;
+use reading::Presence;
 use reading::Reading;
 use region::Lookup;
 use search::Searched;
 ghost use mathlib.Core.Path.{_≡_};
 ghost use Rattle.refusal.specs.Refusal.{verdictNumber};
-ghost use Rattle.reading.specs.Intake.{intakeOf};
+ghost use Rattle.reading.specs.Intake.{intakeOf, presenceOf};
 ghost use Rattle.region.specs.Lookup.{lookupNumber};
 ghost use Rattle.distance.specs.Measured.{distanceNumber};
 ghost use Rattle.search.specs.Answer.{searchedNumber, searchedCount};
-ghost use Rattle.c_answers.specs.Answered.{Answered, regionOr, distanceOr};
+ghost use Rattle.c_answers.specs.Answered.{Answered, AnsweredPresence, regionOr, distanceOr};
 
 // Takes a reading in, and puts its component into a place.
 pub fn put_component(reading: Reading, place: &mut i32) -> u32
@@ -24,6 +25,25 @@ pub fn put_component(reading: Reading, place: &mut i32) -> u32
             0
         }
         Intake::Refused(cause) => cause.number(),
+    }
+}
+
+// Takes a reading in by the second intake, and puts its component, 0 where it is absent, and whether it is present into two places.
+pub fn put_presence(reading: Reading, component: &mut i32, present: &mut u32) -> u32
+    ensures { λ r. ⌜ AnsweredPresence (presenceOf reading) r (now (component .entry)) (now (component .exit)) (now (present .exit)) ⌝ }
+{
+    *present = 0;
+    match reading.presence() {
+        Presence::Present(z) => {
+            *component = z;
+            *present = 1;
+            0
+        }
+        Presence::Absent => {
+            *component = 0;
+            0
+        }
+        Presence::Refused(cause) => cause.number(),
     }
 }
 
