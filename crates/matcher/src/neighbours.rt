@@ -9,24 +9,25 @@ ghost use Rattle.refusal.specs.First.{first, outcome};
 ghost use Rattle.scan.specs.Scanning.{scanTerms, scanCauses, scannedEntries};
 ghost use Rattle.search.specs.Search.{searched, searchCauses};
 ghost use Rattle.search.specs.Answer.{searchEntries, searchReads};
-ghost use Rattle.search.specs.Ready.{indexOf, termsOf, roomOf};
+ghost use Rattle.search.specs.Ready.{indexOf, queryOf, termsOf, roomOf};
 
-// The k of n vectors that are nearest to a query, by all their distances.
+// The k of n vectors that are nearest to a query, by all their distances over the dimensions that are present.
 #[no_mangle]
 pub extern "C" fn matcher_scan(
     d: usize,
     n: usize,
     k: usize,
+    word: u32,
     query: &[i32],
     vectors: &[i32],
     entries: &mut [Entry],
 ) -> u32
-    ensures { λ r. let t = scanTerms d n k in
+    ensures { λ r. let t = scanTerms d n k word in
         let v = first (scanCauses t (now (query .entry)) (now (vectors .entry)) (length (now (entries .entry)))) in
         ⌜ (r ≡ verdictNumber v) × (now (entries .exit) ≡ scannedEntries v t (now (query .entry)) (now (vectors .entry))
         (now (entries .entry))) ⌝ }
 {
-    let terms = ScanTerms { d, n, k };
+    let terms = ScanTerms { d, n, k, word };
     let verdict = nearest::scan(terms, query, vectors, entries);
     verdict.number()
 }
@@ -38,6 +39,7 @@ pub extern "C" fn matcher_search(
     b: usize,
     n: usize,
     k: usize,
+    word: u32,
     query: &[i32],
     marks: &[i32],
     codes: &[u8],
@@ -46,14 +48,16 @@ pub extern "C" fn matcher_search(
     reads: &mut [u32],
     count: &mut usize,
 ) -> u32
-    ensures { λ r. let l = indexOf (termsOf d b n k) (now (marks .entry)) (now (codes .entry)) (now (vectors .entry)) in
-        let v = first (searchCauses l (now (query .entry)) k (roomOf (length (now (entries .entry))) (length (now (reads .entry))))) in
+    ensures { λ r. let t = termsOf d b n k word in
+        let l = indexOf t (now (marks .entry)) (now (codes .entry)) (now (vectors .entry)) in
+        let q = queryOf t (now (query .entry)) in
+        let v = first (searchCauses l q k (roomOf (length (now (entries .entry))) (length (now (reads .entry))))) in
         ⌜ (r ≡ verdictNumber v)
-        × (now (count .exit) ≡ outcome v (length (searched l (now (query .entry)) k .reads)) (λ _. 0))
-        × (now (entries .exit) ≡ searchEntries v l (now (query .entry)) k (now (entries .entry)))
-        × (now (reads .exit) ≡ searchReads v l (now (query .entry)) k (now (reads .entry))) ⌝ }
+        × (now (count .exit) ≡ outcome v (length (searched l q k .reads)) (λ _. 0))
+        × (now (entries .exit) ≡ searchEntries v l q k (now (entries .entry)))
+        × (now (reads .exit) ≡ searchReads v l q k (now (reads .entry))) ⌝ }
 {
-    let terms = Terms { d, b, n, k };
+    let terms = Terms { d, b, n, k, word };
     let answer = nearest::search(terms, query, marks, codes, vectors, entries, reads);
     c_answers::put_read_count(answer, count)
 }

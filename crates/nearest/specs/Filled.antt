@@ -14,6 +14,7 @@ use Rattle.refusal.specs.declared.Verdict.{Verdict}
 use Rattle.refusal.specs.declared.Verdict.the-variants.{Accepted, Refused}
 use Rattle.refusal.specs.First.{first, outcome}
 use Rattle.limits.specs.Limits.{maxNeighbours}
+use Rattle.presence.specs.Presence.{factorsOf}
 use Rattle.order.specs.Pair.{countFrom}
 use Rattle.order.specs.Counted.{counted-length}
 use Rattle.selection.specs.Scan.{scan-length}
@@ -24,7 +25,7 @@ use Rattle.scan.specs.declared.ScanTerms.{ScanTerms}
 use Rattle.scan.specs.Scanning.{distancesOf, scanAnswer, scanCauses}
 use Rattle.scan.specs.Scanned.{scannable}
 use Rattle.search.specs.Answer.{foundCount, searchAnswer}
-use Rattle.search.specs.Search.{Index, searched}
+use Rattle.search.specs.Search.{Index, Query, searched}
 use Rattle.search.specs.Ready.{roomOf}
 use Rattle.search.specs.Accepted.{Accepts, passes, lengths-told, best-few, best-size}
 
@@ -101,14 +102,14 @@ pub scan-fits : (t : ScanTerms) (query vectors : List ℤ) (entries : ℕ) → f
     → Fits (entriesOf (scanAnswer t query vectors)) (t .k) entries
 scan-fits t query vectors entries accepted =
     let is = scannable t query vectors entries accepted in
-    let length-is = scan-length (t .k) (distancesOf (t .d) query vectors) (countFrom 0 (t .n)) in
+    let length-is = scan-length (t .k) (distancesOf (t .d) (factorsOf (t .word)) query vectors) (countFrom 0 (t .n)) in
     record {
       size = entries-length (scanAnswer t query vectors) ∙ omega (arith, length-is, counted-length 0 (t .n), is .among .enough);
       room = is .room;
       few = is .among .few;
     }
 
-pub search-fits : (l : Index) (query : List ℤ) (k entries reads : ℕ) → Accepts l query k (roomOf entries reads)
+pub search-fits : (l : Index) (query : Query) (k entries reads : ℕ) → Accepts l query k (roomOf entries reads)
     → Fits (entriesOf (searched l query k .best)) k entries
 search-fits l query k entries reads held =
     let room = roomOf entries reads in
@@ -119,6 +120,6 @@ search-fits l query k entries reads held =
     }
 
 -- the answer of a verdict on a search leaves as many to fill as the verdict
-pub found-outcome : (v : Verdict) (l : Index) (query : List ℤ) (k : ℕ) → foundCount (searchAnswer v l query k) k ≡ outcome v k (λ _. 0)
+pub found-outcome : (v : Verdict) (l : Index) (query : Query) (k : ℕ) → foundCount (searchAnswer v l query k) k ≡ outcome v k (λ _. 0)
 found-outcome Accepted l query k = refl
 found-outcome (Refused cause) l query k = refl

@@ -12,7 +12,7 @@ ghost use Rattle.refusal.specs.First.{first};
 ghost use Rattle.scan.specs.Scanning.{scanCauses, scannedEntries};
 ghost use Rattle.search.specs.Search.{searchCauses};
 ghost use Rattle.search.specs.Answer.{searchAnswer, searchEntries, searchReads};
-ghost use Rattle.search.specs.Ready.{indexOf, roomOf};
+ghost use Rattle.search.specs.Ready.{indexOf, queryOf, roomOf};
 
 // The k of n vectors that are nearest to a query of d components, nearest first, ties by lower number. The vectors stand in a row.
 pub fn scan(terms: ScanTerms, query: &[i32], vectors: &[i32], entries: &mut [Entry]) -> Verdict
@@ -38,11 +38,11 @@ pub fn search(
     reads: &mut [u32],
 ) -> Searched
     ensures { λ r. let l = indexOf terms (now (marks .entry)) (now (codes .entry)) (now (vectors .entry)) in
-        let v = first (searchCauses l (now (query .entry)) (terms .k)
-        (roomOf (length (now (entries .entry))) (length (now (reads .entry))))) in
-        ⌜ (r ≡ searchAnswer v l (now (query .entry)) (terms .k))
-        × (now (entries .exit) ≡ searchEntries v l (now (query .entry)) (terms .k) (now (entries .entry)))
-        × (now (reads .exit) ≡ searchReads v l (now (query .entry)) (terms .k) (now (reads .entry))) ⌝ }
+        let q = queryOf terms (now (query .entry)) in
+        let v = first (searchCauses l q (terms .k) (roomOf (length (now (entries .entry))) (length (now (reads .entry))))) in
+        ⌜ (r ≡ searchAnswer v l q (terms .k))
+        × (now (entries .exit) ≡ searchEntries v l q (terms .k) (now (entries .entry)))
+        × (now (reads .exit) ≡ searchReads v l q (terms .k) (now (reads .entry))) ⌝ }
 {
     let found = least_reading::nearest_by_bounds(
         terms,

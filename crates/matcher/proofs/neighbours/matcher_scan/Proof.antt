@@ -82,8 +82,11 @@ stayed = (
     (
       stay-dropped (plain (λ _. usize)) yes,
       (
-        stay-dropped (shrSliceOf (0 ∷ []) tt (plain (λ _. i32))) yes,
-        (stay-dropped (shrSliceOf (1 ∷ []) tt (plain (λ _. i32))) yes, (gave-slice (2 ∷ []) tt (plain (λ _. R)), tt)),
+        stay-dropped (plain (λ _. u32)) yes,
+        (
+          stay-dropped (shrSliceOf (0 ∷ []) tt (plain (λ _. i32))) yes,
+          (stay-dropped (shrSliceOf (1 ∷ []) tt (plain (λ _. i32))) yes, (gave-slice (2 ∷ []) tt (plain (λ _. R)), tt)),
+        ),
       ),
     ),
   ),
@@ -98,17 +101,20 @@ module _ {M : Type 1} (𝓤 : URA M) (H : Heap 𝓤) (A : Atoms 𝓤) (mem : Mem
   Number = tripleOf 𝓤 H A number.signature (number.spec 𝓤 H A mem run)
 
 module _ {M : Type 1} (𝓤 : URA M) (H : Heap 𝓤) (A : Atoms 𝓤) (W : Given 𝓤 H A) (mem : Memory → SProp 𝓤) (run : Routine → Fun 𝓤)
-    (κ-query κ-vectors κ-entries : Lft) (q-query q-vectors q-entries : Share) (d : ℕ) (n : ℕ) (k : ℕ) (query : RefT (List ℤ))
-    (vectors : RefT (List ℤ)) (entries : RefT (List Entry)) where
+    (κ-query κ-vectors κ-entries : Lft) (q-query q-vectors q-entries : Share) (d : ℕ) (n : ℕ) (k : ℕ) (word : ℕ)
+    (query : RefT (List ℤ)) (vectors : RefT (List ℤ)) (entries : RefT (List Entry)) where
   -- the lifetimes, the parameters and their machine values
   abbrev lfts : Lfts (face.signature .lifetimes)
   lfts = (κ-query, (κ-vectors, (κ-entries, tt)))
 
   abbrev given : Args face.signature lfts
-  given = (d, (n, (k, (query, (vectors, (entries, tt))))))
+  given = (d, (n, (k, (word, (query, (vectors, (entries, tt)))))))
 
   abbrev at : Vals face.signature lfts
-  at = (vint w64 d ∷ [], (vint w64 n ∷ [], (vint w64 k ∷ [], (slice-vals query, (slice-vals vectors, (slice-vals entries, tt))))))
+  at = (
+    vint w64 d ∷ [],
+    (vint w64 n ∷ [], (vint w64 k ∷ [], (vint w32 word ∷ [], (slice-vals query, (slice-vals vectors, (slice-vals entries, tt)))))),
+  )
 
   -- what the triple binds outside
   abbrev bound : walkOf 𝓤 H A face.ended stayed (face.clauses 𝓤 H A mem run) .Ghost
@@ -119,10 +125,10 @@ module _ {M : Type 1} (𝓤 : URA M) (H : Heap 𝓤) (A : Atoms 𝓤) (W : Given
 
   -- the numbers as one struct
   abbrev terms : ScanTerms
-  terms = scanTerms d n k
+  terms = scanTerms d n k word
 
   abbrev terms-val : Val
-  terms-val = vstruct (ofList (vint w64 d ∷ vint w64 n ∷ vint w64 k ∷ []))
+  terms-val = vstruct (ofList (vint w64 d ∷ vint w64 n ∷ vint w64 k ∷ vint w32 word ∷ []))
 
   abbrev verdict : Verdict
   verdict = first (scanCauses terms (now query) (now vectors) (length (now entries)))
@@ -148,10 +154,10 @@ module _ {M : Type 1} (𝓤 : URA M) (H : Heap 𝓤) (A : Atoms 𝓤) (W : Given
       → ent 𝓤 (⋆ 𝓤 H A (‵ (finally R (name entries) zs) ∷ ‵ (u32 .own m (u ∷ [])) ∷ Tokens ∷ [])) (Post u)
   exits m u zs size claim =
       qed W (‵ (finally R (name entries) zs) ∷ ‵ (u32 .own m (u ∷ [])) ∷ Tokens ∷ []) ∵
-      suffices ! _ (ends-at 𝓤 H A face.ended stayed (face.clauses 𝓤 H A mem run) W bound u m (tt, (tt, (tt, (tt, (tt, (zs, tt))))))
-      (tt, (tt, (tt, (tt, (tt, (size, tt))))))) $ says ! claim $
-      move ! (2 ∷ []) $ frame ! $ nothing ! $ nothing ! $ nothing ! $ nothing ! $ nothing ! $ nothing ! $
-      move ! (5 ∷ 4 ∷ 3 ∷ 2 ∷ 1 ∷ 6 ∷ 0 ∷ []) $ group ! 7 $ frame ! $ done !
+      suffices ! _ (ends-at 𝓤 H A face.ended stayed (face.clauses 𝓤 H A mem run) W bound u m
+      (tt, (tt, (tt, (tt, (tt, (tt, (zs, tt))))))) (tt, (tt, (tt, (tt, (tt, (tt, (size, tt)))))))) $ says ! claim $
+      move ! (2 ∷ []) $ frame ! $ nothing ! $ nothing ! $ nothing ! $ nothing ! $ nothing ! $ nothing ! $ nothing ! $
+      move ! (6 ∷ 5 ∷ 4 ∷ 3 ∷ 2 ∷ 1 ∷ 7 ∷ 0 ∷ []) $ group ! 8 $ frame ! $ done !
 
   -- ---- what each callee is passed
   abbrev passed-given : Args core.signature lfts
@@ -185,13 +191,13 @@ module _ {M : Type 1} (𝓤 : URA M) (H : Heap 𝓤) (A : Atoms 𝓤) (W : Given
 
   module _ (𝓣 : Tables 𝓤 H) (known-core : Triple 𝓤 (𝓣 .C #core) (Core 𝓤 H A mem run))
       (known-number : Triple 𝓤 (𝓣 .C #number) (Number 𝓤 H A mem run)) (fits-d : d < 2 ^ 64) (fits-n : n < 2 ^ 64) (fits-k : k < 2 ^ 64)
-      (room-query : Room i32 (length (now query))) (room-vectors : Room i32 (length (now vectors)))
+      (fits-word : word < 2 ^ 32) (room-query : Room i32 (length (now query))) (room-vectors : Room i32 (length (now vectors)))
       (room-entries : Room R (length (now entries))) where
     fm : FmC 𝓤 H (W .laws) (𝓣 .C)
     fm = fmOf 𝓤 H (W .laws) 𝓣
 
     terms-is : Is Terms-row terms (terms-val ∷ [])
-    terms-is = LL.owes Tm.the-type Tm′.the-laws terms ((refl, fits-d), ((refl, fits-n), ((refl, fits-k), tt)))
+    terms-is = LL.owes Tm.the-type Tm′.the-laws terms ((refl, fits-d), ((refl, fits-n), ((refl, fits-k), ((refl, fits-word), tt))))
 
     terms-made : Makes 𝓤 H A Terms-row (Is Terms-row)
     terms-made = LL.makes Tm.the-type Tm′.the-plain 𝓤 H A
@@ -200,27 +206,31 @@ module _ {M : Type 1} (𝓤 : URA M) (H : Heap 𝓤) (A : Atoms 𝓤) (W : Given
     terms-typed = LL.lawful Tm.the-type Tm′.the-laws 𝓤 H A W .typed terms _ terms-is .0
 
     walk : ent 𝓤 (onEntry 𝓤 H A face.signature (κ-query, (κ-vectors, (κ-entries, tt))) (q-query, (q-vectors, (q-entries, tt)))
-        (d, (n, (k, (query, (vectors, (entries, tt)))))) at)
+        (d, (n, (k, (word, (query, (vectors, (entries, tt))))))) at)
         (WpFn 𝓤 H (𝓣 .C) (𝓣 .Λ) code.function
-        (vint w64 d ∷ vint w64 n ∷ vint w64 k ∷ sliceVal (query .ptr) (length (now query)) ∷ sliceVal (vectors .ptr)
+        (vint w64 d ∷ vint w64 n ∷ vint w64 k ∷ vint w32 word ∷ sliceVal (query .ptr) (length (now query)) ∷ sliceVal (vectors .ptr)
         (length (now vectors)) ∷ sliceVal (entries .ptr) (length (now entries)) ∷ []) Post)
     walk =
         qed W (Tokens ∷ ‵ (usize .own d (vint w64 d ∷ [])) ∷ ‵ (usize .own n (vint w64 n ∷ [])) ∷ ‵ (usize .own k (vint w64 k ∷ [])) ∷ ‵
+        (u32 .own word (vint w32 word ∷ [])) ∷ ‵
         (ShrSlice (named 0) κ-query i32 .own query (slice-vals query)) ∷ ‵
         (ShrSlice (named 1) κ-vectors i32 .own vectors (slice-vals vectors)) ∷ ‵
         (MutSlice (named 2) κ-entries R .own entries (slice-vals entries)) ∷ ‵ ftrue ∷ []) ∵
         enter ! (𝓣 .C) (𝓣 .Λ) code.function
-        (vint w64 d ∷ vint w64 n ∷ vint w64 k ∷ sliceVal (query .ptr) (length (now query)) ∷ sliceVal (vectors .ptr)
+        (vint w64 d ∷ vint w64 n ∷ vint w64 k ∷ vint w32 word ∷ sliceVal (query .ptr) (length (now query)) ∷ sliceVal (vectors .ptr)
         (length (now vectors)) ∷ sliceVal (entries .ptr) (length (now entries)) ∷ []) _ $
         alloc1 ! (λ l₀. alloc1 ! (λ l₁. alloc1 ! (λ l₂. alloc1 ! (λ l₃. alloc1 ! (λ l₄. alloc1 ! (λ l₅. alloc1 ! (λ l₆. alloc1 ! (λ l₇.
-        alloc1 ! (λ l₈. alloc1 ! (λ l₉. alloc1 ! (λ l₁₀. alloc0 ! $ params1 ! $ pass1 ! (init ! 18 refl (tt, record { fits = fits-d })) $
-        pass1 ! (init ! 16 refl (tt, record { fits = fits-n })) $ pass1 ! (init ! 14 refl (tt, record { fits = fits-k })) $
+        alloc1 ! (λ l₈. alloc1 ! (λ l₉. alloc1 ! (λ l₁₀. alloc1 ! (λ l₁₁. alloc0 ! $ params1 ! $
+        pass1 ! (init ! 20 refl (tt, record { fits = fits-d })) $
+        pass1 ! (init ! 18 refl (tt, record { fits = fits-n })) $ pass1 ! (init ! 16 refl (tt, record { fits = fits-k })) $
+        pass1 ! (init ! 14 refl (tt, record { fits = fits-word })) $
         pass1 ! (init ! 12 refl (tt, (tt, (record { fits = room-query .0 }, tt)))) $
         pass1 ! (init ! 10 refl (tt, (tt, (record { fits = room-vectors .0 }, tt)))) $
         pass1 ! (init ! 8 refl (tt, (tt, (record { fits = room-entries .0 }, tt)))) $ pass0 ! $
         -- what the core is passed
-        assigns ! (agg ! (and-then ! (load ! (from ! (stop !)) (look ! 18 refl)) (and-then ! (load ! (from ! (stop !)) (look ! 16
-        refl)) (and-then ! (load ! (from ! (stop !)) (look ! 14 refl)) (no-more !))))) (from ! (stop !)) (init ! 6 refl terms-typed) $
+        assigns ! (agg ! (and-then ! (load ! (from ! (stop !)) (look ! 20 refl)) (and-then ! (load ! (from ! (stop !)) (look ! 18
+        refl)) (and-then ! (load ! (from ! (stop !)) (look ! 16 refl)) (and-then ! (load ! (from ! (stop !)) (look ! 14 refl)) (no-more
+        !)))))) (from ! (stop !)) (init ! 6 refl terms-typed) $
         assigns ! (addr ! (from ! (fld ! refl (hop ! (look-in ! 8 (sub ! 0 refl (whole !))) (stop !))))) (from ! (stop !)) (init ! 2
         refl (tt, tt)) $
         assigns ! (agg ! (and-then ! (load ! (from ! (stop !)) (look ! 2 refl)) (and-then ! (load ! (from ! (fld ! refl (stop !)))
@@ -237,8 +247,8 @@ module _ {M : Type 1} (𝓤 : URA M) (H : Heap 𝓤) (A : Atoms 𝓤) (W : Given
             ),
           ),
         )) $
-        move ! (22 ∷ []) $ split ! $ move ! (1 ∷ []) $ split ! $ move ! (1 ∷ []) $ split ! $ move ! (1 ∷ []) $ drop ! $ nothing ! $
-        nothing ! $ owned ! Terms-row (Is Terms-row) terms-made terms _ terms-is $ move ! (0 ∷ 31 ∷ 32 ∷ 33 ∷ 2 ∷ []) $ group ! 5 $
+        move ! (24 ∷ []) $ split ! $ move ! (1 ∷ []) $ split ! $ move ! (1 ∷ []) $ split ! $ move ! (1 ∷ []) $ drop ! $ nothing ! $
+        nothing ! $ owned ! Terms-row (Is Terms-row) terms-made terms _ terms-is $ move ! (0 ∷ 34 ∷ 35 ∷ 36 ∷ 2 ∷ []) $ group ! 5 $
         move ! (4 ∷ 3 ∷ 2 ∷ 1 ∷ []) $ group ! 4 $ join ! $ use1 W (raw (Core 𝓤 H A mem run .pre to)) (asked) $
         calls-at ! fm (Core 𝓤 H A mem run) known-core to
         (and-then ! (load ! (from ! (stop !)) (look ! 7 refl)) (and-then ! (load ! (from ! (stop !)) (look ! 13 refl)) (and-then !
@@ -260,22 +270,22 @@ module _ {M : Type 1} (𝓤 : URA M) (H : Heap 𝓤) (A : Atoms 𝓤) (W : Given
         ‵ (lasts number.ended lfts-number (given-number r) vs) ⊛ raw (fact 𝓤 (Numbered r m)))))) (id⊢ 𝓤 _) $ await ! tt $ pick ! (λ m.
         split ! $ move ! (1 ∷ []) $ pick ! (λ vs. split ! $ move ! (1 ∷ []) $ heard ! (Numbered r m) (λ e₂. drop ! $ split ! $ drop ! $
         peeks ! u32 (Is u32) (shows 𝓤 H A u32) m (u₂ ∷ []) (λ is₂.
-        land ! (from ! (stop !)) (init ! 25 refl (uint-lawful 𝓤 H A W w32 .typed m _ is₂ .0)) $ returns ! (look ! 25 refl) $
-        forget ! 5 refl $ forget ! 7 refl $ forget ! 9 refl $ forget ! 11 refl $ forget ! 13 refl $ forget ! 15 refl $
-        forget ! 17 refl $ forget ! 19 refl $ forget ! 21 refl $ forget ! 23 refl $ forget ! 25 refl $
-        move ! (25 ∷ 26 ∷ []) $ free1 ! $ move ! (23 ∷ 24 ∷ []) $ free1 ! $ move ! (21 ∷ 22 ∷ []) $ free1 ! $ move ! (19 ∷ 20 ∷ []) $
-        free1 ! $ move ! (17 ∷ 18 ∷ []) $ free1 ! $ move ! (15 ∷ 16 ∷ []) $ free1 ! $ move ! (13 ∷ 14 ∷ []) $ free1 ! $
-        move ! (11 ∷ 12 ∷ []) $ free1 ! $ move ! (9 ∷ 10 ∷ []) $ free1 ! $ move ! (7 ∷ 8 ∷ []) $ free1 ! $ move ! (5 ∷ 6 ∷ []) $
-        free1 ! $ free0 ! $
+        land ! (from ! (stop !)) (init ! 27 refl (uint-lawful 𝓤 H A W w32 .typed m _ is₂ .0)) $ returns ! (look ! 27 refl) $
+        forget ! 5 refl $ forget ! 7 refl $ forget ! 9 refl $ forget ! 11 refl $ forget ! 13 refl $ forget ! 15 refl $ forget ! 17 refl $
+        forget ! 19 refl $ forget ! 21 refl $ forget ! 23 refl $ forget ! 25 refl $ forget ! 27 refl $
+        move ! (27 ∷ 28 ∷ []) $ free1 ! $ move ! (25 ∷ 26 ∷ []) $ free1 ! $ move ! (23 ∷ 24 ∷ []) $ free1 ! $ move ! (21 ∷ 22 ∷ []) $
+        free1 ! $ move ! (19 ∷ 20 ∷ []) $ free1 ! $ move ! (17 ∷ 18 ∷ []) $ free1 ! $ move ! (15 ∷ 16 ∷ []) $ free1 ! $
+        move ! (13 ∷ 14 ∷ []) $ free1 ! $ move ! (11 ∷ 12 ∷ []) $ free1 ! $ move ! (9 ∷ 10 ∷ []) $ free1 ! $ move ! (7 ∷ 8 ∷ []) $
+        free1 ! $ move ! (5 ∷ 6 ∷ []) $ free1 ! $ free0 ! $
         nothing ! $ move ! (4 ∷ 3 ∷ 2 ∷ 0 ∷ []) $ group ! 4 $ keep ! (2 ∷ 1 ∷ 0 ∷ []) $
-        by ! (exits m u₂ (ws .1 .1 .1 .0) size (told r m (ws .1 .1 .1 .0) e e₂))))))))))))))))))))))))
+        by ! (exits m u₂ (ws .1 .1 .1 .0) size (told r m (ws .1 .1 .1 .0) e e₂)))))))))))))))))))))))))
 
 module _ {M : Type 1} (𝓤 : URA M) (H : Heap 𝓤) (A : Atoms 𝓤) (W : Given 𝓤 H A) (mem : Memory → SProp 𝓤) (run : Routine → Fun 𝓤)
     (𝓣 : Tables 𝓤 H) (known-core : Triple 𝓤 (𝓣 .C #core) (Core 𝓤 H A mem run))
     (known-number : Triple 𝓤 (𝓣 .C #number) (Number 𝓤 H A mem run)) where
   walks : Walks 𝓤 H A face.ended stayed (WpFn 𝓤 H (𝓣 .C) (𝓣 .Λ) code.function) (face.clauses 𝓤 H A mem run)
   walks = walked 𝓤 H A face.ended stayed (face.clauses 𝓤 H A mem run) (WpFn 𝓤 H (𝓣 .C) (𝓣 .Λ) code.function)
-      (λ κs. (uint-vals w64, (uint-vals w64, (uint-vals w64, (slice-vals, (slice-vals, (slice-vals, tt)))))))
+      (λ κs. (uint-vals w64, (uint-vals w64, (uint-vals w64, (uint-vals w32, (slice-vals, (slice-vals, (slice-vals, tt))))))))
       (λ κs. (
         uint-tells w64,
         (
@@ -283,16 +293,20 @@ module _ {M : Type 1} (𝓤 : URA M) (H : Heap 𝓤) (A : Atoms 𝓤) (W : Given
           (
             uint-tells w64,
             (
-              shr-slice-tells (named 0) (κs .0) i32,
-              (shr-slice-tells (named 1) (κs .1 .0) i32, (mut-slice-tells (named 2) (κs .1 .1 .0) R, tt)),
+              uint-tells w32,
+              (
+                shr-slice-tells (named 0) (κs .0) i32,
+                (shr-slice-tells (named 1) (κs .1 .0) i32, (mut-slice-tells (named 2) (κs .1 .1 .0) R, tt)),
+              ),
             ),
           ),
         ),
       ))
       (λ κs qs bounds a g are. via 𝓤 _ (fst∗ 𝓤 _ (emp 𝓤))
       (walk 𝓤 H A W mem run (κs .0) (κs .1 .0) (κs .1 .1 .0) (qs .0) (qs .1 .0) (qs .1 .1 .0) (a .0) (a .1 .0) (a .1 .1 .0)
-      (a .1 .1 .1 .0) (a .1 .1 .1 .1 .0) (a .1 .1 .1 .1 .1 .0) 𝓣 known-core known-number (are .0 .1) (are .1 .0 .1) (are .1 .1 .0 .1)
-      (are .1 .1 .1 .0 .0 .1) (are .1 .1 .1 .1 .0 .0 .1) (are .1 .1 .1 .1 .1 .0 .0 .1)))
+      (a .1 .1 .1 .0) (a .1 .1 .1 .1 .0) (a .1 .1 .1 .1 .1 .0) (a .1 .1 .1 .1 .1 .1 .0) 𝓣 known-core known-number (are .0 .1)
+      (are .1 .0 .1) (are .1 .1 .0 .1) (are .1 .1 .1 .0 .1) (are .1 .1 .1 .1 .0 .0 .1) (are .1 .1 .1 .1 .1 .0 .0 .1)
+      (are .1 .1 .1 .1 .1 .1 .0 .0 .1)))
 
   meets : Meets 𝓤 H A face.signature (WpFn 𝓤 H (𝓣 .C) (𝓣 .Λ) code.function) (face.spec 𝓤 H A mem run)
   meets = walk-meets 𝓤 H A face.ended stayed W (
@@ -302,10 +316,13 @@ module _ {M : Type 1} (𝓤 : URA M) (H : Heap 𝓤) (A : Atoms 𝓤) (W : Given
       (
         goes-dropped 𝓤 H A W 3 (plain (λ _. usize)) yes (λ κs y f. refl),
         (
-          goes-dropped 𝓤 H A W 3 (shrSliceOf (0 ∷ []) tt (plain (λ _. i32))) yes (λ κs y f. refl),
+          goes-dropped 𝓤 H A W 3 (plain (λ _. u32)) yes (λ κs y f. refl),
           (
-            goes-dropped 𝓤 H A W 3 (shrSliceOf (1 ∷ []) tt (plain (λ _. i32))) yes (λ κs y f. refl),
-            (goes-gave-slice 𝓤 H A W 3 2 tt (plain (λ _. R)), tt),
+            goes-dropped 𝓤 H A W 3 (shrSliceOf (0 ∷ []) tt (plain (λ _. i32))) yes (λ κs y f. refl),
+            (
+              goes-dropped 𝓤 H A W 3 (shrSliceOf (1 ∷ []) tt (plain (λ _. i32))) yes (λ κs y f. refl),
+              (goes-gave-slice 𝓤 H A W 3 2 tt (plain (λ _. R)), tt),
+            ),
           ),
         ),
       ),

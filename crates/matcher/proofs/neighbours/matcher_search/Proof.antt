@@ -47,11 +47,11 @@ use Rattle.refusal.specs.First.{first, outcome}
 use Rattle.search.specs.declared.Searched.{Searched}
 use Rattle.search.proofs.Searched as Ans
 use Rattle.search.proofs.Searched.Laws as Ans′
-use Rattle.search.specs.Search.{Index, searched, searchCauses}
+use Rattle.search.specs.Search.{Index, Query, searched, searchCauses}
 use Rattle.search.specs.declared.Terms.{Terms}
 use Rattle.search.proofs.Terms as Tm
 use Rattle.search.proofs.Terms.Laws as Tm′
-use Rattle.search.specs.Ready.{indexOf, termsOf, roomOf}
+use Rattle.search.specs.Ready.{indexOf, queryOf, termsOf, roomOf}
 use Rattle.search.specs.Answer.{searchedNumber, searchedCount, searchAnswer, searchEntries, searchReads}
 use Rattle.entries.specs.declared.Entry.{Entry}
 use Rattle.entries.proofs.Entry as S
@@ -88,16 +88,19 @@ stayed = (
       (
         stay-dropped (plain (λ _. usize)) yes,
         (
-          stay-dropped (shrSliceOf (0 ∷ []) tt (plain (λ _. i32))) yes,
+          stay-dropped (plain (λ _. u32)) yes,
           (
-            stay-dropped (shrSliceOf (1 ∷ []) tt (plain (λ _. i32))) yes,
+            stay-dropped (shrSliceOf (0 ∷ []) tt (plain (λ _. i32))) yes,
             (
-              stay-dropped (shrSliceOf (2 ∷ []) tt (plain (λ _. u8))) yes,
+              stay-dropped (shrSliceOf (1 ∷ []) tt (plain (λ _. i32))) yes,
               (
-                stay-dropped (shrSliceOf (3 ∷ []) tt (plain (λ _. i32))) yes,
+                stay-dropped (shrSliceOf (2 ∷ []) tt (plain (λ _. u8))) yes,
                 (
-                  gave-slice (4 ∷ []) tt (plain (λ _. R)),
-                  (gave-slice (5 ∷ []) tt (plain (λ _. u32)), (gave-ref (6 ∷ []) tt (plain (λ _. usize)), tt)),
+                  stay-dropped (shrSliceOf (3 ∷ []) tt (plain (λ _. i32))) yes,
+                  (
+                    gave-slice (4 ∷ []) tt (plain (λ _. R)),
+                    (gave-slice (5 ∷ []) tt (plain (λ _. u32)), (gave-ref (6 ∷ []) tt (plain (λ _. usize)), tt)),
+                  ),
                 ),
               ),
             ),
@@ -118,9 +121,9 @@ module _ {M : Type 1} (𝓤 : URA M) (H : Heap 𝓤) (A : Atoms 𝓤) (mem : Mem
 
 module _ {M : Type 1} (𝓤 : URA M) (H : Heap 𝓤) (A : Atoms 𝓤) (W : Given 𝓤 H A) (mem : Memory → SProp 𝓤) (run : Routine → Fun 𝓤)
     (κ-query κ-marks κ-codes κ-vectors κ-entries κ-reads κ-count : Lft)
-    (q-query q-marks q-codes q-vectors q-entries q-reads q-count : Share) (d : ℕ) (b : ℕ) (n : ℕ) (k : ℕ) (query : RefT (List ℤ))
-    (marks : RefT (List ℤ)) (codes : RefT (List ℕ)) (vectors : RefT (List ℤ)) (entries : RefT (List Entry)) (reads : RefT (List ℕ))
-    (count : RefT ℕ) where
+    (q-query q-marks q-codes q-vectors q-entries q-reads q-count : Share) (d : ℕ) (b : ℕ) (n : ℕ) (k : ℕ) (word : ℕ)
+    (query : RefT (List ℤ)) (marks : RefT (List ℤ)) (codes : RefT (List ℕ)) (vectors : RefT (List ℤ)) (entries : RefT (List Entry))
+    (reads : RefT (List ℕ)) (count : RefT ℕ) where
   -- the parameters' machine values
   abbrev at : Vals face.signature (κ-query, (κ-marks, (κ-codes, (κ-vectors, (κ-entries, (κ-reads, (κ-count, tt)))))))
   at = (
@@ -132,10 +135,13 @@ module _ {M : Type 1} (𝓤 : URA M) (H : Heap 𝓤) (A : Atoms 𝓤) (W : Given
         (
           vint w64 k ∷ [],
           (
-            slice-vals query,
+            vint w32 word ∷ [],
             (
-              slice-vals marks,
-              (slice-vals codes, (slice-vals vectors, (slice-vals entries, (slice-vals reads, (ptr-vals count, tt))))),
+              slice-vals query,
+              (
+                slice-vals marks,
+                (slice-vals codes, (slice-vals vectors, (slice-vals entries, (slice-vals reads, (ptr-vals count, tt))))),
+              ),
             ),
           ),
         ),
@@ -150,7 +156,7 @@ module _ {M : Type 1} (𝓤 : URA M) (H : Heap 𝓤) (A : Atoms 𝓤) (W : Given
       (κ-query, (κ-marks, (κ-codes, (κ-vectors, (κ-entries, (κ-reads, (κ-count, tt))))))),
       (q-query, (q-marks, (q-codes, (q-vectors, (q-entries, (q-reads, (q-count, tt))))))),
       tt,
-      (d, (b, (n, (k, (query, (marks, (codes, (vectors, (entries, (reads, (count, tt))))))))))),
+      (d, (b, (n, (k, (word, (query, (marks, (codes, (vectors, (entries, (reads, (count, tt)))))))))))),
       at,
     ),
     tt,
@@ -161,30 +167,33 @@ module _ {M : Type 1} (𝓤 : URA M) (H : Heap 𝓤) (A : Atoms 𝓤) (W : Given
 
   -- the numbers as one struct
   abbrev terms : Terms
-  terms = termsOf d b n k
+  terms = termsOf d b n k word
 
   abbrev terms-val : Val
-  terms-val = vstruct (ofList (vint w64 d ∷ vint w64 b ∷ vint w64 n ∷ vint w64 k ∷ []))
+  terms-val = vstruct (ofList (vint w64 d ∷ vint w64 b ∷ vint w64 n ∷ vint w64 k ∷ vint w32 word ∷ []))
 
   abbrev l : Index
   l = indexOf terms (now marks) (now codes) (now vectors)
 
+  abbrev asking : Query
+  asking = queryOf terms (now query)
+
   abbrev verdict : Verdict
-  verdict = first (searchCauses l (now query) k (roomOf (length (now entries)) (length (now reads))))
+  verdict = first (searchCauses l asking k (roomOf (length (now entries)) (length (now reads))))
 
   -- what each callee tells, and what that comes to
   abbrev Told : Searched → List Entry → List ℕ → Type 0
   Told r zs rs =
-      (r ≡ searchAnswer verdict l (now query) k) × (zs ≡ searchEntries verdict l (now query) k (now entries))
-      × (rs ≡ searchReads verdict l (now query) k (now reads))
+      (r ≡ searchAnswer verdict l asking k) × (zs ≡ searchEntries verdict l asking k (now entries))
+      × (rs ≡ searchReads verdict l asking k (now reads))
 
   abbrev Numbered : Searched → ℕ → ℕ → Type 0
   Numbered r m w = (m ≡ searchedNumber r) × (w ≡ searchedCount r)
 
   abbrev Claim : ℕ → List Entry → List ℕ → ℕ → Type 0
   Claim m zs rs w =
-      (m ≡ verdictNumber verdict) × (w ≡ outcome verdict (length (searched l (now query) k .reads)) (λ _. 0))
-      × (zs ≡ searchEntries verdict l (now query) k (now entries)) × (rs ≡ searchReads verdict l (now query) k (now reads))
+      (m ≡ verdictNumber verdict) × (w ≡ outcome verdict (length (searched l asking k .reads)) (λ _. 0))
+      × (zs ≡ searchEntries verdict l asking k (now entries)) × (rs ≡ searchReads verdict l asking k (now reads))
 
   -- the tokens that the core hands back
   abbrev Tokens : Item 𝓤
@@ -211,11 +220,11 @@ module _ {M : Type 1} (𝓤 : URA M) (H : Heap 𝓤) (A : Atoms 𝓤) (W : Given
       (u32 .own m (u ∷ [])) ∷ ‵ (flft κ-query q-query) ∷ ‵ (flft κ-marks q-marks) ∷ ‵ (flft κ-codes q-codes) ∷ ‵
       (flft κ-vectors q-vectors) ∷ ‵ (flft κ-entries q-entries) ∷ ‵ (flft κ-reads q-reads) ∷ ‵ (flft κ-count q-count) ∷ []) ∵
       suffices ! _ (ends-at 𝓤 H A face.ended stayed (face.clauses 𝓤 H A mem run) W bound u m
-      (tt, (tt, (tt, (tt, (tt, (tt, (tt, (tt, (zs, (rs, (w, tt)))))))))))
-      (tt, (tt, (tt, (tt, (tt, (tt, (tt, (tt, (size, (size-reads, (tt, tt)))))))))))) $ says ! claim $
+      (tt, (tt, (tt, (tt, (tt, (tt, (tt, (tt, (tt, (zs, (rs, (w, tt))))))))))))
+      (tt, (tt, (tt, (tt, (tt, (tt, (tt, (tt, (tt, (size, (size-reads, (tt, tt))))))))))))) $ says ! claim $
       nothing ! $ move ! (5 ∷ 6 ∷ 7 ∷ 8 ∷ 9 ∷ 10 ∷ 11 ∷ 0 ∷ []) $ group ! 8 $ frame ! $ nothing ! $ nothing ! $ nothing ! $ nothing ! $
-      nothing ! $ nothing ! $ nothing ! $
-      nothing ! $ nothing ! $ move ! (8 ∷ 7 ∷ 6 ∷ 5 ∷ 4 ∷ 3 ∷ 2 ∷ 1 ∷ 9 ∷ 10 ∷ 11 ∷ 0 ∷ []) $ group ! 12 $ frame ! $ done !
+      nothing ! $ nothing ! $ nothing ! $ nothing ! $ nothing ! $ nothing ! $
+      move ! (9 ∷ 8 ∷ 7 ∷ 6 ∷ 5 ∷ 4 ∷ 3 ∷ 2 ∷ 1 ∷ 10 ∷ 11 ∷ 12 ∷ 0 ∷ []) $ group ! 13 $ frame ! $ done !
 
   abbrev lfts : Lfts (core.signature .lifetimes)
   lfts = (κ-query, (κ-marks, (κ-codes, (κ-vectors, (κ-entries, (κ-reads, tt))))))
@@ -261,14 +270,16 @@ module _ {M : Type 1} (𝓤 : URA M) (H : Heap 𝓤) (A : Atoms 𝓤) (W : Given
 
   module _ (𝓣 : Tables 𝓤 H) (known-core : Triple 𝓤 (𝓣 .C #core) (Core 𝓤 H A mem run))
       (known-number : Triple 𝓤 (𝓣 .C #number) (Number 𝓤 H A mem run)) (fits-d : d < 2 ^ 64) (fits-b : b < 2 ^ 64) (fits-n : n < 2 ^ 64)
-      (fits-k : k < 2 ^ 64) (room-query : Room i32 (length (now query))) (room-marks : Room i32 (length (now marks)))
-      (room-codes : Room u8 (length (now codes))) (room-vectors : Room i32 (length (now vectors)))
-      (room-entries : Room R (length (now entries))) (room-reads : Room u32 (length (now reads))) where
+      (fits-k : k < 2 ^ 64) (fits-word : word < 2 ^ 32) (room-query : Room i32 (length (now query)))
+      (room-marks : Room i32 (length (now marks))) (room-codes : Room u8 (length (now codes)))
+      (room-vectors : Room i32 (length (now vectors))) (room-entries : Room R (length (now entries)))
+      (room-reads : Room u32 (length (now reads))) where
     fm : FmC 𝓤 H (W .laws) (𝓣 .C)
     fm = fmOf 𝓤 H (W .laws) 𝓣
 
     terms-is : Is Terms-row terms (terms-val ∷ [])
-    terms-is = LL.owes Tm.the-type Tm′.the-laws terms ((refl, fits-d), ((refl, fits-b), ((refl, fits-n), ((refl, fits-k), tt))))
+    terms-is = LL.owes Tm.the-type Tm′.the-laws terms
+        ((refl, fits-d), ((refl, fits-b), ((refl, fits-n), ((refl, fits-k), ((refl, fits-word), tt)))))
 
     terms-made : Makes 𝓤 H A Terms-row (Is Terms-row)
     terms-made = LL.makes Tm.the-type Tm′.the-plain 𝓤 H A
@@ -278,11 +289,12 @@ module _ {M : Type 1} (𝓤 : URA M) (H : Heap 𝓤) (A : Atoms 𝓤) (W : Given
 
     walk : ent 𝓤 (onEntry 𝓤 H A face.signature (κ-query, (κ-marks, (κ-codes, (κ-vectors, (κ-entries, (κ-reads, (κ-count, tt)))))))
         (q-query, (q-marks, (q-codes, (q-vectors, (q-entries, (q-reads, (q-count, tt)))))))
-        (d, (b, (n, (k, (query, (marks, (codes, (vectors, (entries, (reads, (count, tt))))))))))) at)
+        (d, (b, (n, (k, (word, (query, (marks, (codes, (vectors, (entries, (reads, (count, tt)))))))))))) at)
         (WpFn 𝓤 H (𝓣 .C) (𝓣 .Λ) code.function
-        (vint w64 d ∷ vint w64 b ∷ vint w64 n ∷ vint w64 k ∷ sliceVal (query .ptr) (length (now query)) ∷ sliceVal (marks .ptr)
-        (length (now marks)) ∷ sliceVal (codes .ptr) (length (now codes)) ∷ sliceVal (vectors .ptr) (length (now vectors)) ∷ sliceVal
-        (entries .ptr) (length (now entries)) ∷ sliceVal (reads .ptr) (length (now reads)) ∷ vptr (count .ptr .0) (count .ptr .1) ∷ [])
+        (vint w64 d ∷ vint w64 b ∷ vint w64 n ∷ vint w64 k ∷ vint w32 word ∷ sliceVal (query .ptr) (length (now query)) ∷ sliceVal
+        (marks .ptr) (length (now marks)) ∷ sliceVal (codes .ptr) (length (now codes)) ∷ sliceVal (vectors .ptr) (length (now vectors)) ∷
+        sliceVal (entries .ptr) (length (now entries)) ∷ sliceVal (reads .ptr) (length (now reads)) ∷ vptr (count .ptr .0)
+        (count .ptr .1) ∷ [])
         Post)
     walk =
         qed W ((‵ (flft κ-query q-query) ⊛
@@ -290,7 +302,8 @@ module _ {M : Type 1} (𝓤 : URA M) (H : Heap 𝓤) (A : Atoms 𝓤) (W : Given
         (‵ (flft κ-vectors q-vectors) ⊛
         (‵ (flft κ-entries q-entries) ⊛ (‵ (flft κ-reads q-reads) ⊛ (‵ (flft κ-count q-count) ⊛ ‵ ftrue))))))) ∷ ‵
         (usize .own d (vint w64 d ∷ [])) ∷ ‵ (usize .own b (vint w64 b ∷ [])) ∷ ‵ (usize .own n (vint w64 n ∷ [])) ∷ ‵
-        (usize .own k (vint w64 k ∷ [])) ∷ ‵ (ShrSlice (named 0) κ-query i32 .own query (slice-vals query)) ∷ ‵
+        (usize .own k (vint w64 k ∷ [])) ∷ ‵ (u32 .own word (vint w32 word ∷ [])) ∷ ‵
+        (ShrSlice (named 0) κ-query i32 .own query (slice-vals query)) ∷ ‵
         (ShrSlice (named 1) κ-marks i32 .own marks (slice-vals marks)) ∷ ‵
         (ShrSlice (named 2) κ-codes u8 .own codes (slice-vals codes)) ∷ ‵
         (ShrSlice (named 3) κ-vectors i32 .own vectors (slice-vals vectors)) ∷ ‵
@@ -298,14 +311,16 @@ module _ {M : Type 1} (𝓤 : URA M) (H : Heap 𝓤) (A : Atoms 𝓤) (W : Given
         (MutSlice (named 5) κ-reads u32 .own reads (slice-vals reads)) ∷ ‵
         (MutRef (named 6) κ-count usize .own count (ptr-vals count)) ∷ ‵ ftrue ∷ []) ∵
         enter ! (𝓣 .C) (𝓣 .Λ) code.function
-        (vint w64 d ∷ vint w64 b ∷ vint w64 n ∷ vint w64 k ∷ sliceVal (query .ptr) (length (now query)) ∷ sliceVal (marks .ptr)
-        (length (now marks)) ∷ sliceVal (codes .ptr) (length (now codes)) ∷ sliceVal (vectors .ptr) (length (now vectors)) ∷ sliceVal
-        (entries .ptr) (length (now entries)) ∷ sliceVal (reads .ptr) (length (now reads)) ∷ vptr (count .ptr .0) (count .ptr .1) ∷ []) _ $
+        (vint w64 d ∷ vint w64 b ∷ vint w64 n ∷ vint w64 k ∷ vint w32 word ∷ sliceVal (query .ptr) (length (now query)) ∷ sliceVal
+        (marks .ptr) (length (now marks)) ∷ sliceVal (codes .ptr) (length (now codes)) ∷ sliceVal (vectors .ptr) (length (now vectors)) ∷
+        sliceVal (entries .ptr) (length (now entries)) ∷ sliceVal (reads .ptr) (length (now reads)) ∷ vptr (count .ptr .0)
+        (count .ptr .1) ∷ []) _ $
         alloc1 ! (λ l₀. alloc1 ! (λ l₁. alloc1 ! (λ l₂. alloc1 ! (λ l₃. alloc1 ! (λ l₄. alloc1 ! (λ l₅. alloc1 ! (λ l₆. alloc1 ! (λ l₇.
         alloc1 ! (λ l₈. alloc1 ! (λ l₉. alloc1 ! (λ l₁₀. alloc1 ! (λ l₁₁. alloc1 ! (λ l₁₂. alloc1 ! (λ l₁₃. alloc1 ! (λ l₁₄.
-        alloc1 ! (λ l₁₅. alloc1 ! (λ l₁₆. alloc1 ! (λ l₁₇. alloc1 ! (λ l₁₈. alloc0 ! $ params1 ! $
-        pass1 ! (init ! 34 refl (tt, record { fits = fits-d })) $ pass1 ! (init ! 32 refl (tt, record { fits = fits-b })) $
-        pass1 ! (init ! 30 refl (tt, record { fits = fits-n })) $ pass1 ! (init ! 28 refl (tt, record { fits = fits-k })) $
+        alloc1 ! (λ l₁₅. alloc1 ! (λ l₁₆. alloc1 ! (λ l₁₇. alloc1 ! (λ l₁₈. alloc1 ! (λ l₁₉. alloc0 ! $ params1 ! $
+        pass1 ! (init ! 36 refl (tt, record { fits = fits-d })) $ pass1 ! (init ! 34 refl (tt, record { fits = fits-b })) $
+        pass1 ! (init ! 32 refl (tt, record { fits = fits-n })) $ pass1 ! (init ! 30 refl (tt, record { fits = fits-k })) $
+        pass1 ! (init ! 28 refl (tt, record { fits = fits-word })) $
         pass1 ! (init ! 26 refl (tt, (tt, (record { fits = room-query .0 }, tt)))) $
         pass1 ! (init ! 24 refl (tt, (tt, (record { fits = room-marks .0 }, tt)))) $
         pass1 ! (init ! 22 refl (tt, (tt, (record { fits = room-codes .0 }, tt)))) $
@@ -313,9 +328,9 @@ module _ {M : Type 1} (𝓤 : URA M) (H : Heap 𝓤) (A : Atoms 𝓤) (W : Given
         pass1 ! (init ! 18 refl (tt, (tt, (record { fits = room-entries .0 }, tt)))) $
         pass1 ! (init ! 16 refl (tt, (tt, (record { fits = room-reads .0 }, tt)))) $ pass1 ! (init ! 14 refl (tt, tt)) $ pass0 ! $
         -- what the core is passed
-        assigns ! (agg ! (and-then ! (load ! (from ! (stop !)) (look ! 34 refl)) (and-then ! (load ! (from ! (stop !)) (look ! 32
-        refl)) (and-then ! (load ! (from ! (stop !)) (look ! 30 refl)) (and-then ! (load ! (from ! (stop !)) (look ! 28 refl)) (no-more
-        !)))))) (from ! (stop !)) (init ! 12 refl terms-typed) $
+        assigns ! (agg ! (and-then ! (load ! (from ! (stop !)) (look ! 36 refl)) (and-then ! (load ! (from ! (stop !)) (look ! 34
+        refl)) (and-then ! (load ! (from ! (stop !)) (look ! 32 refl)) (and-then ! (load ! (from ! (stop !)) (look ! 30 refl)) (and-then
+        ! (load ! (from ! (stop !)) (look ! 28 refl)) (no-more !))))))) (from ! (stop !)) (init ! 12 refl terms-typed) $
         assigns ! (addr ! (from ! (fld ! refl (hop ! (look-in ! 18 (sub ! 0 refl (whole !))) (stop !))))) (from ! (stop !)) (init ! 8
         refl (tt, tt)) $
         assigns ! (agg ! (and-then ! (load ! (from ! (stop !)) (look ! 8 refl)) (and-then ! (load ! (from ! (fld ! refl (stop !)))
@@ -348,9 +363,9 @@ module _ {M : Type 1} (𝓤 : URA M) (H : Heap 𝓤) (A : Atoms 𝓤) (W : Given
             ),
           ),
         )) $
-        move ! (38 ∷ []) $ split ! $ move ! (1 ∷ []) $ split ! $ move ! (1 ∷ []) $ split ! $ move ! (1 ∷ []) $ split ! $ move ! (1 ∷ []) $
+        move ! (40 ∷ []) $ split ! $ move ! (1 ∷ []) $ split ! $ move ! (1 ∷ []) $ split ! $ move ! (1 ∷ []) $ split ! $ move ! (1 ∷ []) $
         split ! $ move ! (1 ∷ []) $ split ! $ move ! (1 ∷ []) $ split ! $ move ! (1 ∷ []) $ drop ! $ nothing ! $ nothing ! $
-        owned ! Terms-row (Is Terms-row) terms-made terms _ terms-is $ move ! (0 ∷ 52 ∷ 53 ∷ 54 ∷ 55 ∷ 56 ∷ 57 ∷ 2 ∷ []) $ group ! 8 $
+        owned ! Terms-row (Is Terms-row) terms-made terms _ terms-is $ move ! (0 ∷ 55 ∷ 56 ∷ 57 ∷ 58 ∷ 59 ∷ 60 ∷ 2 ∷ []) $ group ! 8 $
         move ! (8 ∷ 7 ∷ 6 ∷ 5 ∷ 4 ∷ 3 ∷ 1 ∷ []) $ group ! 7 $ join ! $ use1 W (raw (Core 𝓤 H A mem run .pre to)) (asked) $
         calls-at ! fm (Core 𝓤 H A mem run) known-core to
         (and-then ! (load ! (from ! (stop !)) (look ! 14 refl)) (and-then ! (load ! (from ! (stop !)) (look ! 28 refl)) (and-then !
@@ -369,7 +384,7 @@ module _ {M : Type 1} (𝓤 : URA M) (H : Heap 𝓤) (A : Atoms 𝓤) (W : Given
         land ! (from ! (stop !)) (init ! 20 refl (EL.lawful Ans.the-type Ans′.the-laws 𝓤 H A W tt .typed r _ is .0)) $
         -- the number
         assigns ! (addr ! (from ! (hop ! (look ! 24 refl) (stop !)))) (from ! (stop !)) (init ! 10 refl (tt, tt)) $ nothing ! $
-        nothing ! $ move ! (2 ∷ 54 ∷ 1 ∷ []) $ group ! 3 $ move ! (10 ∷ 1 ∷ []) $ group ! 2 $ join ! $
+        nothing ! $ move ! (2 ∷ 57 ∷ 1 ∷ []) $ group ! 3 $ move ! (10 ∷ 1 ∷ []) $ group ! 2 $ join ! $
         use1 W (raw (Number 𝓤 H A mem run .pre (to-number r u))) (asked-number r u) $
         calls-at ! fm (Number 𝓤 H A mem run) known-number (to-number r u) (and-then ! (load ! (from ! (stop !)) (look ! 19 refl))
         (and-then ! (load ! (from ! (stop !)) (look ! 9 refl)) (no-more !))) (λ u₂.
@@ -379,20 +394,20 @@ module _ {M : Type 1} (𝓤 : URA M) (H : Heap 𝓤) (A : Atoms 𝓤) (W : Given
         pick ! (λ m. split ! $ move ! (1 ∷ []) $ pick ! (λ vs. split ! $ move ! (1 ∷ []) $ heard ! (Numbered r m (vs .1 .0)) (λ e₂.
         fsplit ! $ drop ! $ fsplit ! $ move ! (1 ∷ []) $ drop ! $ move ! (1 ∷ []) $ split ! $ split ! $ move ! (1 ∷ []) $ drop ! $
         move ! (1 ∷ []) $ peeks ! u32 (Is u32) (shows 𝓤 H A u32) m (u₂ ∷ []) (λ is₂.
-        land ! (from ! (stop !)) (init ! 47 refl (uint-lawful 𝓤 H A W w32 .typed m _ is₂ .0)) $ returns ! (look ! 47 refl) $
+        land ! (from ! (stop !)) (init ! 49 refl (uint-lawful 𝓤 H A W w32 .typed m _ is₂ .0)) $ returns ! (look ! 49 refl) $
         forget ! 11 refl $ forget ! 13 refl $ forget ! 15 refl $ forget ! 17 refl $ forget ! 19 refl $ forget ! 21 refl $
         forget ! 23 refl $ forget ! 25 refl $ forget ! 27 refl $ forget ! 29 refl $ forget ! 31 refl $ forget ! 33 refl $
         forget ! 35 refl $ forget ! 37 refl $ forget ! 39 refl $ forget ! 41 refl $ forget ! 43 refl $ forget ! 45 refl $
-        forget ! 47 refl $
-        move ! (47 ∷ 48 ∷ []) $ free1 ! $ move ! (45 ∷ 46 ∷ []) $ free1 ! $ move ! (43 ∷ 44 ∷ []) $ free1 ! $ move ! (41 ∷ 42 ∷ []) $
-        free1 ! $ move ! (39 ∷ 40 ∷ []) $ free1 ! $ move ! (37 ∷ 38 ∷ []) $ free1 ! $ move ! (35 ∷ 36 ∷ []) $ free1 ! $
-        move ! (33 ∷ 34 ∷ []) $ free1 ! $ move ! (31 ∷ 32 ∷ []) $ free1 ! $ move ! (29 ∷ 30 ∷ []) $ free1 ! $ move ! (27 ∷ 28 ∷ []) $
-        free1 ! $ move ! (25 ∷ 26 ∷ []) $ free1 ! $ move ! (23 ∷ 24 ∷ []) $ free1 ! $ move ! (21 ∷ 22 ∷ []) $ free1 ! $
-        move ! (19 ∷ 20 ∷ []) $ free1 ! $ move ! (17 ∷ 18 ∷ []) $ free1 ! $ move ! (15 ∷ 16 ∷ []) $ free1 ! $ move ! (13 ∷ 14 ∷ []) $
-        free1 ! $ move ! (11 ∷ 12 ∷ []) $ free1 ! $ free0 ! $
+        forget ! 47 refl $ forget ! 49 refl $
+        move ! (49 ∷ 50 ∷ []) $ free1 ! $ move ! (47 ∷ 48 ∷ []) $ free1 ! $ move ! (45 ∷ 46 ∷ []) $ free1 ! $ move ! (43 ∷ 44 ∷ []) $
+        free1 ! $ move ! (41 ∷ 42 ∷ []) $ free1 ! $ move ! (39 ∷ 40 ∷ []) $ free1 ! $ move ! (37 ∷ 38 ∷ []) $ free1 ! $
+        move ! (35 ∷ 36 ∷ []) $ free1 ! $ move ! (33 ∷ 34 ∷ []) $ free1 ! $ move ! (31 ∷ 32 ∷ []) $ free1 ! $ move ! (29 ∷ 30 ∷ []) $
+        free1 ! $ move ! (27 ∷ 28 ∷ []) $ free1 ! $ move ! (25 ∷ 26 ∷ []) $ free1 ! $ move ! (23 ∷ 24 ∷ []) $ free1 ! $
+        move ! (21 ∷ 22 ∷ []) $ free1 ! $ move ! (19 ∷ 20 ∷ []) $ free1 ! $ move ! (17 ∷ 18 ∷ []) $ free1 ! $ move ! (15 ∷ 16 ∷ []) $
+        free1 ! $ move ! (13 ∷ 14 ∷ []) $ free1 ! $ move ! (11 ∷ 12 ∷ []) $ free1 ! $ free0 ! $
         keep ! (10 ∷ 9 ∷ 2 ∷ 0 ∷ 8 ∷ 7 ∷ 6 ∷ 5 ∷ 4 ∷ 3 ∷ 1 ∷ []) $
         by ! (exits m u₂ (ws .1 .1 .1 .1 .1 .0) (ws .1 .1 .1 .1 .1 .1 .0) (vs .1 .0) size-reads size (told r m (ws .1 .1 .1 .1 .1 .0)
-        (ws .1 .1 .1 .1 .1 .1 .0) (vs .1 .0) e e₂)))))))))))))))))))))))))))))))))
+        (ws .1 .1 .1 .1 .1 .1 .0) (vs .1 .0) e e₂))))))))))))))))))))))))))))))))))
 
 module _ {M : Type 1} (𝓤 : URA M) (H : Heap 𝓤) (A : Atoms 𝓤) (W : Given 𝓤 H A) (mem : Memory → SProp 𝓤) (run : Routine → Fun 𝓤)
     (𝓣 : Tables 𝓤 H) (known-core : Triple 𝓤 (𝓣 .C #core) (Core 𝓤 H A mem run))
@@ -407,7 +422,7 @@ module _ {M : Type 1} (𝓤 : URA M) (H : Heap 𝓤) (A : Atoms 𝓤) (W : Given
             uint-vals w64,
             (
               uint-vals w64,
-              (slice-vals, (slice-vals, (slice-vals, (slice-vals, (slice-vals, (slice-vals, (ptr-vals, tt))))))),
+              (uint-vals w32, (slice-vals, (slice-vals, (slice-vals, (slice-vals, (slice-vals, (slice-vals, (ptr-vals, tt)))))))),
             ),
           ),
         ),
@@ -421,16 +436,22 @@ module _ {M : Type 1} (𝓤 : URA M) (H : Heap 𝓤) (A : Atoms 𝓤) (W : Given
             (
               uint-tells w64,
               (
-                shr-slice-tells (named 0) (κs .0) i32,
+                uint-tells w32,
                 (
-                  shr-slice-tells (named 1) (κs .1 .0) i32,
+                  shr-slice-tells (named 0) (κs .0) i32,
                   (
-                    shr-slice-tells (named 2) (κs .1 .1 .0) u8,
+                    shr-slice-tells (named 1) (κs .1 .0) i32,
                     (
-                      shr-slice-tells (named 3) (κs .1 .1 .1 .0) i32,
+                      shr-slice-tells (named 2) (κs .1 .1 .0) u8,
                       (
-                        mut-slice-tells (named 4) (κs .1 .1 .1 .1 .0) R,
-                        (mut-slice-tells (named 5) (κs .1 .1 .1 .1 .1 .0) u32, (mut-tells (named 6) (κs .1 .1 .1 .1 .1 .1 .0) usize, tt)),
+                        shr-slice-tells (named 3) (κs .1 .1 .1 .0) i32,
+                        (
+                          mut-slice-tells (named 4) (κs .1 .1 .1 .1 .0) R,
+                          (
+                            mut-slice-tells (named 5) (κs .1 .1 .1 .1 .1 .0) u32,
+                            (mut-tells (named 6) (κs .1 .1 .1 .1 .1 .1 .0) usize, tt),
+                          ),
+                        ),
                       ),
                     ),
                   ),
@@ -445,9 +466,10 @@ module _ {M : Type 1} (𝓤 : URA M) (H : Heap 𝓤) (A : Atoms 𝓤) (W : Given
       (κs .1 .1 .1 .1 .1 .1 .0) (qs .0) (qs .1 .0) (qs .1 .1 .0) (qs .1 .1 .1 .0) (qs .1 .1 .1 .1 .0) (qs .1 .1 .1 .1 .1 .0)
       (qs .1 .1 .1 .1 .1 .1 .0) (a .0) (a .1 .0) (a .1 .1 .0) (a .1 .1 .1 .0) (a .1 .1 .1 .1 .0) (a .1 .1 .1 .1 .1 .0)
       (a .1 .1 .1 .1 .1 .1 .0) (a .1 .1 .1 .1 .1 .1 .1 .0) (a .1 .1 .1 .1 .1 .1 .1 .1 .0) (a .1 .1 .1 .1 .1 .1 .1 .1 .1 .0)
-      (a .1 .1 .1 .1 .1 .1 .1 .1 .1 .1 .0) 𝓣 known-core known-number (are .0 .1) (are .1 .0 .1) (are .1 .1 .0 .1) (are .1 .1 .1 .0 .1)
-      (are .1 .1 .1 .1 .0 .0 .1) (are .1 .1 .1 .1 .1 .0 .0 .1) (are .1 .1 .1 .1 .1 .1 .0 .0 .1) (are .1 .1 .1 .1 .1 .1 .1 .0 .0 .1)
-      (are .1 .1 .1 .1 .1 .1 .1 .1 .0 .0 .1) (are .1 .1 .1 .1 .1 .1 .1 .1 .1 .0 .0 .1)))
+      (a .1 .1 .1 .1 .1 .1 .1 .1 .1 .1 .0) (a .1 .1 .1 .1 .1 .1 .1 .1 .1 .1 .1 .0) 𝓣 known-core known-number (are .0 .1) (are .1 .0 .1)
+      (are .1 .1 .0 .1) (are .1 .1 .1 .0 .1) (are .1 .1 .1 .1 .0 .1) (are .1 .1 .1 .1 .1 .0 .0 .1) (are .1 .1 .1 .1 .1 .1 .0 .0 .1)
+      (are .1 .1 .1 .1 .1 .1 .1 .0 .0 .1) (are .1 .1 .1 .1 .1 .1 .1 .1 .0 .0 .1) (are .1 .1 .1 .1 .1 .1 .1 .1 .1 .0 .0 .1)
+      (are .1 .1 .1 .1 .1 .1 .1 .1 .1 .1 .0 .0 .1)))
 
   meets : Meets 𝓤 H A face.signature (WpFn 𝓤 H (𝓣 .C) (𝓣 .Λ) code.function) (face.spec 𝓤 H A mem run)
   meets = walk-meets 𝓤 H A face.ended stayed W (
@@ -459,16 +481,19 @@ module _ {M : Type 1} (𝓤 : URA M) (H : Heap 𝓤) (A : Atoms 𝓤) (W : Given
         (
           goes-dropped 𝓤 H A W 7 (plain (λ _. usize)) yes (λ κs y f. refl),
           (
-            goes-dropped 𝓤 H A W 7 (shrSliceOf (0 ∷ []) tt (plain (λ _. i32))) yes (λ κs y f. refl),
+            goes-dropped 𝓤 H A W 7 (plain (λ _. u32)) yes (λ κs y f. refl),
             (
-              goes-dropped 𝓤 H A W 7 (shrSliceOf (1 ∷ []) tt (plain (λ _. i32))) yes (λ κs y f. refl),
+              goes-dropped 𝓤 H A W 7 (shrSliceOf (0 ∷ []) tt (plain (λ _. i32))) yes (λ κs y f. refl),
               (
-                goes-dropped 𝓤 H A W 7 (shrSliceOf (2 ∷ []) tt (plain (λ _. u8))) yes (λ κs y f. refl),
+                goes-dropped 𝓤 H A W 7 (shrSliceOf (1 ∷ []) tt (plain (λ _. i32))) yes (λ κs y f. refl),
                 (
-                  goes-dropped 𝓤 H A W 7 (shrSliceOf (3 ∷ []) tt (plain (λ _. i32))) yes (λ κs y f. refl),
+                  goes-dropped 𝓤 H A W 7 (shrSliceOf (2 ∷ []) tt (plain (λ _. u8))) yes (λ κs y f. refl),
                   (
-                    goes-gave-slice 𝓤 H A W 7 4 tt (plain (λ _. R)),
-                    (goes-gave-slice 𝓤 H A W 7 5 tt (plain (λ _. u32)), (goes-gave-ref 𝓤 H A W 7 6 tt (plain (λ _. usize)), tt)),
+                    goes-dropped 𝓤 H A W 7 (shrSliceOf (3 ∷ []) tt (plain (λ _. i32))) yes (λ κs y f. refl),
+                    (
+                      goes-gave-slice 𝓤 H A W 7 4 tt (plain (λ _. R)),
+                      (goes-gave-slice 𝓤 H A W 7 5 tt (plain (λ _. u32)), (goes-gave-ref 𝓤 H A W 7 6 tt (plain (λ _. usize)), tt)),
+                    ),
                   ),
                 ),
               ),
