@@ -8,7 +8,7 @@ ghost use Rattle.library.specs.Library.{libraryWith, libraryBytes, libraryLengt
 ghost use Rattle.library.specs.Tests.{countsCauses};
 ghost use Rattle.writing.specs.Write.{writeCauses};
 ghost use Rattle.loading.specs.Load.{loadCauses, filled};
-ghost use Rattle.query.specs.Query.{queryCauses, componentsOf};
+ghost use Rattle.query.specs.Query.{queryCauses, componentsOf, presentQueryCauses, wordOf};
 
 // How many bytes a library of these counts has.
 #[no_mangle]
@@ -73,4 +73,23 @@ pub extern "C" fn matcher_query(d: usize, bytes: &[u8], components: &mut [i32]) 
         × (now (components .exit) ≡ outcome v (componentsOf d (now (bytes .entry))) (λ _. now (components .entry))) ⌝ }
 {
     query::query(d, bytes, components).number()
+}
+
+// The components of those of the d readings that are present, 0 where one is absent, into a buffer of d components; and the presence word.
+#[no_mangle]
+pub extern "C" fn matcher_query_present(
+    d: usize,
+    bytes: &[u8],
+    components: &mut [i32],
+    word: &mut u32,
+) -> u32
+    ensures { λ r. let v = first (presentQueryCauses d (length (now (components .entry))) (now (bytes .entry))) in
+        ⌜ (r ≡ verdictNumber v)
+        × (now (components .exit) ≡ outcome v (componentsOf d (now (bytes .entry))) (λ _. now (components .entry)))
+        × (now (word .exit) ≡ outcome v (wordOf d (now (bytes .entry))) (λ _. 0)) ⌝ }
+{
+    let answer = query::query_present(d, bytes, components);
+    *word = answer.word;
+    let verdict = answer.verdict;
+    verdict.number()
 }

@@ -14,7 +14,8 @@ use lib.ListN.{length, getD, drop, length-append}
 use lib.Seq.{getD-take, getD-drop}
 use Rattle.refusal.specs.declared.Refusal.{Refusal}
 use Rattle.refusal.specs.declared.Refusal.the-variants.{Dimension, Bits, Count, Neighbours, Length, Component, Mark, Outside, Code, Cell}
-use Rattle.refusal.specs.declared.Refusal.the-variants.{Kind, Truncated, Stale, NotANumber, OutOfRange, Trailing, Misplaced, TooFewPresent, PresenceBit}
+use Rattle.refusal.specs.declared.Refusal.the-variants.{Kind, Truncated, Stale, NotANumber, OutOfRange, Trailing, Misplaced}
+use Rattle.refusal.specs.declared.Refusal.the-variants.{TooFewPresent, PresenceBit}
 use Rattle.refusal.specs.declared.Verdict.{Verdict}
 use Rattle.refusal.specs.declared.Verdict.the-variants.{Accepted, Refused}
 use Rattle.refusal.specs.Refusal.{numberOf}
