@@ -5,8 +5,8 @@ ghost use mathlib.Core.Path.{_≡_};
 ghost use Prim.Native.Nat.{_%_, _^_, _≤_};
 ghost use lib.ListN.{length};
 ghost use Rattle.refusal.specs.First.{first, outcome};
-ghost use Rattle.limits.specs.Limits.{maxDimensions};
-ghost use Rattle.distance.specs.Distance.{distanceOf, firstMeasured, measuredOf};
+ghost use Rattle.distance.specs.Distance.{distanceOf, productAt, firstSquares, measuredOf};
+ghost use Rattle.distance.specs.Values.{valuesFrom};
 ghost use Rattle.distance.specs.Measured.{distanceCauses};
 
 // The answer where a distance is asked for.
@@ -33,33 +33,54 @@ pub fn measure(query: &[i32], vector: &[i32]) -> Distance
     if !signed::components::are_components(vector) {
         return Distance::Refused(Refusal::Component);
     }
-    Distance::Squared(weighed_distance([1u32; MAX_DIMENSIONS], query, vector))
+    let factors = [1u32; MAX_DIMENSIONS];
+    Distance::Squared(weighed_distance(&factors[..], query, vector))
 }
 
 // The distance of a vector from a query over dimensions with these factors, in 64 bits: exact for components and for factors up to 255
-// (specs/Small.antt). It is 0 where the two are not equally long or have more components than any query.
-pub fn weighed_distance(factors: [u32; MAX_DIMENSIONS], query: &[i32], vector: &[i32]) -> u64
-    ensures { λ r. ⌜ r ≡ measuredOf factors (now (query .entry)) (now (vector .entry)) ⌝ }
+// (specs/Small.antt). It is 0 where the two are not equally long, or have more components than there are factors or dimensions.
+pub fn weighed_distance(factors: &[u32], query: &[i32], vector: &[i32]) -> u64
+    ensures { λ r. ⌜ r ≡ measuredOf (now (factors .entry)) (now (query .entry)) (now (vector .entry)) ⌝ }
 {
-    if vector.len() != query.len() {
+    let d = query.len();
+    if vector.len() != d {
         return 0;
     }
-    if MAX_DIMENSIONS < query.len() {
+    if factors.len() < d {
         return 0;
     }
-    sum_parts(factors, query, vector)
+    if MAX_DIMENSIONS < d {
+        return 0;
+    }
+    let mut products = [0u32; MAX_DIMENSIONS];
+    multiply(factors, query, vector, &mut products[..d]);
+    sum_squares(&products[..d])
 }
 
-// The same where they are. Without a test in the loop the compiler makes vector code of it.
-fn sum_parts(factors: [u32; MAX_DIMENSIONS], query: &[i32], vector: &[i32]) -> u64
-    requires { ⌜ (length (now vector) ≡ length (now query)) × (length (now query) ≤ maxDimensions) ⌝ }
-    ensures { λ r. ⌜ r ≡ firstMeasured factors (now (query .entry)) (now (vector .entry)) (length (now (query .entry))) % 2 ^ 64 ⌝ }
+// The product of each dimension. Without a test in the loop, and with the squares in a loop of their own, the compiler makes vector code of
+// both.
+fn multiply(factors: &[u32], query: &[i32], vector: &[i32], products: &mut [u32])
+    requires { ⌜ (length (now products) ≤ length (now factors)) × (length (now products) ≤ length (now query))
+        × (length (now products) ≤ length (now vector)) ⌝ }
+    ensures { λ _. ⌜ now (products .exit)
+        ≡ valuesFrom (productAt (now (factors .entry)) (now (query .entry)) (now (vector .entry))) 0 (length (now (products .entry))) ⌝ }
+{
+    let mut t = 0;
+    while t < products.len() {
+        products[t] = step::product(factors[t], query[t], vector[t]);
+        t += 1;
+    }
+}
+
+// The sum of squares, modulo 2^64.
+fn sum_squares(numbers: &[u32]) -> u64
+    ensures { λ r. ⌜ r ≡ firstSquares (now (numbers .entry)) (length (now (numbers .entry))) % 2 ^ 64 ⌝ }
 {
     let mut sum = 0;
     let mut t = 0;
-    while t < query.len() {
-        let part = step::weighed_gap(factors[t], query[t], vector[t]);
-        sum = std::num::wrapping_add_u64(sum, part);
+    while t < numbers.len() {
+        let number = numbers[t] as u64;
+        sum = std::num::wrapping_add_u64(sum, number * number);
         t += 1;
     }
     sum

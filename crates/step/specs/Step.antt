@@ -23,8 +23,11 @@ abbrev pub weighed : ℕ → ℕ → ℕ
 weighed factor step = squared (factor * step)
 
 -- the same as it is worked out in 64 bits: the product is taken modulo 2^32
+abbrev pub productWord : ℕ → ℕ → ℕ
+productWord factor step = factor * step % 2 ^ 32
+
 unfoldable pub weighedWord : ℕ → ℕ → ℕ
-weighedWord factor step = squared (factor * step % 2 ^ 32)
+weighedWord factor step = squared (productWord factor step)
 
 -- the shortest and the longest step from q to the region from low up to, and without, high
 unfoldable pub shortest : ℤ → ℤ → ℤ → ℕ

@@ -3,7 +3,7 @@ ghost use mathlib.Core.Path.{_≡_};
 ghost use Prim.Native.Nat.{_+_, _-_, _^_, _≤_};
 ghost use lib.IntN.{predℤ};
 ghost use Rattle.step.specs.Step as Step;
-ghost use Rattle.step.specs.Step.{weighedWord, shortest, longest, stepOf};
+ghost use Rattle.step.specs.Step.{productWord, weighedWord, shortest, longest, stepOf};
 
 // A cell's two bounds: its least distance and its greatest.
 pub enum Bound {
@@ -11,11 +11,11 @@ pub enum Bound {
     Upper,
 }
 
-// What a dimension with a factor adds to a distance, where two numbers stand in it.
-pub fn weighed_gap(factor: u32, a: i32, b: i32) -> u64
-    ensures { λ r. ⌜ r ≡ weighedWord factor (Step.gap a b) ⌝ }
+// A factor times how far two numbers are apart, modulo 2^32: its square is what a dimension with that factor adds to a distance.
+pub fn product(factor: u32, a: i32, b: i32) -> u32
+    ensures { λ r. ⌜ r ≡ productWord factor (Step.gap a b) ⌝ }
 {
-    weighed(factor, gap(a, b) as u64)
+    (factor as u64 * gap(a, b) as u64 % 0x1_0000_0000) as u32
 }
 
 // How far two numbers are apart.

@@ -4,13 +4,14 @@ use mathlib.Core.Bool.{true}
 use borrow.Author.Needs.{needs}
 use borrow.Author.Tests.{not-true, not-false, eq-eqb, ne-eqb}
 use lib.Dec.{eqb}
+use Prim.Native.Nat.{_≤_}
 use lib.ListN.{length}
 use Rattle.refusal.specs.First.{first}
 use Rattle.limits.specs.Limits.{isDimensionCount, maxDimensions}
 use Rattle.limits.specs.Tests.{between}
 use Rattle.signed.specs.Components.{areComponents}
 use Rattle.distance.specs.declared.Distance.the-variants.{Squared}
-use Rattle.distance.specs.Full.{allPresent, all-full, full-distance}
+use Rattle.distance.specs.Full.{allPresent, all-full, all-enough, full-distance}
 use Rattle.distance.specs.Small.{all-small, measured-exact}
 use Rattle.distance.proofs.measure.Statement.{statement}
 use Rattle.distance.proofs.measure.Tie as tie
@@ -49,22 +50,28 @@ returns-4 c =
     let two = three .before .before in
     rw (counted (two .before), same two, queried three, ← c .before .are-components2 .ensures, not-true (c .before .are-components2 .result) (c .if4 .taken))
 
+-- so many factors are lent
+few : (c : tie.Else4) → let d = length (c .before .before .before .before .before .before .before .args .query .now) in d ≤ maxDimensions
+few c =
+    let one = c .before .before .before .before .before in
+    between 1 (length (one .before .before .args .query .now)) maxDimensions (counted one) .below
+
 returns-5 : tie.Need-returns-5
 unfolding first allPresent
 returns-5 c =
-    let four = c .before in
+    let four = c .before .before in
     let three = four .before .before in
     let two = three .before .before in
     let args = two .before .before .before .args in
     let d = length (args .query .now) in
-    let few = between 1 d maxDimensions (counted (two .before)) .below in
     let query = args .query .now in
     let vector = args .vector .now in
     rw (counted (two .before), same two, queried three, stored four)
     (ap Squared
     (c .weighed-distance .ensures
-    ∙ measured-exact allPresent all-small query (queried three) vector (stored four) d few refl (two .if2 .left)
-    ∙ full-distance allPresent query vector d (all-full d few)))
+    ∙ measured-exact allPresent all-small query (queried three) vector (stored four) d (few four) (all-enough d (few four)) refl
+    (two .if2 .left)
+    ∙ full-distance allPresent query vector d (all-full d (few four))))
 
 pub measure-spec : {M : Type 1} → statement M
 measure-spec =
@@ -77,5 +84,6 @@ measure-spec =
     returns-3
     (λ c κs. search needs)
     returns-4
+    (λ c. search needs)
     (λ c κs. search needs)
     returns-5)

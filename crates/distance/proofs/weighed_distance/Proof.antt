@@ -1,8 +1,15 @@
--- `weighed_distance` meets its contract: the lengths decide. Assumes nothing.
-use mathlib.Core.Path.{refl, sym, _∙_}
+-- `weighed_distance` meets its contract: the lengths decide, and the squares are of the products that came back. Assumes nothing.
+use mathlib.Core.Path.{_≡_, refl, sym, ap, _∙_}
+use mathlib.Core.List.{List}
+use Prim.Native.Nat.{ℕ, _%_, _^_, _≤_, _<_}
+use native.Mathlib.Omega.{arith}
 use borrow.Author.Needs.{needs}
-use borrow.Author.Tests.{eq-eqb, ne-eqb, lt-leb}
-use Rattle.distance.specs.Distance.{measuredOf, measured-is}
+use borrow.Author.Tests.{eq-eqb, ne-eqb, le-leb, lt-leb}
+use lib.ListN.{length, getD}
+use lib.Seq.{length-take-le}
+use Rattle.order.proofs.Prefix.{back-within, shared-is}
+use Rattle.distance.specs.Distance.{productAt, firstSquares, measuredOf, measured-is, squares-of-products}
+use Rattle.distance.specs.Values.{valuesFrom, values-length, value-at}
 use Rattle.distance.proofs.weighed_distance.Statement.{statement}
 use Rattle.distance.proofs.weighed_distance.Tie as tie
 
@@ -15,7 +22,59 @@ unfolding measuredOf
 returns-2 c = rw (eq-eqb _ _ (c .before .if1 .left), lt-leb _ _ (c .if2 .taken))
 
 returns-3 : tie.Need-returns-3
-returns-3 c = c .sum-parts .ensures ∙ sym (measured-is _ _ _ _ (c .before .if2 .left) refl (c .before .before .if1 .left))
+unfolding measuredOf
+returns-3 c = rw (eq-eqb _ _ (c .before .before .if1 .left), le-leb _ _ (c .before .if2 .left), lt-leb _ _ (c .if3 .taken))
+
+products-hold : tie.Need-array-borrow-prefix-products
+products-hold c = c .if3 .left
+
+products-room : tie.Need-slice-aggregate-multiply
+products-room c = sym (length-take-le _ _ (products-hold (c .before)))
+
+multiply-requires : tie.Need-multiply-requires
+multiply-requires c κs =
+    let three = c .before in
+    let size = products-room c in
+    (omega (arith, size, three .before .if2 .left), omega (arith, size), omega (arith, size, three .before .before .if1 .left))
+
+products-within : tie.Need-array-share-prefix-products
+products-within c =
+    let back = c .before in
+    back-within _ _ (back .multiply .last .1 .1 .1 .0) (products-hold (back .before .before)) (back .multiply .kept .1 .1 .1 .0)
+
+returns-4 : tie.Need-returns-4
+returns-4 c =
+    let back = c .before .before .before in
+    let three = back .before .before in
+    let start = three .before .before .before .before in
+    let a = start .args in
+    let d = length (a .query .now) in
+    let factors = a .factors .now in
+    let query = a .query .now in
+    let vector = a .vector .now in
+    let product = productAt factors query vector in
+    let filled =
+    shared-is _ _ (back .multiply .last .1 .1 .1 .0) (products-hold three) (back .multiply .kept .1 .1 .1 .0)
+    ∙ back .multiply .ensures
+    ∙ ap (valuesFrom product 0) (length-take-le _ _ (products-hold three)) in
+    c .sum-squares .ensures
+    ∙ ap (λ (products : List ℕ). firstSquares products (length products) % 2 ^ 64) filled
+    ∙ ap (λ (n : ℕ). firstSquares (valuesFrom product 0 d) n % 2 ^ 64) (values-length product 0 d)
+    ∙ ap (λ (n : ℕ). n % 2 ^ 64)
+    (squares-of-products factors query vector (valuesFrom product 0 d) d (λ t h. value-at product d t h))
+    ∙ sym (measured-is d factors query vector (three .if3 .left) (three .before .if2 .left) refl (three .before .before .if1 .left))
 
 pub weighed-distance-spec : {M : Type 1} → statement M
-weighed-distance-spec = tie.close (tie.spec returns returns-2 (λ c κs. search needs) returns-3)
+weighed-distance-spec =
+    tie.close
+    (tie.spec
+    returns
+    returns-2
+    returns-3
+    products-hold
+    products-room
+    multiply-requires
+    products-within
+    (λ c. sym (length-take-le _ _ (products-within (c .before))))
+    (λ c κs. search needs)
+    returns-4)
