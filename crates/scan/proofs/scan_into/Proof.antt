@@ -10,6 +10,7 @@ use Rattle.refusal.specs.First.{first, outcome, outcome-accepted}
 use Rattle.limits.specs.Limits.{maxVectors}
 use Rattle.limits.specs.Tests.{Neighbours}
 use Rattle.presence.specs.Presence.{factorsOf}
+use Rattle.presence.specs.PresenceLaws.{factors-size}
 use Rattle.order.specs.Pair.{Pair, countFrom}
 use Rattle.order.specs.Pairs.{pairsOf}
 use Rattle.order.specs.Rank.{keyAt, ranking}
@@ -26,17 +27,18 @@ use Rattle.scan.proofs.scan_into.Tie as tie
 
 measure-all-requires : tie.Need-measure-all-requires
 measure-all-requires c κs =
-    let start = c .before .before in
+    let start = c .before .before .before in
     let t = start .args .terms in (
       subst⁻¹ (λ (n : ℕ). Vectors (t .d) n (start .args .query .now) (start .args .vectors .now)) (start .pre .2) (start .pre .0),
       rw (start .pre .3) (word-small (t .word)),
+      rw (start .pre .3, factors-size (t .word)) (start .pre .0 .few),
     )
 
 numbers-hold : tie.Need-array-borrow-prefix-numbers
-numbers-hold c = c .before .before .before .before .before .before .pre .1 .few
+numbers-hold c = c .before .before .before .before .before .before .before .pre .1 .few
 
 least-hold : tie.Need-array-borrow-prefix-least
-least-hold c = c .before .before .before .before .before .before .before .pre .1 .few
+least-hold c = c .before .before .before .before .before .before .before .before .pre .1 .few
 
 least-within : tie.Need-array-share-prefix-least
 least-within c =
@@ -68,7 +70,7 @@ returns : tie.Need-returns
 returns c =
     let chosen = c .before .before .before .before .before .before in
     let measured = chosen .before .before .before .before .before .before .before in
-    let start = measured .before .before .before in
+    let start = measured .before .before .before .before in
     let t = start .args .terms in
     let f = distancesOf (t .d) (factorsOf (t .word)) (start .args .query .now) (start .args .vectors .now) in
     let by-word = ap (λ (fs : List ℕ). valuesFrom (distancesOf (t .d) fs (start .args .query .now) (start .args .vectors .now)) 0
@@ -91,6 +93,7 @@ pub scan-into-spec : {M : Type 1} → statement M
 scan-into-spec =
     tie.close
     (tie.spec
+    (λ c. search needs)
     measure-all-requires
     numbers-hold
     (λ c. sym (length-take-le _ _ (numbers-hold (c .before))))
