@@ -27,11 +27,11 @@ record State (l : Index) (query : Query) (k done : ℕ) (keys best : List ℕ) :
   inside : inOwnCells l (take done (readingOrder (lowIn l query) (numbersIn l))) ≡ true
 
 abbrev Inv-loop : tie.InvT-loop
-Inv-loop task query marks codes vectors order keys₀ best₀ k done₀ keys best done =
-    State (indexOf (task .terms) marks codes vectors) (queryOf (task .terms) query) (task .terms .k) done keys best
+Inv-loop query marks codes vectors order keys₀ best₀ factors terms k done₀ keys best done =
+    State (indexOf terms marks codes vectors) (queryOf terms query) (terms .k) done keys best
 
 abbrev μ-loop : tie.MeasureT-loop
-μ-loop task query marks codes vectors order keys₀ best₀ k done₀ keys best done = task .terms .k - done
+μ-loop query marks codes vectors order keys₀ best₀ factors terms k done₀ keys best done = terms .k - done
 
 module _ {l : Index} {query : Query} {k : ℕ} (is : Ready l query k) {keys best : List ℕ} where
   begin : length keys ≡ k → length best ≡ k → State l query k 0 keys best
@@ -92,12 +92,12 @@ asked s = queryOf (s .args .task .terms) (s .args .query .now)
 
 loop-holds : tie.Need-loop-holds Inv-loop μ-loop
 loop-holds c =
-    let pre = c .before .before .before .before .pre .0 in
+    let pre = c .before .before .before .before .before .before .pre .0 in
     begin (pre .0 .ready) (pre .1) (pre .2)
 
 -- where the next number is looked up
 abbrev entry : tie.After-shared-slice-known3 Inv-loop μ-loop → tie.Start Inv-loop μ-loop
-entry c = c .before .before .before .before .before .before .before
+entry c = c .before .before .before .before .before .before .before .before .before
 
 -- the number that is read next
 its-number : (c : tie.After-shared-slice-known3 Inv-loop μ-loop) → let s = entry c in let done = c .before .before .loop .done in
@@ -131,19 +131,19 @@ is-below c = below (entry c .pre .0 .0 .ready) (c .before .before .loop .inv) (c
 returns : tie.Need-returns Inv-loop μ-loop
 returns c =
     let read = c .before .before in
-    let next = read .before in
+    let next = read .before .before in
     fails (entry next .pre .0 .0 .ready) (next .before .before .loop .inv) (next .before .loop-test .taken) _ (its-number next)
     (sym (read .read-vector .ensures) ∙ c .enum-told .given .1)
 
 loop-again : tie.Need-loop-again Inv-loop μ-loop
 loop-again c =
     let read = c .before .before .before in
-    let next = read .before in
+    let next = read .before .before in
     turn (entry next .pre .0 .0 .ready) (next .before .before .loop .inv) (next .before .loop-test .taken) _ (its-number next) _
     (sym (read .read-vector .ensures) ∙ c .before .read .given .1)
 
 returns-2 : tie.Need-returns-2 Inv-loop μ-loop
-returns-2 c = finish (c .before .before .before .before .before .before .pre .0 .0 .ready) (c .before .loop .inv) (omega arith)
+returns-2 c = finish (c .before .before .before .before .before .before .before .before .pre .0 .0 .ready) (c .before .loop .inv) (omega arith)
 
 pub read-first-spec : {M : Type 1} → statement M
 read-first-spec =
@@ -154,7 +154,8 @@ read-first-spec =
     loop-holds
     (λ c. search needs)
     (λ c. omega (arith, order-long (entry c)))
-    (λ c κs. (entry c .pre .0 .0, is-below c))
+    (λ c. search needs)
+    (λ c κs. (entry (c .before) .pre .0 .0, is-below (c .before)))
     (λ c. search needs)
     (λ c. search needs)
     (λ c. search needs)

@@ -30,11 +30,12 @@ use Rattle.least_reading.proofs.reading.read_rest.Statement.{statement}
 use Rattle.least_reading.proofs.reading.read_rest.Tie as tie
 
 abbrev Inv-loop : tie.InvT-loop
-Inv-loop task query marks codes vectors lows order keys₀ best₀ k end done₀ keys best done =
-    (task .terms .k ≤ done) × (done ≤ task .terms .k + length lows) × HasRead (indexOf (task .terms) marks codes vectors) (queryOf (task .terms) query) (task .terms .k) done keys best
+Inv-loop query marks codes vectors lows order keys₀ best₀ factors terms k end done₀ keys best done =
+    (terms .k ≤ done) × (done ≤ terms .k + length lows)
+    × HasRead (indexOf terms marks codes vectors) (queryOf terms query) (terms .k) done keys best
 
 abbrev μ-loop : tie.MeasureT-loop
-μ-loop task query marks codes vectors lows order keys₀ best₀ k end done₀ keys best done = task .terms .k + length lows - done
+μ-loop query marks codes vectors lows order keys₀ best₀ factors terms k end done₀ keys best done = terms .k + length lows - done
 
 module _ {l : Index} {query : Query} {k : ℕ} (is : Ready l query k) {lows order : List ℕ}
     (aligned : Aligned k (ranked (lowIn l query) (numbersIn l)) lows order)
@@ -113,7 +114,7 @@ asked s = queryOf (s .args .task .terms) (s .args .query .now)
 
 -- where the next number is looked up
 abbrev entry : tie.After-shared-slice-known4 Inv-loop μ-loop → tie.Start Inv-loop μ-loop
-entry c = c .before .before .before .before .before .before .before .before
+entry c = c .before .before .before .before .before .before .before .before .before .before
 
 is-below : (c : tie.After-shared-slice-known4 Inv-loop μ-loop)
     → getD (entry c .args .order .now) (c .before .before .loop .done) 0 < entry c .args .task .terms .n
@@ -146,6 +147,17 @@ test c =
     tested (pre .0 .ready) (pre .1 .0) (pre .1 .1 .0) (inv .2) (inv .1) (next .before .loop-test .taken) _ refl (inv .0) _ refl
     (c .goes-on .ensures)
 
+-- the two slices keep their lengths
+record SameRoom (c : tie.After-shared-slice-known4 Inv-loop μ-loop) : Type 0 where
+  keys : length (c .before .before .loop .keys) ≡ length (entry c .args .keys .now)
+  best : length (c .before .before .loop .best) ≡ length (entry c .args .best .now)
+
+same-room : (c : tie.After-shared-slice-known4 Inv-loop μ-loop) → SameRoom c
+same-room c =
+    let now = c .before .before .loop .inv .2 .holds in
+    let first = entry c .pre .1 .1 .1 .holds in
+    record { keys = now .keys-room ∙ sym (first .keys-room); best = now .numbers-room ∙ sym (first .numbers-room) }
+
 returns : tie.Need-returns Inv-loop μ-loop
 returns c =
     let next = c .before .before .before .before .before in
@@ -157,19 +169,24 @@ returns c =
 returns-2 : tie.Need-returns-2 Inv-loop μ-loop
 returns-2 c =
     let read = c .before .before in
-    let goes = read .before in
+    let goes = read .before .before in
     let next = goes .before .before .before .before .before in
     let pre = entry next .pre in
     let inv = next .before .before .loop .inv in
     outside (pre .0 .ready) (pre .1 .0) (pre .1 .1 .0) (inv .2) (inv .1) (next .before .loop-test .taken) _ refl
     (test (goes .before) ∙ not-false _ (goes .if1 .left)) (sym (read .read-vector .ensures) ∙ c .enum-told .given .1)
 
+-- the turn's start, at its end
+abbrev next-of : tie.After-slice-known4 Inv-loop μ-loop → tie.After-shared-slice-known4 Inv-loop μ-loop
+next-of c = c .before .before .before .before .before .before .before .before .before .before
+    .before .before .before .before .before .before .before
+
 loop-again : tie.Need-loop-again Inv-loop μ-loop
 loop-again c =
     let kept = c .before .before .before .before in
     let known = kept .before .before .before in
     let read = known .before .before .before in
-    let goes = read .before in
+    let goes = read .before .before in
     let next = goes .before .before .before .before .before in
     let pre = entry next .pre in
     let inv = next .before .before .loop .inv in (
@@ -182,7 +199,7 @@ loop-again c =
 
 returns-3 : tie.Need-returns-3 Inv-loop μ-loop
 returns-3 c =
-    let s = c .before .before .before .before .before .before .before in
+    let s = c .before .before .before .before .before .before .before .before .before in
     let inv = c .before .loop .inv in
     let all : c .before .loop .done ≡ s .args .task .terms .k + length (s .args .lows .now) = omega (arith, inv .1) in
     finish (s .pre .0 .ready) (s .pre .1 .0) (s .pre .1 .1 .0) (inv .2) (inv .1) (rw all (s .pre .1 .1 .0 .whole (rw all at (inv .2 .reached))))
@@ -193,9 +210,9 @@ read-rest-spec =
     (tie.spec
     Inv-loop
     μ-loop
-    (λ c. omega (arith, stands (c .before .before .before .before .before)))
-    (λ c. (omega arith, omega arith, c .before .before .before .before .before .pre .1 .1 .1))
-    (λ c. omega (arith, stands (c .before .before .before .before .before .before .before), c .before .loop .inv .1))
+    (λ c. omega (arith, stands (c .before .before .before .before .before .before .before)))
+    (λ c. (omega arith, omega arith, c .before .before .before .before .before .before .before .pre .1 .1 .1))
+    (λ c. omega (arith, stands (c .before .before .before .before .before .before .before .before .before), c .before .loop .inv .1))
     (λ c. omega (arith, stands (entry c)))
     (λ c. c .before .before .loop .inv .0)
     (λ c. omega (arith, stands (entry c), c .before .before .loop .inv .1))
@@ -204,25 +221,16 @@ read-rest-spec =
     (λ c. search needs)
     (λ c. search needs)
     returns
-    (λ c κs. (entry (c .before .before .before .before .before) .pre .0, is-below (c .before .before .before .before .before)))
+    (λ c. search needs)
+    (λ c κs. (entry (c .before .before .before .before .before .before) .pre .0, is-below (c .before .before .before .before .before .before)))
     (λ c. search needs)
     (λ c. search needs)
-    (λ c. search needs)
-    (λ c. search needs)
+    (λ c. same-room (c .before .before .before .before .before .before .before .before .before) .keys)
+    (λ c. same-room (c .before .before .before .before .before .before .before .before .before) .best)
     returns-2
     (λ c κs. search needs)
-    (λ c. omega (
-      arith,
-      stands (c .before .before .before .before .before .before .before .before .before .before .before .before .before
-          .before .before .before .before .before .before .before .before .before .before .before),
-      c .before .before .before .before .before
-          .before .before .before .before .before .before .before .before .before .before .before .before .before .loop .inv .1,
-    ))
-    (λ c. omega (
-      arith,
-      c .before .before .before .before .before .before .before .before .before .before .before .before .before .before
-          .before .before .before .loop-test .taken,
-    ))
+    (λ c. omega (arith, stands (entry (next-of c)), next-of c .before .before .loop .inv .1))
+    (λ c. omega (arith, next-of c .before .loop-test .taken))
     loop-again
     (λ c. search needs)
     (λ c. search needs)
