@@ -48,11 +48,10 @@ unfoldable pub firstSquares : List ℕ → ℕ → ℕ
 firstSquares numbers zero = 0
 firstSquares numbers (suc t) = firstSquares numbers t + squared (getD numbers t 0)
 
--- the sum modulo 2^64, and 0 where query and vector are not equally long, or have more components than there are factors or dimensions
+-- the sum modulo 2^64, and 0 where query and vector are not equally long or longer than any may be
 unfoldable pub measuredOf : List ℕ → List ℤ → List ℤ → ℕ
 measuredOf factors query vector =
-    cond (eqb (length vector) (length query) && (leb (length query) (length factors) && leb (length query) maxDimensions))
-    (firstMeasured factors query vector (length query) % 2 ^ 64) 0
+    cond (eqb (length vector) (length query) && leb (length query) maxDimensions) (firstMeasured factors query vector (length query) % 2 ^ 64) 0
 
 -- ---- laws
 
@@ -64,8 +63,7 @@ squares-of-products factors query vector products zero each = refl
 squares-of-products factors query vector products (suc t) each =
     rw (squares-of-products factors query vector products t (λ i h. each i (omega arith)), each t (omega arith))
 
-pub measured-is : (d : ℕ) (factors : List ℕ) (query vector : List ℤ) → d ≤ maxDimensions → d ≤ length factors → length query ≡ d
-    → length vector ≡ d → measuredOf factors query vector ≡ firstMeasured factors query vector d % 2 ^ 64
+pub measured-is : (d : ℕ) (factors : List ℕ) (query vector : List ℤ) → d ≤ maxDimensions → length query ≡ d → length vector ≡ d
+    → measuredOf factors query vector ≡ firstMeasured factors query vector d % 2 ^ 64
 unfolding measuredOf
-measured-is d factors query vector few enough of-query of-vector =
-    rw (of-query, of-vector, eq-eqb d d refl, le-leb d (length factors) enough, le-leb d maxDimensions few)
+measured-is d factors query vector few of-query of-vector = rw (of-query, of-vector, eq-eqb d d refl, le-leb d maxDimensions few)

@@ -5,7 +5,7 @@ use mathlib.Core.List.{List}
 use Prim.Native.Nat.{ℕ, zero, suc, _≤_, _<_}
 use native.Mathlib.Omega.{arith}
 use lib.IntN.{ℤ}
-use lib.ListN.{length, getD, replicate, length-replicate, getD-replicate}
+use lib.ListN.{getD, replicate, getD-replicate}
 use Rattle.limits.specs.Limits.{maxDimensions}
 use Rattle.step.specs.Step.{weighed-present}
 use Rattle.distance.specs.Distance.{gapAt, firstDistance, firstWeighed}
@@ -22,10 +22,6 @@ allPresent = replicate maxDimensions 1
 pub all-full : (d : ℕ) → d ≤ maxDimensions → Full allPresent d
 unfolding allPresent
 all-full d few = record { each = λ t h. getD-replicate maxDimensions t 1 0 (omega arith) }
-
-pub all-enough : (d : ℕ) → d ≤ maxDimensions → d ≤ length allPresent
-unfolding allPresent
-all-enough d few = omega (arith, length-replicate {A = ℕ} maxDimensions 1)
 
 fewer : {factors : List ℕ} {d : ℕ} → Full factors (suc d) → Full factors d
 fewer full = record { each = λ t h. full .each t (omega arith) }

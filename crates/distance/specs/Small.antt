@@ -127,10 +127,10 @@ module _ (factors : List ℕ) (moderate : Factors factors) (query : List ℤ) (k
         rw (measured-first t, part-exact (getD factors t 0) (gapAt query vector t) (moderate .small t) (gap-small t))
 
     -- what is worked out in 64 bits is the distance
-    pub measured-exact : (d : ℕ) → d ≤ maxDimensions → d ≤ length factors → length query ≡ d → length vector ≡ d
+    pub measured-exact : (d : ℕ) → d ≤ maxDimensions → length query ≡ d → length vector ≡ d
         → measuredOf factors query vector ≡ weighedDistance d factors query vector
-    measured-exact d few enough of-query of-vector =
-        measured-is d factors query vector few enough of-query of-vector ∙ rw (measured-first d) (mod-eq-of-lt (distance-small d few))
+    measured-exact d few of-query of-vector =
+        measured-is d factors query vector few of-query of-vector ∙ rw (measured-first d) (mod-eq-of-lt (distance-small d few))
 
   module _ (bound : Bound) (d b : ℕ) (marks : List ℤ) (good : goodMarks d b marks ≡ true) where
     mark : (t r : ℕ) → t < d → mag (getD (dimensionMarks d b marks (suc t)) r (pos 0)) ≤ 32768

@@ -6,6 +6,7 @@ ghost use Prim.Native.Nat.{_%_, _^_, _≤_};
 ghost use lib.ListN.{length};
 ghost use Rattle.refusal.specs.First.{first, outcome};
 ghost use Rattle.distance.specs.Distance.{distanceOf, productAt, firstSquares, measuredOf};
+ghost use Rattle.limits.specs.Limits.{maxDimensions};
 ghost use Rattle.distance.specs.Values.{valuesFrom};
 ghost use Rattle.distance.specs.Measured.{distanceCauses};
 
@@ -34,19 +35,16 @@ pub fn measure(query: &[i32], vector: &[i32]) -> Distance
         return Distance::Refused(Refusal::Component);
     }
     let factors = [1u32; MAX_DIMENSIONS];
-    Distance::Squared(weighed_distance(&factors[..], query, vector))
+    Distance::Squared(weighed_distance(&factors, query, vector))
 }
 
 // The distance of a vector from a query over dimensions with these factors, in 64 bits: exact for components and for factors up to 255
-// (specs/Small.antt). It is 0 where the two are not equally long, or have more components than there are factors or dimensions.
-pub fn weighed_distance(factors: &[u32], query: &[i32], vector: &[i32]) -> u64
+// (specs/Small.antt). It is 0 where the two are not equally long or have more components than any query.
+pub fn weighed_distance(factors: &[u32; MAX_DIMENSIONS], query: &[i32], vector: &[i32]) -> u64
     ensures { λ r. ⌜ r ≡ measuredOf (now (factors .entry)) (now (query .entry)) (now (vector .entry)) ⌝ }
 {
     let d = query.len();
     if vector.len() != d {
-        return 0;
-    }
-    if factors.len() < d {
         return 0;
     }
     if MAX_DIMENSIONS < d {
@@ -59,8 +57,8 @@ pub fn weighed_distance(factors: &[u32], query: &[i32], vector: &[i32]) -> u64
 
 // The product of each dimension. Without a test in the loop, and with the squares in a loop of their own, the compiler makes vector code of
 // both.
-fn multiply(factors: &[u32], query: &[i32], vector: &[i32], products: &mut [u32])
-    requires { ⌜ (length (now products) ≤ length (now factors)) × (length (now products) ≤ length (now query))
+fn multiply(factors: &[u32; MAX_DIMENSIONS], query: &[i32], vector: &[i32], products: &mut [u32])
+    requires { ⌜ (length (now products) ≤ maxDimensions) × (length (now products) ≤ length (now query))
         × (length (now products) ≤ length (now vector)) ⌝ }
     ensures { λ _. ⌜ now (products .exit)
         ≡ valuesFrom (productAt (now (factors .entry)) (now (query .entry)) (now (vector .entry))) 0 (length (now (products .entry))) ⌝ }

@@ -5,7 +5,6 @@ use Prim.Native.Nat.{ℕ, suc, _*_, _≤_, _<_}
 use native.Mathlib.Nat.{mul-le-mul-right}
 use native.Mathlib.Omega.{arith}
 use lib.ListN.{length}
-use Rattle.presence.specs.PresenceLaws.{factors-size}
 use Rattle.cells.specs.Cells.{vectorAt, InCell}
 use Rattle.distance.specs.Distance.{measuredOf}
 use Rattle.distance.specs.Small.{word-small, measured-exact}
@@ -54,5 +53,4 @@ module _ {l : Index} {query : Query} {k : ℕ} (is : Ready l query k) (i : ℕ) 
       let size = place is i below .size in
       let cell : InCell (l .d) (l .b) (l .marks) (l .codes) i vector = record { components = size; inside = inside } in
       measured-exact (factorsIn query) (word-small (query .word)) (query .components) (is .components) vector
-      (cell-components (l .d) (l .b) (l .marks) (is .marks) (l .codes) i cell) (l .d) (is .dimensions)
-      (rw (factors-size (query .word)) (is .dimensions)) (is .of-query) size
+      (cell-components (l .d) (l .b) (l .marks) (is .marks) (l .codes) i cell) (l .d) (is .dimensions) (is .of-query) size

@@ -82,12 +82,11 @@ part-components d from zs all =
     let below : i < d = omega (arith, length-take d (drop from zs)) in
     rw (getD-take d (drop from zs) i (pos 0) below, getD-drop from zs i (pos 0)) (component-at zs all (from + i)))
 
-pub scanned-exact : {d n : ℕ} {query vectors : List ℤ} (factors : List ℕ) → Factors factors → d ≤ length factors
-    → Vectors d n query vectors → (i : ℕ)
+pub scanned-exact : {d n : ℕ} {query vectors : List ℤ} (factors : List ℕ) → Factors factors → Vectors d n query vectors → (i : ℕ)
     → length (vectorAt d vectors i) ≡ d → measuredOf factors query (vectorAt d vectors i) ≡ distancesOf d factors query vectors i
-scanned-exact {d} {n} {query} {vectors} factors small enough given i whole =
+scanned-exact {d} {n} {query} {vectors} factors small given i whole =
     measured-exact factors small query (given .of-query) (vectorAt d vectors i) (part-components d (i * d) vectors (given .of-vectors)) d
-    (given .few) enough (given .size) whole
+    (given .few) (given .size) whole
 
 -- ---- the answer, from the numbers and the keys of the least
 

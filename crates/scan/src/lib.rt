@@ -141,7 +141,7 @@ fn scan_into(
         × (length (now distances) ≡ terms .n) × (factors ≡ factorsOf (terms .word)) ⌝ }
     ensures { λ r. ⌜ r ≡ inArray (entriesOf (scanAnswer terms (now (query .entry)) (now (vectors .entry)))) ⌝ }
 {
-    measure_all(terms.d, &factors[..], query, vectors, distances);
+    measure_all(terms.d, &factors, query, vectors, distances);
     let k = terms.k;
     let mut numbers = [0u32; MAX_NEIGHBOURS];
     let mut least = [0u64; MAX_NEIGHBOURS];
@@ -151,8 +151,14 @@ fn scan_into(
 }
 
 // The distance of each vector from the query.
-fn measure_all(d: usize, factors: &[u32], query: &[i32], vectors: &[i32], keys: &mut [u64])
-    requires { ⌜ (Vectors d (length (now keys)) (now query) (now vectors)) × (Factors (now factors)) × (d ≤ length (now factors)) ⌝ }
+fn measure_all(
+    d: usize,
+    factors: &[u32; MAX_DIMENSIONS],
+    query: &[i32],
+    vectors: &[i32],
+    keys: &mut [u64],
+)
+    requires { ⌜ (Vectors d (length (now keys)) (now query) (now vectors)) × (Factors (now factors)) ⌝ }
     ensures { λ _. ⌜ now (keys .exit) ≡ valuesFrom (distancesOf d (now (factors .entry)) (now (query .entry)) (now (vectors .entry))) 0
         (length (now (keys .entry))) ⌝ }
 {

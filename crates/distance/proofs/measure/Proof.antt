@@ -11,7 +11,7 @@ use Rattle.limits.specs.Limits.{isDimensionCount, maxDimensions}
 use Rattle.limits.specs.Tests.{between}
 use Rattle.signed.specs.Components.{areComponents}
 use Rattle.distance.specs.declared.Distance.the-variants.{Squared}
-use Rattle.distance.specs.Full.{allPresent, all-full, all-enough, full-distance}
+use Rattle.distance.specs.Full.{allPresent, all-full, full-distance}
 use Rattle.distance.specs.Small.{all-small, measured-exact}
 use Rattle.distance.proofs.measure.Statement.{statement}
 use Rattle.distance.proofs.measure.Tie as tie
@@ -69,8 +69,7 @@ returns-5 c =
     rw (counted (two .before), same two, queried three, stored four)
     (ap Squared
     (c .weighed-distance .ensures
-    ∙ measured-exact allPresent all-small query (queried three) vector (stored four) d (few four) (all-enough d (few four)) refl
-    (two .if2 .left)
+    ∙ measured-exact allPresent all-small query (queried three) vector (stored four) d (few four) refl (two .if2 .left)
     ∙ full-distance allPresent query vector d (all-full d (few four))))
 
 pub measure-spec : {M : Type 1} → statement M
@@ -84,6 +83,5 @@ measure-spec =
     returns-3
     (λ c κs. search needs)
     returns-4
-    (λ c. search needs)
     (λ c κs. search needs)
     returns-5)

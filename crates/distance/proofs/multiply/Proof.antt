@@ -24,16 +24,16 @@ abbrev μ-loop : tie.MeasureT-loop
 -- the products that are to be written
 abbrev whole : (at : tie.At-loop Inv-loop μ-loop) → List ℕ
 whole at =
-    let a = at .before .before .before .args in
+    let a = at .before .before .args in
     valuesFrom (productAt (a .factors .now) (a .query .now) (a .vector .now)) 0 (length (a .products .now))
 
-size : (at : tie.At-loop Inv-loop μ-loop) → length (whole at) ≡ length (at .before .before .before .args .products .now)
+size : (at : tie.At-loop Inv-loop μ-loop) → length (whole at) ≡ length (at .before .before .args .products .now)
 size at =
-    let a = at .before .before .before .args in
+    let a = at .before .before .args in
     values-length (productAt (a .factors .now) (a .query .now) (a .vector .now)) 0 (length (a .products .now))
 
 -- one more is to be written
-more : (c : tie.In-loop Inv-loop μ-loop) → let at = c .before in at .loop .t < length (at .before .before .before .args .products .now)
+more : (c : tie.In-loop Inv-loop μ-loop) → let at = c .before in at .loop .t < length (at .before .before .args .products .now)
 more c = omega (arith, c .loop-test .taken, c .before .loop .inv .1 .room, size (c .before))
 
 -- the dimension's product
@@ -44,9 +44,9 @@ here c =
     let one = two .before in
     let in-loop = one .before .before in
     let at = in-loop .before in
-    let a = at .before .before .before .args in
-    let query = toZ-ofZ w32 (getD (a .query .now) (at .loop .t) (pos 0)) (record { sfits = one .product-arg .given }) in
-    let vector = toZ-ofZ w32 (getD (a .vector .now) (at .loop .t) (pos 0)) (record { sfits = two .product-arg2 .given }) in
+    let a = at .before .before .args in
+    let query = toZ-ofZ w32 (getD (a .query .now) (at .loop .t) (pos 0)) (record { sfits = one .product-arg2 .given }) in
+    let vector = toZ-ofZ w32 (getD (a .vector .now) (at .loop .t) (pos 0)) (record { sfits = two .product-arg3 .given }) in
     (rw (query, vector) at (c .product .ensures))
     ∙ sym (value-at (productAt (a .factors .now) (a .query .now) (a .vector .now)) (length (a .products .now)) (at .loop .t)
     (more in-loop))
@@ -72,11 +72,11 @@ multiply-spec =
     μ-loop
     (λ c. (omega arith, filling-start _ _ (sym (values-length _ _ _))))
     (λ c. search needs)
-    (λ c. omega (arith, more (c .before), c .before .before .before .before .before .pre))
+    (λ c. omega (arith, more c, c .before .before .before .pre))
     (λ c. search needs)
-    (λ c. omega (arith, more (c .before), c .before .before .before .before .before .pre))
+    (λ c. omega (arith, more (c .before), c .before .before .before .before .pre))
     (λ c. search needs)
-    (λ c. omega (arith, more (c .before .before), c .before .before .before .before .before .before .pre))
+    (λ c. omega (arith, more (c .before .before), c .before .before .before .before .before .pre))
     (λ c κs. search needs)
     (λ c. search needs)
     (λ c. search needs)

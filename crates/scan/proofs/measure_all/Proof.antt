@@ -36,8 +36,8 @@ part {d} {n} given i below =
     record { within = omega (arith, suc-mul i d, given .full); small = omega (arith, given .full) }
 
 here : (c : tie.In-loop Inv-loop μ-loop) → let start =
-    c .before .before .before .before in Part (start .args .d) (c .before .loop .i) (length (start .args .vectors .now))
-here c = part (c .before .before .before .before .pre .0) (c .before .loop .i) (omega arith)
+    c .before .before .before in Part (start .args .d) (c .before .loop .i) (length (start .args .vectors .now))
+here c = part (c .before .before .before .pre .0) (c .before .loop .i) (omega arith)
 
 loop-holds : tie.Need-loop-holds Inv-loop μ-loop
 loop-holds c = (omega arith, refl, filling-start _ _ (sym (values-length _ 0 _)))
@@ -45,7 +45,7 @@ loop-holds c = (omega arith, refl, filling-start _ _ (sym (values-length _ 0 _))
 loop-again : tie.Need-loop-again Inv-loop μ-loop
 loop-again c =
     let at = c .before .before .before .loop in
-    let start = c .before .before .before .before .before .before in
+    let start = c .before .before .before .before .before in
     let a = start .args in
     let n = length (a .keys .now) in
     let f = distancesOf (a .d) (a .factors .now) (a .query .now) (a .vectors .now) in
@@ -55,7 +55,7 @@ loop-again c =
     let key =
     c .weighed-distance .ensures
     ∙ ap (λ (m : ℕ). measuredOf (a .factors .now) (a .query .now) (take m (drop (at .i * a .d) (a .vectors .now)))) size
-    ∙ scanned-exact (a .factors .now) (start .pre .1) (start .pre .2) (start .pre .0) (at .i) whole ∙ sym (value-at f n (at .i) more) in (
+    ∙ scanned-exact (a .factors .now) (start .pre .1) (start .pre .0) (at .i) whole ∙ sym (value-at f n (at .i) more) in (
       omega arith,
       simp length-set (at .inv .1),
       filling-next (valuesFrom f 0 n) (at .keys) (at .i) (c .weighed-distance .result) 0 (omega (arith, values-length f 0 n)) key
@@ -65,7 +65,7 @@ loop-again c =
 returns : tie.Need-returns Inv-loop μ-loop
 returns c =
     let at = c .before .loop in
-    let n = length (c .before .before .before .before .args .keys .now) in
+    let n = length (c .before .before .before .args .keys .now) in
     let all : at .i ≡ n = omega arith in
     filling-end _ (at .keys) (at .i) (all ∙ sym (values-length _ 0 n)) (at .inv .2)
 

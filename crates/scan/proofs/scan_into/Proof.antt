@@ -10,7 +10,6 @@ use Rattle.refusal.specs.First.{first, outcome, outcome-accepted}
 use Rattle.limits.specs.Limits.{maxVectors}
 use Rattle.limits.specs.Tests.{Neighbours}
 use Rattle.presence.specs.Presence.{factorsOf}
-use Rattle.presence.specs.PresenceLaws.{factors-size}
 use Rattle.order.specs.Pair.{Pair, countFrom}
 use Rattle.order.specs.Pairs.{pairsOf}
 use Rattle.order.specs.Rank.{keyAt, ranking}
@@ -31,7 +30,6 @@ measure-all-requires c κs =
     let t = start .args .terms in (
       subst⁻¹ (λ (n : ℕ). Vectors (t .d) n (start .args .query .now) (start .args .vectors .now)) (start .pre .2) (start .pre .0),
       rw (start .pre .3) (word-small (t .word)),
-      rw (start .pre .3, factors-size (t .word)) (start .pre .0 .few),
     )
 
 numbers-hold : tie.Need-array-borrow-prefix-numbers
@@ -93,7 +91,6 @@ pub scan-into-spec : {M : Type 1} → statement M
 scan-into-spec =
     tie.close
     (tie.spec
-    (λ c. search needs)
     measure-all-requires
     numbers-hold
     (λ c. sym (length-take-le _ _ (numbers-hold (c .before))))

@@ -154,7 +154,6 @@ read-first-spec =
     loop-holds
     (λ c. search needs)
     (λ c. omega (arith, order-long (entry c)))
-    (λ c. search needs)
     (λ c κs. (entry (c .before) .pre .0 .0, is-below (c .before)))
     (λ c. search needs)
     (λ c. search needs)

@@ -221,7 +221,6 @@ read-rest-spec =
     (λ c. search needs)
     (λ c. search needs)
     returns
-    (λ c. search needs)
     (λ c κs. (entry (c .before .before .before .before .before .before) .pre .0, is-below (c .before .before .before .before .before .before)))
     (λ c. search needs)
     (λ c. search needs)

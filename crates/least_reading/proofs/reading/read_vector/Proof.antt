@@ -22,9 +22,9 @@ given s = indexOf (s .args .terms) (s .args .marks .now) (s .args .codes .now) (
 its-place : (s : tie.Start) → Place (s .args .terms .d) (s .args .vectors .now) (s .args .number)
 its-place s = place (s .pre .0 .ready) (s .args .number) (s .pre .1)
 
-inside : (c : tie.After-in-cell) → let s = c .before .before .before .before in c .in-cell .result ≡ inOwnCell (given s) (s .args .number)
+inside : (c : tie.After-in-cell) → let s = c .before .before .before in c .in-cell .result ≡ inOwnCell (given s) (s .args .number)
 inside c =
-    let s = c .before .before .before .before in
+    let s = c .before .before .before in
     let a = s .args in
     let o = a .number * a .terms .d in
     let size : o + a .terms .d - o ≡ a .terms .d = omega arith in
@@ -40,7 +40,7 @@ returns c =
 returns-2 : tie.Need-returns-2
 returns-2 c =
     let tested = c .before .before in
-    let s = tested .before .before .before .before in
+    let s = tested .before .before .before in
     let a = s .args in
     let o = a .number * a .terms .d in
     let size : o + a .terms .d - o ≡ a .terms .d = omega arith in
@@ -56,12 +56,12 @@ pub read-vector-spec : {M : Type 1} → statement M
 read-vector-spec =
     tie.close
     (tie.spec
-    (λ c. omega (arith, its-place (c .before .before) .small))
-    (λ c. omega (arith, its-place (c .before .before) .small))
-    (λ c. omega (arith, its-place (c .before .before) .ends))
-    (λ c. omega (arith, its-place (c .before .before) .ends))
-    (λ c. omega (arith, its-place (c .before .before) .ends))
-    (λ c. omega (arith, its-place (c .before .before) .ends))
+    (λ c. omega (arith, its-place (c .before) .small))
+    (λ c. omega (arith, its-place (c .before) .small))
+    (λ c. omega (arith, its-place (c .before) .ends))
+    (λ c. omega (arith, its-place (c .before) .ends))
+    (λ c. omega (arith, its-place (c .before) .ends))
+    (λ c. omega (arith, its-place (c .before) .ends))
     (λ c κs. search needs)
     returns
     (λ c κs. search needs)
