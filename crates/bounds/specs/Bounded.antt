@@ -1,4 +1,5 @@
--- The causes for which the bounds of n codes' cells are refused, from a query with its presence word (document 02, Slip 1). Assumes nothing.
+-- The causes for which the bounds of n codes' cells are refused, from a query with its presence word (document 02, Slip 1). Assumes
+-- nothing.
 use mathlib.Core.Path.{_≡_}
 use mathlib.Core.Bool.{true, not, _&&_, and-eq-true-iff}
 use mathlib.Core.List.{List, [], _∷_, _++_}

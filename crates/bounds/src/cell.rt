@@ -42,11 +42,13 @@ pub fn cell_bounds(
     ensures { λ _. ⌜ now (lowers .exit)
         ≡ outcome (first (boundsCauses d b n word (now (query .entry)) (now (marks .entry)) (now (codes .entry))
         (length (now (lowers .entry))) (length (now (uppers .entry)))))
-        (valuesFrom (weighedLower d b (now (marks .entry)) (now (codes .entry)) (factorsOf word) (now (query .entry))) 0 n) (λ _. now (lowers .entry)) ⌝ }
+        (valuesFrom (weighedLower d b (now (marks .entry)) (now (codes .entry)) (factorsOf word) (now (query .entry))) 0 n)
+        (λ _. now (lowers .entry)) ⌝ }
     ensures { λ _. ⌜ now (uppers .exit)
         ≡ outcome (first (boundsCauses d b n word (now (query .entry)) (now (marks .entry)) (now (codes .entry))
         (length (now (lowers .entry))) (length (now (uppers .entry)))))
-        (valuesFrom (weighedUpper d b (now (marks .entry)) (now (codes .entry)) (factorsOf word) (now (query .entry))) 0 n) (λ _. now (uppers .entry)) ⌝ }
+        (valuesFrom (weighedUpper d b (now (marks .entry)) (now (codes .entry)) (factorsOf word) (now (query .entry))) 0 n)
+        (λ _. now (uppers .entry)) ⌝ }
 {
     let verdict = check_bounds(
         d,
@@ -102,7 +104,8 @@ fn check_shaped(
     uppers: usize,
 ) -> Verdict
     requires { ⌜ first (shapeCauses d b) ≡ Accepted ⌝ }
-    ensures { λ r. ⌜ r ≡ first (shapedBoundsCauses d b n word (now (query .entry)) (now (marks .entry)) (now (codes .entry)) lowers uppers) ⌝ }
+    ensures { λ r. ⌜ r
+        ≡ first (shapedBoundsCauses d b n word (now (query .entry)) (now (marks .entry)) (now (codes .entry)) lowers uppers) ⌝ }
 {
     if !limits::is_vector_count(n) {
         return Verdict::Refused(Refusal::Count);

@@ -45,10 +45,12 @@ module _ (d b : ℕ) (marks : List ℤ) (codes factors : List ℕ) (query : List
       let f = getD factors t 0 in
       (omega (arith, before .0, weighed-le f (shortest-le inside q)), omega (arith, before .1, weighed-le f (le-longest inside q)))
 
-  pub lower-le : {vector : List ℤ} → InCell d b marks codes i vector → weighedLower d b marks codes factors query i ≤ weighedDistance d factors query vector
+  pub lower-le : {vector : List ℤ} → InCell d b marks codes i vector
+      → weighedLower d b marks codes factors query i ≤ weighedDistance d factors query vector
   lower-le {vector} cell = first-bounds vector d (cell .inside) .0
 
-  pub le-upper : {vector : List ℤ} → InCell d b marks codes i vector → weighedDistance d factors query vector ≤ weighedUpper d b marks codes factors query i
+  pub le-upper : {vector : List ℤ} → InCell d b marks codes i vector
+      → weighedDistance d factors query vector ≤ weighedUpper d b marks codes factors query i
   le-upper {vector} cell = first-bounds vector d (cell .inside) .1
 
 -- ---- both are reached
@@ -62,7 +64,8 @@ module _ (xs ys : List ℤ) where
   front-inside d b marks codes i (suc t) h =
       rw (front-inside d b marks codes i t (omega arith), List·getD-append xs ys (pos 0) t h)
 
-  front-distance : (factors : List ℕ) (query : List ℤ) (t : ℕ) → t ≤ length xs → firstWeighed factors query (xs ++ ys) t ≡ firstWeighed factors query xs t
+  front-distance : (factors : List ℕ) (query : List ℤ) (t : ℕ) → t ≤ length xs
+      → firstWeighed factors query (xs ++ ys) t ≡ firstWeighed factors query xs t
   unfolding firstWeighed
   front-distance factors query zero h = refl
   front-distance factors query (suc t) h = rw (front-distance factors query t (omega arith), List·getD-append xs ys (pos 0) t h)

@@ -1,5 +1,5 @@
--- The distance of a vector from a query: "the sum of squared differences" (document 01, "Distance, bounds, reading order"), and the same over
--- the dimensions that are present (document 02, Slip 1). Assumes nothing.
+-- The distance of a vector from a query: "the sum of squared differences" (document 01, "Distance, bounds, reading order"), and the same
+-- over the dimensions that are present (document 02, Slip 1). Assumes nothing.
 use mathlib.Core.Path.{_≡_, refl}
 use mathlib.Core.Bool.{cond, _&&_}
 use mathlib.Core.List.{List}
@@ -51,13 +51,15 @@ firstSquares numbers (suc t) = firstSquares numbers t + squared (getD numbers t 
 -- the sum modulo 2^64, and 0 where query and vector are not equally long or longer than any may be
 unfoldable pub measuredOf : List ℕ → List ℤ → List ℤ → ℕ
 measuredOf factors query vector =
-    cond (eqb (length vector) (length query) && leb (length query) maxDimensions) (firstMeasured factors query vector (length query) % 2 ^ 64) 0
+    cond (eqb (length vector) (length query) && leb (length query) maxDimensions)
+    (firstMeasured factors query vector (length query) % 2 ^ 64) 0
 
 -- ---- laws
 
 -- the squares of the products are what the dimensions add
 pub squares-of-products : (factors : List ℕ) (query vector : List ℤ) (products : List ℕ) (d : ℕ)
-    → ((t : ℕ) → t < d → getD products t 0 ≡ productAt factors query vector t) → firstSquares products d ≡ firstMeasured factors query vector d
+    → ((t : ℕ) → t < d → getD products t 0 ≡ productAt factors query vector t)
+    → firstSquares products d ≡ firstMeasured factors query vector d
 unfolding firstSquares firstMeasured weighedWord
 squares-of-products factors query vector products zero each = refl
 squares-of-products factors query vector products (suc t) each =

@@ -93,7 +93,8 @@ parts-small : (sum factor step : ℕ → ℕ) → sum 0 ≡ 0 → ((t : ℕ) →
 parts-small sum factor step none more small zero near = omega (arith, none)
 parts-small sum factor step none more small (suc n) near =
     let before = parts-small sum factor step none more small n (λ t h. near t (omega arith)) in
-    let here : weighed (factor n) (step n) ≤ 2 ^ 25 * 2 ^ 25 = squared-le (product-small (factor n) (step n) (small n) (near n (omega arith))) in
+    let here : weighed (factor n) (step n) ≤ 2 ^ 25 * 2 ^ 25 =
+    squared-le (product-small (factor n) (step n) (small n) (near n (omega arith))) in
     omega (arith, more n)
 
 -- ---- distances and bounds

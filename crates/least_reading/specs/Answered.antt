@@ -32,7 +32,8 @@ pub record Lent (factors : List ℕ) (l : Index) (query : Query) (k : ℕ) (lows
   pub words-room : length words ≡ l .n
   pub best-room : length best ≡ k
 
-pub lows-room : {factors : List ℕ} {l : Index} {query : Query} {k : ℕ} {lows order words best : List ℕ} → Lent factors l query k lows order words best
+pub lows-room : {factors : List ℕ} {l : Index} {query : Query} {k : ℕ} {lows order words best : List ℕ}
+    → Lent factors l query k lows order words best
     → length lows ≡ l .n
 lows-room {l} {query} lent = ap length (lent .lows-are) ∙ values-length (lowIn l query) 0 (l .n)
 

@@ -77,10 +77,12 @@ pub tells-refused : (cells : Bool) (m : ℕ) (cause : Refusal) → cond cells (R
 tells-refused true m cause e = cc
 tells-refused false m cause e = refl
 
-pub cells-accepted : (l : Index) (query : Query) (k : ℕ) → inOwnCells l (searched l query k .reads) ≡ true → first (cellCauses l query k) ≡ verdict.Accepted
+pub cells-accepted : (l : Index) (query : Query) (k : ℕ) → inOwnCells l (searched l query k .reads) ≡ true
+    → first (cellCauses l query k) ≡ verdict.Accepted
 unfolding first
 cells-accepted l query k all = rw all
 
-pub cells-refused : (l : Index) (query : Query) (k : ℕ) → inOwnCells l (searched l query k .reads) ≡ false → first (cellCauses l query k) ≡ verdict.Refused Cell
+pub cells-refused : (l : Index) (query : Query) (k : ℕ) → inOwnCells l (searched l query k .reads) ≡ false
+    → first (cellCauses l query k) ≡ verdict.Refused Cell
 unfolding first
 cells-refused l query k some-out = rw some-out

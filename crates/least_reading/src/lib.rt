@@ -47,7 +47,8 @@ pub fn nearest_by_bounds(
 ) -> Found
     ensures { λ r. let l = indexOf terms (now (marks .entry)) (now (codes .entry)) (now (vectors .entry)) in
         let room = roomOf entries (length (now (reads .entry))) in
-        ⌜ Searches (first (searchCauses l (queryOf terms (now (query .entry))) (terms .k) room)) l (queryOf terms (now (query .entry))) (terms .k) r
+        let q = queryOf terms (now (query .entry)) in
+        ⌜ Searches (first (searchCauses l q (terms .k) room)) l q (terms .k) r
         (now (reads .entry)) (now (reads .exit)) ⌝ }
 {
     let verdict = check_entry(terms, query, marks, codes, vectors, entries, reads.len());
@@ -69,9 +70,11 @@ fn search_ready(
     vectors: &[i32],
     reads: &mut [u32],
 ) -> Found
-    requires { ⌜ (Ready (indexOf terms (now marks) (now codes) (now vectors)) (queryOf terms (now query)) (terms .k)) × (length (now reads) ≡ terms .n) ⌝ }
+    requires { let l = indexOf terms (now marks) (now codes) (now vectors) in
+        ⌜ (Ready l (queryOf terms (now query)) (terms .k)) × (length (now reads) ≡ terms .n) ⌝ }
     ensures { λ r. let l = indexOf terms (now (marks .entry)) (now (codes .entry)) (now (vectors .entry)) in
-        ⌜ Searches (first (cellCauses l (queryOf terms (now (query .entry))) (terms .k))) l (queryOf terms (now (query .entry))) (terms .k) r
+        let q = queryOf terms (now (query .entry)) in
+        ⌜ Searches (first (cellCauses l q (terms .k))) l q (terms .k) r
         (now (reads .entry)) (now (reads .exit)) ⌝ }
 {
     let factors = presence::factors_of(terms.word);
@@ -113,11 +116,14 @@ fn search_bounded(
     words: &mut [u64],
     reads: &mut [u32],
 ) -> Found
-    requires { ⌜ (Prepared (task .factors) (indexOf (task .terms) (now marks) (now codes) (now vectors)) (queryOf (task .terms) (now query)) (task .terms .k))
+    requires { let l = indexOf (task .terms) (now marks) (now codes) (now vectors) in
+        ⌜ (Prepared (task .factors) l (queryOf (task .terms) (now query)) (task .terms .k))
         × (length (now order) ≡ task .terms .n) × (length (now words) ≡ task .terms .n) × (length (now reads) ≡ task .terms .n) ⌝ }
-    requires { ⌜ now lows ≡ valuesFrom (lowIn (indexOf (task .terms) (now marks) (now codes) (now vectors)) (queryOf (task .terms) (now query))) 0 (task .terms .n) ⌝ }
+    requires { let l = indexOf (task .terms) (now marks) (now codes) (now vectors) in
+        ⌜ now lows ≡ valuesFrom (lowIn l (queryOf (task .terms) (now query))) 0 (task .terms .n) ⌝ }
     ensures { λ r. let l = indexOf (task .terms) (now (marks .entry)) (now (codes .entry)) (now (vectors .entry)) in
-        ⌜ Searches (first (cellCauses l (queryOf (task .terms) (now (query .entry))) (task .terms .k))) l (queryOf (task .terms) (now (query .entry))) (task .terms .k) r
+        let q = queryOf (task .terms) (now (query .entry)) in
+        ⌜ Searches (first (cellCauses l q (task .terms .k))) l q (task .terms .k) r
         (now (reads .entry)) (now (reads .exit)) ⌝ }
 {
     let k = task.terms.k;
@@ -154,7 +160,8 @@ fn lower_bounds(
 )
     requires { ⌜ (Bounding d b (length (now lows)) (now query) (now marks) (now codes)) × (Factors factors) ⌝ }
     ensures { λ _. ⌜ now (lows .exit)
-        ≡ valuesFrom (weighedLower d b (now (marks .entry)) (now (codes .entry)) factors (now (query .entry))) 0 (length (now (lows .entry))) ⌝ }
+        ≡ valuesFrom (weighedLower d b (now (marks .entry)) (now (codes .entry)) factors (now (query .entry))) 0
+        (length (now (lows .entry))) ⌝ }
 {
     let size = marks.len();
     let mut table = [0u64; MAX_TABLE];

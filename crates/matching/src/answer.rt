@@ -38,7 +38,8 @@ pub(crate) fn answer(
     requires { ⌜ length (now settings) ≡ terms .n ⌝ }
     requires { let l = libraryWith (terms .d) (terms .b) (terms .n) (now marks) (now settings) (now components) in
         ⌜ length (answerText l (queryOf terms (now query)) (terms .k)) ≤ length (now text) ⌝ }
-    ensures { λ r. let l = libraryWith (terms .d) (terms .b) (terms .n) (now (marks .entry)) (now (settings .entry)) (now (components .entry)) in
+    ensures { λ r. let l = libraryWith (terms .d) (terms .b) (terms .n) (now (marks .entry)) (now (settings .entry))
+        (now (components .entry)) in
         ⌜ Puts (answerText l (queryOf terms (now (query .entry))) (terms .k)) 0 (now (text .entry)) (now (text .exit)) r ⌝ }
 {
     let size = layout::codes_length(terms.d, terms.b, terms.n);
@@ -78,7 +79,8 @@ fn answer_coded(
     requires { ⌜ length (answerLines (now settings) (terms .k)
         (searched (indexOf terms (now marks) (now codes) (now components)) (queryOf terms (now query)) (terms .k))) ≤ length (now text) ⌝ }
     ensures { λ r. ⌜ Puts (answerLines (now (settings .entry)) (terms .k)
-        (searched (indexOf terms (now (marks .entry)) (now (codes .entry)) (now (components .entry))) (queryOf terms (now (query .entry))) (terms .k))) 0
+        (searched (indexOf terms (now (marks .entry)) (now (codes .entry)) (now (components .entry)))
+        (queryOf terms (now (query .entry))) (terms .k))) 0
         (now (text .entry)) (now (text .exit)) r ⌝ }
 {
     let n = terms.n;

@@ -1,4 +1,5 @@
--- The numbers of document 01's table "When a call says no", and of document 02's causes: one for each, 0 where there is none. Assumes nothing.
+-- The numbers of document 01's table "When a call says no", and of document 02's causes: one for each, 0 where there is none. Assumes
+-- nothing.
 use Prim.Native.Nat.{ℕ}
 use Rattle.refusal.specs.declared.Refusal.{Refusal}
 use Rattle.refusal.specs.declared.Refusal.the-variants.{Dimension, Bits, Count, Neighbours, Length, Component, Mark, Outside, Code, Cell, Kind, Truncated, Stale, NotANumber, OutOfRange, Trailing, Misplaced, TooFewPresent, PresenceBit}

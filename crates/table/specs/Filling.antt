@@ -41,7 +41,8 @@ place {d} {b} {t} {s} shaped below is =
     }
 
 -- the entries of the first t dimensions stand at the table's front
-pub record Filled (step : ℤ → ℤ → ℤ → ℕ) (d b : ℕ) (marks : List ℤ) (factors : List ℕ) (query : List ℤ) (table : List ℕ) (t : ℕ) : Type 0 where
+pub record Filled (step : ℤ → ℤ → ℤ → ℕ) (d b : ℕ) (marks : List ℤ) (factors : List ℕ) (query : List ℤ) (table : List ℕ) (t : ℕ)
+    : Type 0 where
   pub within : t ≤ d
   pub room : length table ≡ firstMarks d b d
   pub front : take (firstMarks d b t) table ≡ tableFirst step d b marks factors query t
@@ -59,7 +60,8 @@ module _ (step : ℤ → ℤ → ℤ → ℕ) (d b : ℕ) (marks : List ℤ) (fa
 
   -- the entries of dimension t + 1 are written over the part behind it
   pub filled-next : {t start bits end : ℕ} {table : List ℕ} (ys : List ℕ) → Place d b t start bits end → t < d
-      → ys ≡ stepsFrom step (getD factors t 0) (getD query t (pos 0)) (take (end - start) (drop start marks)) 0 (length (midOf start (end - start) table))
+      → ys ≡ stepsFrom step (getD factors t 0) (getD query t (pos 0)) (take (end - start) (drop start marks)) 0
+      (length (midOf start (end - start) table))
       → Filled step d b marks factors query table t → Filled step d b marks factors query (putMid start (end - start) table ys) (t + 1)
   unfolding tableFirst dimensionMarks
   filled-next {t} {start} {bits} {end} {table} ys at below is so-far =
@@ -80,7 +82,8 @@ module _ (step : ℤ → ℤ → ℤ → ℕ) (d b : ℕ) (marks : List ℤ) (fa
         front = rw (add-one t, ← at .ends, put-front start end table ys first inside long, entries, at .begins, so-far .front);
       }
 
-  pub filled-all : {table : List ℕ} {t : ℕ} → Filled step d b marks factors query table t → d ≤ t → table ≡ tableOf step d b marks factors query
+  pub filled-all : {table : List ℕ} {t : ℕ} → Filled step d b marks factors query table t → d ≤ t
+      → table ≡ tableOf step d b marks factors query
   filled-all {table} {t} so-far past =
       let all : t ≡ d = omega (arith, so-far .within) in
       sym (take-all (firstMarks d b d) table (omega (arith, so-far .room))) ∙ rw all at (so-far .front)
