@@ -92,6 +92,7 @@ fn check_bounds(
     }
 }
 
+// The same where the shape is right: the number of codes, then the word.
 fn check_shaped(
     d: usize,
     b: usize,
@@ -116,6 +117,7 @@ fn check_shaped(
     }
 }
 
+// The same where these pass too.
 fn check_measured(
     d: usize,
     b: usize,

@@ -17,7 +17,7 @@ gap a b = natAbs (a -ℤ b)
 abbrev pub squared : ℕ → ℕ
 squared step = step * step
 
--- what it adds where the dimension has a factor: 0 where it is absent and 1 where it is present (document 02, Slip 1). "The difference is
+-- what it adds where the dimension has a factor: 0 where it is absent and 1 where it is present (document 02, Slip 1): "the difference is
 -- multiplied by the weight before squaring" (Slip 7, as in source document 000).
 abbrev pub weighed : ℕ → ℕ → ℕ
 weighed factor step = squared (factor * step)
