@@ -1,25 +1,28 @@
--- The codes of vectors are the vectors' own, and own codes name no empty region. Assumes nothing.
-use mathlib.Core.Path.{_≡_, refl, ap, _∙_}
+-- The codes of vectors are the vectors' own, own codes name no empty region, and there are no other own codes. Assumes nothing.
+use mathlib.Core.Path.{_≡_, refl, sym, ap, _∙_}
 use mathlib.Core.Bool.{true, and-eq-true-iff}
 use mathlib.Core.List.{List, [], _∷_}
-use Prim.Native.Nat.{ℕ, zero, suc, _+_, _*_, _%_, _≤_, _<_}
+use Prim.Native.Nat.{ℕ, zero, suc, _+_, _*_, _/_, _%_, _≤_, _<_}
 use native.Mathlib.Nat.{zero-add, add-zero, add-suc, suc-add, zero-mod, suc-mul, mul-le-mul-right, le-of-suc-le-suc}
+use native.Mathlib.Nat.{mod-lt, div-lt-iff-lt-mul, div-add-mod'}
 use native.Mathlib.Omega.{arith}
 use borrow.Author.Tests.{lt-ltb}
 use lib.Arith.{digits-lt, digits-mod}
 use lib.IntN.{ℤ, pos}
-use lib.ListN.{length, drop, getD, length-take}
-use lib.Seq.{getD-take, getD-drop}
-use Rattle.layout.specs.Layout.{regionCount}
+use lib.ListN.{length, getD, length-take}
+use lib.Seq.{ext-getD}
+use Rattle.layout.specs.Layout.{regionCount, firstMarks}
 use Rattle.region.specs.Region.{inRegion, regionOf, inMarks}
 use Rattle.region.specs.Within.{within, within-apart}
-use Rattle.region.specs.Regions.{RegionHolds, region-of-holds}
-use Rattle.partition.specs.Marks.{dimensionMarks}
-use Rattle.codes.specs.Codes.{nextColumn, regionsFit, packed, codeRegion}
-use Rattle.codes.specs.PackLaws.{next-column, packed-spare, unpacked-packed, code-region}
+use Rattle.region.specs.Regions.{RegionHolds, region-of-holds, region-of-is}
+use Rattle.partition.specs.Marks.{dimensionMarks, goodMarks, good-marks-each}
+use Rattle.partition.specs.Parts.{part-length}
+use Rattle.codes.specs.BitLaws.{Bytes}
+use Rattle.codes.specs.Codes.{nextColumn, regionsFit, codeLength, packed, unpacked, codeRegion}
+use Rattle.codes.specs.PackLaws.{next-column, packed-spare, unpacked-packed, packed-unpacked, length-unpacked, code-region, code-region-fits}
 use Rattle.approximation.specs.Vectors.{regionsFrom, vectorRegions, insideFrom, vectorsInside, vectorCodes}
 use Rattle.cells.specs.Cells.{vectorAt, inFirst, InCell, hasValue, noneEmpty, noEmptyCodes, goodCodes, Own}
-use Rattle.cells.specs.CellLaws.{vector-size}
+use Rattle.cells.specs.CellLaws.{vector-size, vector-component, cell-region}
 
 -- ---- The region numbers of vectors that lie inside the marks
 
@@ -85,9 +88,7 @@ module _ (d b n : ℕ) (some : 0 < d) (marks vectors : List ℤ) (rows : length 
       code-region d b n some (packed d b n regions) i t row column
       ∙ ap (λ (l : List ℕ). getD l (i * d + t) 0)
       (unpacked-packed d b n some regions rows-located (regions-fit d b marks vectors inside)) in
-      let component : getD (vectorAt d vectors i) t (pos 0) ≡ getD vectors (i * d + t) (pos 0) = getD-take d (drop (i * d) vectors) t
-      (pos 0) column ∙ getD-drop (i * d) vectors t (pos 0) in
-      rw (is, component)
+      rw (is, vector-component d vectors i t column)
       (rw (zero-mod d, zero-add (i * d + t), digits-mod i column) at
       (from-holds d b some marks 0 (i * d + t) vectors here (rw zero-mod inside)))
 
@@ -136,3 +137,45 @@ own-not-empty {d} {b} {marks = marks} {codes = codes} {vectors = vectors} own (s
 pub own-good : {d b n : ℕ} {marks : List ℤ} {codes : List ℕ} {vectors : List ℤ} → Own d b n marks codes vectors
     → goodCodes d b n marks codes ≡ true
 own-good {n = n} own = and-eq-true-iff _ _ .1 (own-not-empty own n (omega arith), own .spare)
+
+-- ---- Packing gives the only own codes
+
+-- Component q, the first of them in column p % d, has its dimension's region number.
+region-at : (d b : ℕ) → 0 < d → (marks : List ℤ) (p q : ℕ) (vectors : List ℤ) → q < length vectors
+    → getD (regionsFrom d b marks (p % d) vectors) q 0 ≡ regionOf (dimensionMarks d b marks (suc ((p + q) % d))) (getD vectors q (pos 0))
+unfolding regionsFrom
+region-at d b some marks p q [] more = absurd (omega arith)
+region-at d b some marks p zero (z ∷ zs) more = rw add-zero
+region-at d b some marks p (suc q) (z ∷ zs) more =
+    rw (add-suc p q, ← suc-add p q, next-column d b some p) (region-at d b some marks (suc p) q zs (le-of-suc-le-suc more))
+
+module _ {d b n : ℕ} (some : 0 < d) {marks : List ℤ} (exact : length marks ≡ firstMarks d b d) (good : goodMarks d b marks ≡ true)
+    {vectors : List ℤ} (rows : length vectors ≡ n * d) {codes : List ℕ} (own : Own d b n marks codes vectors) where
+  -- The region that code i names for dimension t + 1 is that of the vector's component.
+  own-region : (i t : ℕ) → i < n → t < d → getD (vectorRegions d b marks vectors) (i * d + t) 0 ≡ codeRegion d b codes i t
+  own-region i t row column =
+      let here : i * d + t < length vectors = rw rows (digits-lt row column) in
+      let own-marks = dimensionMarks d b marks (suc t) in
+      let exists : suc (codeRegion d b codes i t) < length own-marks =
+      omega (arith, part-length d b marks exact t column, code-region-fits d b codes i t) in
+      let holds : RegionHolds own-marks (codeRegion d b codes i t) (getD vectors (i * d + t) (pos 0)) =
+      record { exists = exists; inside = rw (vector-component d vectors i t column) at (cell-region (own .cells i row) t column) } in
+      (rw (zero-mod d, zero-add (i * d + t), digits-mod i column) at (region-at d b some marks 0 (i * d + t) vectors here))
+      ∙ sym (region-of-is (good-marks-each d b marks t column good) holds)
+
+  own-regions : vectorRegions d b marks vectors ≡ unpacked d b n codes
+  own-regions =
+      ext-getD 0 (vectorRegions d b marks vectors) (unpacked d b n codes)
+      (length-regions d b marks 0 vectors ∙ rows ∙ sym (length-unpacked d b n codes)) each
+    where
+      each : (q : ℕ) → q < length (vectorRegions d b marks vectors)
+          → getD (vectorRegions d b marks vectors) q 0 ≡ getD (unpacked d b n codes) q 0
+      each q within =
+          let inside : q < n * d = omega (arith, length-regions d b marks 0 vectors, rows) in
+          let row : q / d < n = div-lt-iff-lt-mul some .1 inside in
+          rw (← div-add-mod' q d)
+          (own-region (q / d) (q % d) row (mod-lt q some) ∙ code-region d b n some codes (q / d) (q % d) row (mod-lt q some))
+
+  -- Codes of bytes that are the vectors' own are those that packing gives.
+  pub own-packed : Bytes codes → length codes ≡ codeLength b n → vectorCodes d b n marks vectors ≡ codes
+  own-packed bytes size = ap (packed d b n) own-regions ∙ packed-unpacked d b n some codes bytes size (own .spare)

@@ -1,4 +1,4 @@
--- Document 01's cases P1 to P12, as one table under one statement. Assumes nothing.
+-- Document 01's cases P1 to P12, P10 as document 02, Slip 2, has it, as one table under one statement. Assumes nothing.
 use mathlib.Core.Path.{_≡_, refl}
 use mathlib.Core.List.{List, [], _∷_}
 use Prim.Native.Nat.{ℕ}
@@ -23,7 +23,8 @@ use Rattle.region.specs.Dimension.{notAbove, goodDimension}
 use Rattle.region.specs.Region.{regionOf, inRegion, inMarks}
 use Rattle.partition.specs.Marks.{dimensionMarks, goodFirst}
 use Rattle.marking.specs.Making.{makeCauses}
-use Rattle.marking.specs.Made.{column, inOrder, madeDimension, madeFirst, madeMarks}
+use Rattle.marking.specs.Made.{column, inOrder, markAt, marksBetween, firstBetween, madeMarks}
+use Rattle.remade.specs.Former.{formerMarks}
 use Rattle.codes.specs.Bits.{lowBits, fromBits, bytesOf, byteBits, allZero}
 use Rattle.codes.specs.Codes.{joined, packed, codeRegion}
 use Rattle.cells.specs.Cells.{inFirst, hasValue, noneEmpty, noEmptyCodes}
@@ -46,6 +47,8 @@ pub data Case : Type 0 where
   codes : Index → Case
   -- the marks made from a library's vectors
   makes : Index → List ℤ → Case
+  -- the marks that document 01's rule makes from them, which no call makes any more
+  made : Index → List ℤ → Case
   -- the search of a library for the k nearest, with every dimension present, gives these pairs (distance, number) and this read list
   finds : Index → List ℤ → ℕ → List Pair → List ℕ → Case
 
@@ -58,6 +61,7 @@ Holds (codes l) =
     × (vectorCodes (l .d) (l .b) (l .n) (l .marks) (l .vectors) ≡ l .codes)
 Holds (makes l marks) =
     (first (makeCauses (l .d) (l .b) (l .n) (l .vectors) (length marks)) ≡ Accepted) × (madeMarks (l .d) (l .b) (l .n) (l .vectors) ≡ marks)
+Holds (made l marks) = formerMarks (l .d) (l .b) (l .n) (l .vectors) ≡ marks
 Holds (finds l query k entries reads) =
     (first (searchCauses l (fullQuery l query) k (roomOf k (l .n))) ≡ Accepted)
     × (searched l (fullQuery l query) k ≡ record { best = entries; reads = reads })
@@ -111,8 +115,9 @@ table =
     -- P9, and the same for the library of P12
     ∷ codes libraryA
     ∷ codes libraryP12
-    -- P10
-    ∷ makes libraryA (pos 1 ∷ pos 2 ∷ pos 4 ∷ pos 13 ∷ pos 19 ∷ pos 1 ∷ pos 3 ∷ pos 11 ∷ [])
+    -- P10: "-32768 2 4 13 32768 and -32768 3 32768", and before Slip 2 "1 2 4 13 19 and 1 3 11"
+    ∷ makes libraryA (negsuc 32767 ∷ pos 2 ∷ pos 4 ∷ pos 13 ∷ pos 32768 ∷ negsuc 32767 ∷ pos 3 ∷ pos 32768 ∷ [])
+    ∷ made libraryA (pos 1 ∷ pos 2 ∷ pos 4 ∷ pos 13 ∷ pos 19 ∷ pos 1 ∷ pos 3 ∷ pos 11 ∷ [])
     -- P11
     ∷ finds libraryA (pos 12 ∷ pos 6 ∷ []) 1 (at 1 3 ∷ []) (3 ∷ [])
     ∷ finds libraryA (pos 12 ∷ pos 6 ∷ []) 2 (at 1 3 ∷ at 61 4 ∷ []) (3 ∷ 2 ∷ 4 ∷ [])
@@ -121,7 +126,7 @@ table =
     ∷ []
 
 pub cases-hold : All table
-unfolding first intakeOf valueIntake rounded ofBits ofFields odd isNan keyOf below insert sort keyed ranked numbersOf countFrom ranking scan unread leastPair goesOn readNext reading read bitsOf firstBits firstMarks dimensionMarks regionOf column inOrder madeDimension madeFirst lowBits fromBits bytesOf byteBits joined packed codeRegion regionsFrom factorAt factorsFrom factorsOf presentCount firstWeighed shortest firstWeighedBound areComponents goodFirst notAbove goodDimension inMarks inRegion insideFrom allZero inFirst hasValue noneEmpty noEmptyCodes inOwnCells
+unfolding first intakeOf valueIntake rounded ofBits ofFields odd isNan keyOf below insert sort keyed ranked numbersOf countFrom ranking scan unread leastPair goesOn readNext reading read bitsOf firstBits firstMarks dimensionMarks regionOf column inOrder markAt marksBetween firstBetween lowBits fromBits bytesOf byteBits joined packed codeRegion regionsFrom factorAt factorsFrom factorsOf presentCount firstWeighed shortest firstWeighedBound areComponents goodFirst notAbove goodDimension inMarks inRegion insideFrom allZero inFirst hasValue noneEmpty noEmptyCodes inOwnCells
 cases-hold = (
   refl,
   (
@@ -140,7 +145,7 @@ cases-hold = (
                 refl,
                 (
                   refl,
-                  ((refl, refl), ((refl, refl), ((refl, refl), ((refl, refl), ((refl, refl), ((refl, refl), tt)))))),
+                  ((refl, refl), ((refl, refl), ((refl, refl), (refl, ((refl, refl), ((refl, refl), ((refl, refl), tt))))))),
                 ),
               ),
             ),

@@ -1,17 +1,18 @@
--- A code's cell by the marks buffer's own places. Assumes nothing.
+-- A code's cell, region by region and by the marks buffer's own places. Assumes nothing.
 use mathlib.Core.Path.{_≡_, refl, ap₂, ap, _∙_}
 use mathlib.Core.Bool.{Bool, true, _&&_}
 use mathlib.Core.List.{List}
-use Prim.Native.Nat.{ℕ, zero, suc, _+_, _*_, _≤_}
+use Prim.Native.Nat.{ℕ, zero, suc, _+_, _*_, _≤_, _<_}
 use native.Mathlib.Nat.{zero-add}
 use native.Mathlib.Omega.{arith}
 use lib.IntN.{ℤ, pos}
 use lib.Signed.{leZ, ltZ}
 use lib.ListN.{length, drop, getD, length-drop}
-use lib.Seq.{length-take-le}
+use lib.Seq.{length-take-le, getD-take, getD-drop}
 use Rattle.refusal.specs.declared.Verdict.the-variants.{Accepted}
 use Rattle.refusal.specs.First.{first}
 use Rattle.limits.specs.Limits.{maxVectors}
+use Rattle.limits.specs.Tests.{All, all-each}
 use Rattle.layout.specs.Layout.{firstMarks, codeLength}
 use Rattle.layout.specs.Stretch.{shapeCauses}
 use Rattle.region.specs.Region.{inRegion}
@@ -19,12 +20,28 @@ use Rattle.partition.specs.Marks.{dimensionMarks}
 use Rattle.partition.specs.Parts.{part-at}
 use Rattle.codes.specs.Codes.{codeRegion}
 use Rattle.codes.specs.PackLaws.{code-region-fits}
-use Rattle.cells.specs.Cells.{vectorAt, hasValue, noneEmpty}
+use Rattle.cells.specs.Cells.{vectorAt, inFirst, InCell, hasValue, noneEmpty}
 use Rattle.cells.specs.Places.{markPlace, markPlaces, place-at}
 
 -- a vector that is there has d components
 pub vector-size : (d : ℕ) (vectors : List ℤ) (i : ℕ) → i * d + d ≤ length vectors → length (vectorAt d vectors i) ≡ d
 vector-size d vectors i within = length-take-le d (drop (i * d) vectors) (rw length-drop (omega arith))
+
+pub vector-component : (d : ℕ) (vectors : List ℤ) (i t : ℕ) → t < d
+    → getD (vectorAt d vectors i) t (pos 0) ≡ getD vectors (i * d + t) (pos 0)
+vector-component d vectors i t among = getD-take d (drop (i * d) vectors) t (pos 0) among ∙ getD-drop (i * d) vectors t (pos 0)
+
+-- each component of a vector of the cell lies in its region
+inside-all : (d b : ℕ) (marks : List ℤ) (codes : List ℕ) (i : ℕ) (vector : List ℤ)
+    → All (inFirst d b marks codes i vector)
+    (λ t. inRegion (dimensionMarks d b marks (suc t)) (codeRegion d b codes i t) (getD vector t (pos 0)))
+unfolding inFirst
+inside-all d b marks codes i vector = record { next = λ t. refl }
+
+pub cell-region : {d b : ℕ} {marks : List ℤ} {codes : List ℕ} {i : ℕ} {vector : List ℤ} → InCell d b marks codes i vector
+    → (t : ℕ) → t < d → inRegion (dimensionMarks d b marks (suc t)) (codeRegion d b codes i t) (getD vector t (pos 0)) ≡ true
+cell-region {d} {b} {marks} {codes} {i} {vector} cell t among =
+    all-each (inside-all d b marks codes i vector) d t among (cell .inside)
 
 -- what is known where only the codes are left to test
 pub record Named (d b n : ℕ) (codes : List ℕ) : Type 0 where

@@ -9,13 +9,12 @@ use lib.IntN.{ℤ, pos, negsuc, predℤ}
 use lib.Signed.{leZ}
 use lib.ListN.{length, getD}
 use Rattle.limits.specs.Limits.{isComponent, isMark, greatestComponent, leastMark, greatestMark}
-use Rattle.limits.specs.Tests.{All, all-each}
 use Rattle.signed.specs.Components.{areComponents, all-components}
 use Rattle.region.specs.Dimension.{notAbove, goodDimension}
-use Rattle.region.specs.Region.{inRegion}
 use Rattle.partition.specs.Marks.{dimensionMarks, goodMarks, good-marks-each}
 use Rattle.codes.specs.Codes.{codeRegion}
-use Rattle.cells.specs.Cells.{InCell, inFirst}
+use Rattle.cells.specs.Cells.{InCell}
+use Rattle.cells.specs.CellLaws.{cell-region}
 use Rattle.region.specs.Within.{leZ-trans}
 use Rattle.step.specs.Order.{lt-pred}
 use Rattle.step.specs.Steps.{Inside}
@@ -31,12 +30,10 @@ pub inside-component : {low v high : ℤ} → isMark low ≡ true → isMark hig
 inside-component {low} {v} {high} lows highs inside =
     let least = and-eq-true-iff (leZ leastMark low) (leZ low greatestMark) .0 lows .0 in
     let greatest = and-eq-true-iff (leZ leastMark high) (leZ high greatestMark) .0 highs .1 in
-    and-eq-true-iff _ _ .1 (leZ-trans leastMark low v least (inside .above), leZ-trans v (predℤ high) greatestComponent (sym (lt-pred v high) ∙ inside .below) (last-component high greatest))
-
-inside-all : (d b : ℕ) (marks : List ℤ) (codes : List ℕ) (i : ℕ) (vector : List ℤ)
-    → All (inFirst d b marks codes i vector) (λ t. inRegion (dimensionMarks d b marks (suc t)) (codeRegion d b codes i t) (getD vector t (pos 0)))
-unfolding inFirst
-inside-all d b marks codes i vector = record { next = λ t. refl }
+    and-eq-true-iff _ _ .1 (
+      leZ-trans leastMark low v least (inside .above),
+      leZ-trans v (predℤ high) greatestComponent (sym (lt-pred v high) ∙ inside .below) (last-component high greatest),
+    )
 
 mark-at : (ms : List ℤ) (r : ℕ) → goodDimension ms ≡ true → isMark (getD ms r (pos 0)) ≡ true
 unfolding goodDimension
@@ -55,6 +52,5 @@ module _ (d b : ℕ) (marks : List ℤ) (good : goodMarks d b marks ≡ true) wh
       one t h =
           let h : t < d = omega (arith, cell .components) in
           let r = codeRegion d b codes i t in
-          let inside = all-each (inside-all d b marks codes i vector) d t h (cell .inside) in
           inside-component (good-mark t r h) (good-mark t (suc r) h)
-          (in-region (dimensionMarks d b marks (suc t)) r (getD vector t (pos 0)) inside)
+          (in-region (dimensionMarks d b marks (suc t)) r (getD vector t (pos 0)) (cell-region cell t h))

@@ -1,5 +1,5 @@
 -- The marks of a buffer by their numbers: those of a dimension stand behind those of the dimensions before it. Assumes nothing.
-use mathlib.Core.Path.{_≡_, refl, sym, ap, _∙_}
+use mathlib.Core.Path.{_≡_, refl, ap, _∙_}
 use mathlib.Core.Bool.{true, false, not, _&&_}
 use mathlib.Core.List.{List, [], _∷_}
 use Prim.Native.Nat.{ℕ, zero, suc, _+_, _-_, _^_, _≤_, _<_}
@@ -8,18 +8,16 @@ use native.Mathlib.Decide.{decLt}
 use native.Mathlib.Omega.{arith}
 use lib.IntN.{ℤ, pos}
 use lib.Signed.{leZ, ltZ}
-use lib.ListN.{length, getD, take, drop, length-drop}
-use lib.Seq.{getD-take, getD-drop, length-take-le}
+use lib.ListN.{length, getD}
 use Rattle.limits.specs.Limits.{isMark}
 use Rattle.limits.specs.Tests.{ltZ-not}
 use Rattle.layout.specs.Layout.{bitsOf, markCount, firstMarks}
-use Rattle.layout.specs.Laws.{marks-within}
 use Rattle.region.specs.Dimension.{goodDimension}
 use Rattle.region.specs.Region.{inMarks}
 use Rattle.region.specs.Regions.{good-first, marks-rise, last-mark}
-use Rattle.partition.specs.Marks.{dimensionMarks, goodFirst, goodMarks}
+use Rattle.partition.specs.Marks.{dimensionMarks, goodFirst, goodMarks, good-marks-each}
+use Rattle.partition.specs.Parts.{part-at, part-length}
 use Rattle.library.specs.Each.{every}
-use Rattle.library.specs.EachLaws.{every-at}
 
 -- ---- one dimension
 
@@ -57,24 +55,8 @@ good-each d b marks zero = refl
 good-each d b marks (suc n) = rw (good-each d b marks n)
 
 module _ (d b : ℕ) (marks : List ℤ) (whole : length marks ≡ firstMarks d b d) (t : ℕ) (among : t < d) where
-  room : firstMarks d b t + markCount d b (suc t) ≤ length marks
-  unfolding firstMarks
-  room = rw whole (marks-within d b d t among)
-
-  part-is : dimensionMarks d b marks (suc t) ≡ take (markCount d b (suc t)) (drop (firstMarks d b t) marks)
-  unfolding dimensionMarks
-  part-is =
-      let before : suc t - 1 ≡ t = omega arith in
-      rw before
-
-  pub part-length : length (dimensionMarks d b marks (suc t)) ≡ markCount d b (suc t)
-  part-length = rw part-is (length-take-le (markCount d b (suc t)) (drop (firstMarks d b t) marks) (rw length-drop (omega (arith, room))))
-
-  pub part-at : (i : ℕ) → i < markCount d b (suc t)
-      → getD (dimensionMarks d b marks (suc t)) i (pos 0) ≡ getD marks (firstMarks d b t + i) (pos 0)
-  part-at i h =
-      rw (part-is, getD-take (markCount d b (suc t)) (drop (firstMarks d b t) marks) i (pos 0) h)
-      (getD-drop (firstMarks d b t) marks i (pos 0))
+  size : length (dimensionMarks d b marks (suc t)) ≡ markCount d b (suc t)
+  size = part-length d b marks whole t among
 
   -- a value lies inside a dimension's marks where it is at least the first and below the last
   pub in-marks-at : (v : ℤ)
@@ -82,22 +64,24 @@ module _ (d b : ℕ) (marks : List ℤ) (whole : length marks ≡ firstMarks d b
       ≡ leZ (getD marks (firstMarks d b t) (pos 0)) v && ltZ v (getD marks (firstMarks d b t + 2 ^ bitsOf d b (suc t)) (pos 0))
   unfolding inMarks
   in-marks-at v =
-      let last = last-mark (dimensionMarks d b marks (suc t)) (2 ^ bitsOf d b (suc t)) (omega (arith, part-length)) in
-      rw (last, part-at 0 (omega arith), part-at (2 ^ bitsOf d b (suc t)) (omega arith), add-zero)
+      let regions = 2 ^ bitsOf d b (suc t) in
+      let last = last-mark (dimensionMarks d b marks (suc t)) regions (omega (arith, size)) in
+      rw (last, part-at d b marks t 0 (pos 0) (omega arith), part-at d b marks t regions (pos 0) (omega arith), add-zero)
 
   -- ---- where the marks are good
 
   module _ (good : goodMarks d b marks ≡ true) where
     good-part : goodDimension (dimensionMarks d b marks (suc t)) ≡ true
-    good-part = every-at d (λ t. goodDimension (dimensionMarks d b marks (suc t))) (sym (good-each d b marks d) ∙ good) t among
+    good-part = good-marks-each d b marks t among good
 
     pub good-range : (i : ℕ) → i < markCount d b (suc t) → isMark (getD marks (firstMarks d b t + i) (pos 0)) ≡ true
-    good-range i h = rw (part-at i h) at (mark-in-range (dimensionMarks d b marks (suc t)) good-part i (omega (arith, part-length)))
+    good-range i h =
+        rw (part-at d b marks t i (pos 0) h) at (mark-in-range (dimensionMarks d b marks (suc t)) good-part i (omega (arith, size)))
 
     pub good-rise : (i : ℕ) → suc i < markCount d b (suc t)
         → ltZ (getD marks (firstMarks d b t + suc i) (pos 0)) (getD marks (firstMarks d b t + i) (pos 0)) ≡ false
     good-rise i h =
-        let rises = marks-rise (dimensionMarks d b marks (suc t)) good-part i (suc i) (omega arith) (omega (arith, part-length)) in
-        rw (part-at i (omega arith), part-at (suc i) h) at
+        let rises = marks-rise (dimensionMarks d b marks (suc t)) good-part i (suc i) (omega arith) (omega (arith, size)) in
+        rw (part-at d b marks t i (pos 0) (omega arith), part-at d b marks t (suc i) (pos 0) h) at
         (ltZ-not (getD (dimensionMarks d b marks (suc t)) (suc i) (pos 0)) (getD (dimensionMarks d b marks (suc t)) i (pos 0))
         ∙ ap not rises)

@@ -26,6 +26,7 @@ use Rattle.layout.specs.Stretch.{shapeCauses, Shape, shape}
 use Rattle.region.specs.Dimension.{notAbove, goodDimension}
 use Rattle.region.specs.Region.{inMarks}
 use Rattle.partition.specs.Marks.{dimensionMarks, goodMarks}
+use Rattle.partition.specs.Parts.{part-at, part-length}
 use Rattle.records.specs.Records.{headKind, markKind, vectorKind, endKind, recordLength, kindOf, valueOf}
 use Rattle.records.specs.RowLaws.{both}
 use Rattle.records.specs.Frame.{frameCauses, framed}
@@ -34,7 +35,7 @@ use Rattle.library.specs.Library.{Library, markTotal, componentIn, libraryLengt
 use Rattle.library.specs.Library.{componentAt, readLibrary}
 use Rattle.library.specs.Read.{mark-read}
 use Rattle.library.specs.Tests.{inside}
-use Rattle.library.specs.MarkLaws.{good-each, part-length, part-at}
+use Rattle.library.specs.MarkLaws.{good-each}
 use Rattle.loading.specs.Load.{headCauses, markCauses, markWrong, zeroBeyond, vectorCauses, marksCauses, vectorsCauses, endCauses}
 use Rattle.loading.specs.Load.{recordsCauses}
 
@@ -150,7 +151,7 @@ module _ (bytes : List ℕ) (accepted : first (recordsCauses (readLibrary bytes)
     read : (i : ℕ) → i < count → getD part i (pos 0) ≡ markAt bytes (from + i)
     unfolding firstMarks
     read i h =
-        part-at (l .d) (l .b) (l .marks) marks-count t among i h
+        part-at (l .d) (l .b) (l .marks) t i (pos 0) h
         ∙ mark-read bytes (from + i) (omega (arith, marks-within (l .d) (l .b) (l .d) t among))
 
     right : (i : ℕ) → i < count

@@ -18,6 +18,7 @@ use Rattle.limits.specs.Tests.{Between, between}
 use Rattle.signed.specs.Keys.{keyOf, key-le, key-lt, key-component, key-mark, mark-small}
 use Rattle.region.specs.Dimension.{notAbove, goodDimension}
 use Rattle.region.specs.Region.{firstMark, lastMark, inMarks}
+use Rattle.region.specs.Within.{Within}
 use Rattle.region.specs.Regions.{within-marks, last-mark}
 use Rattle.marking.specs.Made.{Outer, markAt, marksBetween, scaleEnds, madeDimension}
 use Rattle.marking.specs.InOrder.{counted-map, counted-map-length, Ordered}
@@ -171,16 +172,16 @@ scale-around {ordered = ordered} is = record {
 pub made-good : {n : ℕ} (w : ℕ) {ordered : List ℤ} → 0 < n → Ordered n ordered → goodDimension (madeDimension n w ordered) ≡ true
 made-good w some is = between-good w some is (scale-around is)
 
--- every component lies inside
-pub made-in : (n w : ℕ) (ordered : List ℤ) (z : ℤ) → isComponent z ≡ true → inMarks (madeDimension n w ordered) z ≡ true
-made-in n w ordered z is = within-marks (madeDimension n w ordered) z (record { lower = lower; upper = upper })
-  where
-    lower : leZ (firstMark (madeDimension n w ordered)) z ≡ true
-    lower =
-        rw (between-first scaleEnds n w ordered)
-        (mark-le leastMark z refl (component-mark z is) (rw first-key (key-range z is .above)))
+-- every component lies between the ends, and so inside the marks
+pub on-scale : (z : ℤ) → isComponent z ≡ true → Within leastMark z greatestMark
+on-scale z is =
+    let range = key-range z is in
+    record {
+      lower = mark-le leastMark z refl (component-mark z is) (rw first-key (range .above));
+      upper = mark-lt z greatestMark (component-mark z is) refl (omega (arith, last-key, range .below));
+    }
 
-    upper : ltZ z (lastMark (madeDimension n w ordered)) ≡ true
-    upper =
-        rw (between-last scaleEnds n w ordered)
-        (mark-lt z greatestMark (component-mark z is) refl (omega (arith, last-key, key-range z is .below)))
+pub made-in : (n w : ℕ) (ordered : List ℤ) (z : ℤ) → isComponent z ≡ true → inMarks (madeDimension n w ordered) z ≡ true
+made-in n w ordered z is =
+    within-marks (madeDimension n w ordered) z
+    (rw (between-first scaleEnds n w ordered, between-last scaleEnds n w ordered) (on-scale z is))

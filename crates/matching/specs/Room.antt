@@ -11,7 +11,6 @@ use lib.Dec.{lit<, leb}
 use lib.IntN.{ℤ, pos, negsuc}
 use lib.Signed.{mag, leZ}
 use lib.ListN.{length, getD, drop, length-append}
-use lib.Seq.{getD-take, getD-drop}
 use Rattle.refusal.specs.declared.Refusal.{Refusal}
 use Rattle.refusal.specs.declared.Refusal.the-variants.{Dimension, Bits, Count, Neighbours, Length, Component, Mark, Outside, Code, Cell}
 use Rattle.refusal.specs.declared.Refusal.the-variants.{Kind, Truncated, Stale, NotANumber, OutOfRange, Trailing, Misplaced}
@@ -30,6 +29,7 @@ use Rattle.order.specs.Members.{_∈_}
 use Rattle.order.specs.Counted.{counted-length}
 use Rattle.selection.specs.Theorems.{reads-count, best-length, best-entries}
 use Rattle.cells.specs.Cells.{vectorAt}
+use Rattle.cells.specs.CellLaws.{vector-component}
 use Rattle.step.specs.Step.{gap, weighed, squared-le}
 use Rattle.step.specs.Places.{gap-size}
 use Rattle.distance.specs.Distance.{firstWeighed, weighedDistance}
@@ -76,8 +76,7 @@ distance-below : (d i word : ℕ) (query vectors : List ℤ) → d ≤ maxDimens
     → weighedDistance d (factorsOf word) query (vectorAt d vectors i) < 10 ^ 12
 distance-below d i word query vectors few of-query of-vectors =
     let sum = first-distance (factorsOf word) (factors-le word) query (vectorAt d vectors i) d (λ t h. component-at query of-query t)
-    (λ t h. rw (getD-take d (drop (i * d) vectors) t (pos 0) h, getD-drop (i * d) vectors t (pos 0))
-    (component-at vectors of-vectors (i * d + t))) in
+    (λ t h. rw (vector-component d vectors i t h) (component-at vectors of-vectors (i * d + t))) in
     let most : d * (65535 * 65535) ≤ maxDimensions * (65535 * 65535) = mul-le-mul-right (65535 * 65535) few in
     omega arith
 

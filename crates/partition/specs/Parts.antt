@@ -8,13 +8,14 @@ use native.Mathlib.Omega.{arith}
 use borrow.Author.Tests.{eqb-true, le-leb, not-false}
 use lib.Dec.{leb, eqb}
 use lib.IntN.{ℤ}
-use lib.ListN.{length, take, drop, getD}
-use lib.Seq.{getD-take, getD-drop}
+use lib.ListN.{length, take, drop, getD, length-drop}
+use lib.Seq.{getD-take, getD-drop, length-take-le}
 use Rattle.refusal.specs.declared.Verdict.the-variants.{Accepted}
 use Rattle.refusal.specs.First.{first, outcome, passed, accepted-front, accepted-behind}
 use Rattle.limits.specs.Limits.{maxDimensionBits}
 use Rattle.layout.specs.declared.Stretch.{Stretch}
 use Rattle.layout.specs.Layout.{markCount, firstMarks}
+use Rattle.layout.specs.Laws.{marks-within}
 use Rattle.layout.specs.Stretch.{dimensionCauses, stretchOf, stretches}
 use Rattle.partition.specs.Marks.{dimensionMarks}
 use Rattle.partition.specs.MarksCauses.{shapedCauses, partCauses}
@@ -28,6 +29,15 @@ part-at d b marks t r z below =
     getD-take (markCount d b (suc t)) (drop (firstMarks d b (suc t - 1)) marks) r z below
     ∙ getD-drop (firstMarks d b (suc t - 1)) marks r z
     ∙ ap (λ (n : ℕ). getD marks (firstMarks d b n + r) z) before
+
+-- A dimension's part of marks that are as many as the layout says has all of its marks.
+pub part-length : (d b : ℕ) (marks : List ℤ) → length marks ≡ firstMarks d b d → (t : ℕ) → t < d
+    → length (dimensionMarks d b marks (suc t)) ≡ markCount d b (suc t)
+unfolding dimensionMarks firstMarks
+part-length d b marks whole t among =
+    let before : suc t - 1 ≡ t = omega arith in
+    let room : firstMarks d b t + markCount d b (suc t) ≤ length marks = rw whole (marks-within d b d t among) in
+    rw before (length-take-le (markCount d b (suc t)) (drop (firstMarks d b t) marks) (rw length-drop (omega arith)))
 
 -- ---- A part that is handed back
 

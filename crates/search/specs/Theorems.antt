@@ -121,6 +121,9 @@ own-cells l [] own below = refl
 own-cells l (i ∷ is) own below =
     rw ((own .cells i (below i (List·Memᴰ·head refl))) .inside, own-cells l is own (λ j m. below j (List·Memᴰ·tail m)))
 
+pub own-reads : (l : Index) (query : Query) (k : ℕ) → OwnCodes l → inOwnCells l ((searched l query k) .reads) ≡ true
+own-reads l query k own = own-cells l ((searched l query k) .reads) own (λ i m. read-below l query k m)
+
 pub read-is-needed : (l : Index) (query : Query) (k : ℕ) (room : Room) → OwnCodes l → Accepts l query k room
     → (i : ℕ) → i ∈ (searched l query k) .reads → lowIn l query i ≢ highIn l query i → NeededVector l query k room i
 read-is-needed l query k room own accepts i is-read differ = record {
@@ -130,7 +133,7 @@ read-is-needed l query k room own accepts i is-read differ = record {
   elsewhere = other .elsewhere;
   accepted =
       accepts-others l query k room (other .vectors) (other .size)
-      (own-cells with-other ((searched with-other query k) .reads) own-other (λ j m. read-below with-other query k m)) accepts;
+      (own-reads with-other query k own-other) accepts;
   changes = λ same. other .changes (sym (search-is-scan with-other query k own-other) ∙ same ∙ search-is-scan l query k own);
 }
   where
