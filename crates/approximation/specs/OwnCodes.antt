@@ -19,7 +19,8 @@ use Rattle.partition.specs.Marks.{dimensionMarks, goodMarks, good-marks-each}
 use Rattle.partition.specs.Parts.{part-length}
 use Rattle.codes.specs.BitLaws.{Bytes}
 use Rattle.codes.specs.Codes.{nextColumn, regionsFit, codeLength, packed, unpacked, codeRegion}
-use Rattle.codes.specs.PackLaws.{next-column, packed-spare, unpacked-packed, packed-unpacked, length-unpacked, code-region, code-region-fits}
+use Rattle.codes.specs.PackLaws.{next-column, packed-spare, unpacked-packed, packed-unpacked, length-unpacked}
+use Rattle.codes.specs.PackLaws.{code-region, code-region-fits}
 use Rattle.approximation.specs.Vectors.{regionsFrom, vectorRegions, insideFrom, vectorsInside, vectorCodes}
 use Rattle.cells.specs.Cells.{vectorAt, inFirst, InCell, hasValue, noneEmpty, noEmptyCodes, goodCodes, Own}
 use Rattle.cells.specs.CellLaws.{vector-size, vector-component, cell-region}

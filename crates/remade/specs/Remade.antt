@@ -122,7 +122,8 @@ module _ {l : Index} (old : Former l) where
   own-kept : Own (l .d) (l .b) (l .n) (newMarks l) (l .codes) (l .vectors)
   own-kept = record {
     cells = λ i row.
-        record { components = old .own .cells i row .components; inside = cell-kept i (l .d) (omega arith) (old .own .cells i row .inside) };
+        let cell = old .own .cells i row in
+        record { components = cell .components; inside = cell-kept i (l .d) (omega arith) (cell .inside) };
     spare = old .own .spare;
   }
 

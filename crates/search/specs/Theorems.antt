@@ -114,7 +114,7 @@ scan-is-stable l query k vectors own same =
 -- ---- 3. Each number read whose cell's two distances differ is needed: the search takes another vector of its cell, put there alone, and
 -- gives another number or distance.
 
--- where the codes are the vectors' own, no vector that is read lies outside its cell
+-- where the codes are the vectors' own, no vector lies outside its cell, and so none that is read
 own-cells : (l : Index) (is : List ℕ) → OwnCodes l → ((i : ℕ) → i ∈ is → i < l .n) → inOwnCells l is ≡ true
 unfolding inOwnCells
 own-cells l [] own below = refl
