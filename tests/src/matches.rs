@@ -7,6 +7,10 @@ use crate::{
     samples::{file, largest_input, random_input, random_input_with_word, readings, readings_present},
 };
 
+/// The length of the output's buffer: two counts, then 512 times a number, settings and a distance, each with the byte
+/// behind it.
+pub const TEXT_ROOM: usize = 4 + 4 + 512 * (4 + 11 + 13);
+
 /// The parts of an input whose library is right.
 #[derive(Clone, PartialEq, Eq, Debug)]
 pub struct Match {
@@ -49,8 +53,7 @@ impl Match {
 
 /// The library that an input begins with.
 pub fn loaded(bytes: &[u8]) -> Loaded {
-    let room = LoadRoom { marks: 2080, settings: 512, components: 16_384 };
-    reference::load(bytes, room).expect("the library is right")
+    reference::load(bytes, LoadRoom::LARGEST).expect("the library is right")
 }
 
 /// Damages an input in one place or more, most of them in the head or near the end: a byte changed, put in or left out,

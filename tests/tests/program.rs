@@ -5,14 +5,10 @@ use tests::{
     c,
     input::told,
     interface,
-    matches::{damage, loaded, noise, Match},
+    matches::{damage, loaded, noise, Match, TEXT_ROOM},
     random::Random,
     reference,
 };
-
-/// The length of the output's buffer: two counts, then 512 times a number, settings and a distance, each with the byte
-/// behind it.
-const ROOM: usize = 4 + 4 + 512 * (4 + 11 + 13);
 
 /// "No accepted input is longer than 45,928 bytes."
 const LONGEST: usize = 45_928;
@@ -34,7 +30,7 @@ fn longest() -> Vec<u8> {
 /// The function and the reference agree. Gives the number of the refusal, or 0.
 fn number(input: &[u8]) -> usize {
     let _told = told(input);
-    let text = interface::program(input, ROOM).expect("the room is right");
+    let text = interface::program(input, TEXT_ROOM).expect("the room is right");
     let text = String::from_utf8(text).expect("the output is text");
     assert_eq!(text, reference::program(input), "the reference is on the right");
     match text.strip_prefix("refused ") {
@@ -55,7 +51,7 @@ fn counts(inputs: impl IntoIterator<Item = Vec<u8>>) -> [usize; 20] {
 /// Document 01, "Cases".
 #[test]
 fn case_library_a_with_its_query() {
-    let text = interface::program(&sample("a.match"), ROOM);
+    let text = interface::program(&sample("a.match"), TEXT_ROOM);
     assert_eq!(text, Ok(b"2 3\n3 104 1\n4 105 61\n".to_vec()));
 }
 
@@ -189,7 +185,7 @@ fn no_input_past_the_limit_is_answered() {
 #[test]
 fn no_output_of_another_length_is_taken() {
     for input in [&sample("a.match")[..], &longest(), &[], &[9]] {
-        for room in (0..100).chain([ROOM - 1, ROOM + 1, 2 * ROOM, 45_928]) {
+        for room in (0..100).chain([TEXT_ROOM - 1, TEXT_ROOM + 1, 2 * TEXT_ROOM, 45_928]) {
             assert_eq!(interface::program(input, room), Err(5), "{room} bytes");
         }
     }
