@@ -13,7 +13,7 @@ use Rattle.signed.specs.Components.{areComponents, component-at}
 use Rattle.order.specs.Pair.{countFrom}
 use Rattle.order.specs.Rank.{ranking}
 use Rattle.order.specs.Counted.{counted-length, counted-at}
-use Rattle.order.specs.Places.{ranking-length, ranking-rises, ranking-below, ranking-place}
+use Rattle.order.specs.Places.{ranking-length, ranking-rises, ranking-below}
 use Rattle.marking.specs.Made.{column, inOrder}
 
 -- ---- mapped lists
@@ -75,7 +75,8 @@ module _ (components : List ℤ) where
   key-at : (p : ℕ) → p < length components
       → keyOf (getD (inOrder components) p (pos 0)) ≡ getD (map keyOf components) (getD (ranking (map keyOf components)) p 0) 0
   key-at p within =
-      ap keyOf (in-order-at p within) ∙ sym (map-at keyOf components (getD (ranking (map keyOf components)) p 0) (pos 0) 0 (number-below p within))
+      ap keyOf (in-order-at p within)
+      ∙ sym (map-at keyOf components (getD (ranking (map keyOf components)) p 0) (pos 0) 0 (number-below p within))
 
   key-rises : (i j : ℕ) → i ≤ j → j < length components
       → keyOf (getD (inOrder components) i (pos 0)) ≤ keyOf (getD (inOrder components) j (pos 0))
@@ -87,38 +88,12 @@ pub record Ordered (n : ℕ) (ordered : List ℤ) : Type 0 where
   pub components : (p : ℕ) → isComponent (getD ordered p (pos 0)) ≡ true
   pub rises : (p q : ℕ) → p ≤ q → q < n → keyOf (getD ordered p (pos 0)) ≤ keyOf (getD ordered q (pos 0))
 
--- vector i's component has a place
-pub record Placed (d n : ℕ) (vectors : List ℤ) (t i : ℕ) : Type 0 where
-  pub place : ℕ
-  pub within : place < n
-  pub there : getD (inOrder (column d n vectors t)) place (pos 0) ≡ getD vectors (i * d + t) (pos 0)
-
 module _ (d n : ℕ) (vectors : List ℤ) (t : ℕ) where
-  abbrev numbers : List ℕ
-  numbers = ranking (map keyOf (column d n vectors t))
-
-  -- whose component stands at a place
-  pub column-order-at : (p : ℕ) → p < n → getD (inOrder (column d n vectors t)) p (pos 0) ≡ getD vectors (getD numbers p 0 * d + t) (pos 0)
-  column-order-at p within =
-      let here : p < length (column d n vectors t) = rw (column-length d n vectors t) within in
-      in-order-at (column d n vectors t) p here
-      ∙ column-at d n vectors t (getD numbers p 0) (rw (column-length d n vectors t) at (number-below (column d n vectors t) p here))
-
   pub column-ordered : areComponents vectors ≡ true → Ordered n (inOrder (column d n vectors t))
   unfolding inOrder
   column-ordered are =
       record {
-        components = map-each (λ i. getD (column d n vectors t) i (pos 0)) numbers (column-components d n vectors t are);
+        components = map-each (λ i. getD (column d n vectors t) i (pos 0)) (ranking (map keyOf (column d n vectors t)))
+            (column-components d n vectors t are);
         rises = λ p q le within. key-rises (column d n vectors t) p q le (rw (column-length d n vectors t) within);
-      }
-
-  pub column-placed : (i : ℕ) → i < n → Placed d n vectors t i
-  column-placed i within =
-      let count : length (map keyOf (column d n vectors t)) ≡ n = keys-length (column d n vectors t) ∙ column-length d n vectors t in
-      let at = ranking-place (map keyOf (column d n vectors t)) i (omega arith) in
-      let here : at .place < n = omega (arith, at .within, ranking-length (map keyOf (column d n vectors t))) in
-      record {
-        place = at .place;
-        within = here;
-        there = column-order-at (at .place) here ∙ ap (λ (k : ℕ). getD vectors (k * d + t) (pos 0)) (at .there);
       }

@@ -1,26 +1,25 @@
--- Laws of the marks made for one dimension from n components in order: how many they are, which stands where, that they pass the marks
--- test, and that every component lies inside them. Assumes nothing.
+-- Laws of one dimension's marks, made from n components in order between two outer marks: how many they are, which stands where, that
+-- they pass the marks test, and which components lie inside them. Assumes nothing.
 use mathlib.Core.Path.{_≡_, refl, sym, ap, _∙_}
-use mathlib.Core.Bool.{true}
+use mathlib.Core.Bool.{Bool, true, false, cond}
 use mathlib.Core.Logic.{inl, inr}
-use mathlib.Core.List.{List, [], _∷_, map}
+use mathlib.Core.List.{List, [], _∷_}
 use Prim.Native.Nat.{ℕ, zero, suc, _+_, _-_, _*_, _/_, _^_, _≤_, _<_}
-use native.Mathlib.Nat.{mul-comm, mul-le-mul-right, mul-lt-mul-of-pos-right, zero-mul, zero-div, div-lt-iff-lt-mul, eq-or-lt-of-le, le-of-suc-le-suc}
+use native.Mathlib.Nat.{mul-comm, mul-le-mul-right, mul-lt-mul-of-pos-right, div-lt-iff-lt-mul, eq-or-lt-of-le, le-of-suc-le-suc}
 use native.Mathlib.Omega.{arith}
-use borrow.Author.Tests.{le-leb, lt-ltb, le-ltb}
-use lib.IntN.{ℤ, pos, negsuc, sucℤ}
-use lib.Signed.{mag, leZ, ltZ}
-use lib.ListN.{length, getD, length-append, List·getD-append}
-use lib.Seq.{getD-at}
+use borrow.Author.Tests.{le-leb, lt-ltb, le-ltb, eq-eqb, ne-eqb}
+use lib.Dec.{ltb, eqb}
+use lib.IntN.{ℤ, pos}
+use lib.Signed.{leZ, ltZ}
+use lib.ListN.{length, getD}
 use lib.Pow.{pow-pos, shr-mono}
-use Rattle.limits.specs.Limits.{isComponent, isMark}
+use Rattle.limits.specs.Limits.{leastMark, greatestMark, isComponent, isMark}
 use Rattle.limits.specs.Tests.{Between, between}
-use Rattle.signed.specs.Keys.{keyOf, key-le, key-lt, key-component, key-mark, component-small, mark-small}
-use Rattle.order.specs.Pair.{countFrom}
+use Rattle.signed.specs.Keys.{keyOf, key-le, key-lt, key-component, key-mark, mark-small}
 use Rattle.region.specs.Dimension.{notAbove, goodDimension}
 use Rattle.region.specs.Region.{firstMark, lastMark, inMarks}
 use Rattle.region.specs.Regions.{within-marks, last-mark}
-use Rattle.marking.specs.Made.{madeDimension, markAt}
+use Rattle.marking.specs.Made.{Outer, markAt, marksBetween, scaleEnds, madeDimension}
 use Rattle.marking.specs.InOrder.{counted-map, counted-map-length, Ordered}
 
 -- ---- components and marks, by their keys
@@ -28,26 +27,13 @@ use Rattle.marking.specs.InOrder.{counted-map, counted-map-length, Order
 pub key-range : (z : ℤ) → isComponent z ≡ true → Between (2 ^ 31 - 32768) (keyOf z) (2 ^ 31 + 32767)
 key-range z is = between (2 ^ 31 - 32768) (keyOf z) (2 ^ 31 + 32767) (sym (key-component z) ∙ is)
 
-key-is-mark : (z : ℤ) → 2 ^ 31 - 32768 ≤ keyOf z → keyOf z ≤ 2 ^ 31 + 32768 → isMark z ≡ true
+pub key-is-mark : (z : ℤ) → 2 ^ 31 - 32768 ≤ keyOf z → keyOf z ≤ 2 ^ 31 + 32768 → isMark z ≡ true
 key-is-mark z low high = key-mark z ∙ rw (le-leb (2 ^ 31 - 32768) (keyOf z) low) (le-leb (keyOf z) (2 ^ 31 + 32768) high)
 
-key-suc : (z : ℤ) → mag z < 2 ^ 31 → keyOf (sucℤ z) ≡ suc (keyOf z)
-unfolding keyOf
-key-suc (pos n) small = omega arith
-key-suc (negsuc zero) small = refl
-key-suc (negsuc (suc n)) small = omega arith
-
-component-mark : (z : ℤ) → isComponent z ≡ true → isMark z ≡ true
+pub component-mark : (z : ℤ) → isComponent z ≡ true → isMark z ≡ true
 component-mark z is =
     let range = key-range z is in
     key-is-mark z (range .above) (omega (arith, range .below))
-
--- the number behind a component is a mark
-pub next-mark : (z : ℤ) → isComponent z ≡ true → isMark (sucℤ z) ≡ true
-next-mark z is =
-    let range = key-range z is in
-    let key = key-suc z (component-small z is) in
-    key-is-mark (sucℤ z) (omega (arith, range .above)) (omega (arith, range .below))
 
 mark-le : (a b : ℤ) → isMark a ≡ true → isMark b ≡ true → keyOf a ≤ keyOf b → leZ a b ≡ true
 mark-le a b is-a is-b le = key-le a b (mark-small a is-a) (mark-small b is-b) ∙ le-leb (keyOf a) (keyOf b) le
@@ -76,93 +62,125 @@ place-rises i j n w le = shr-mono w (mul-le-mul-right n le)
 
 -- ---- the marks
 
-module _ (n w : ℕ) (ordered : List ℤ) where
-  -- the greatest component, and region i's lower mark
-  abbrev greatest : ℤ
-  greatest = getD ordered (n - 1) (pos 0)
+module _ (outer : Outer) (n w : ℕ) (ordered : List ℤ) where
+  pub between-length : length (marksBetween outer n w ordered) ≡ 2 ^ w + 1
+  unfolding marksBetween
+  between-length = counted-map-length (markAt outer n w ordered) (2 ^ w + 1)
 
-  abbrev lower : ℕ → ℤ
-  lower i = getD ordered (i * n / 2 ^ w) (pos 0)
+  pub between-at : (i : ℕ) → i ≤ 2 ^ w → getD (marksBetween outer n w ordered) i (pos 0) ≡ markAt outer n w ordered i
+  unfolding marksBetween
+  between-at i most = counted-map (markAt outer n w ordered) (2 ^ w + 1) i (omega arith)
 
-  pub made-length : length (madeDimension n w ordered) ≡ 2 ^ w + 1
-  unfolding madeDimension
-  made-length =
-      length-append (map lower (countFrom 0 (2 ^ w))) (sucℤ greatest ∷ []) ∙ ap (λ (k : ℕ). k + 1) (counted-map-length lower (2 ^ w))
-
-  pub made-at : (i : ℕ) → i < 2 ^ w → getD (madeDimension n w ordered) i (pos 0) ≡ lower i
-  unfolding madeDimension
-  made-at i below =
-      List·getD-append (map lower (countFrom 0 (2 ^ w))) (sucℤ greatest ∷ []) (pos 0) i (rw (counted-map-length lower (2 ^ w)) below)
-      ∙ counted-map lower (2 ^ w) i below
-
-  pub made-last : getD (madeDimension n w ordered) (2 ^ w) (pos 0) ≡ sucℤ greatest
-  unfolding madeDimension
-  made-last = getD-at (map lower (countFrom 0 (2 ^ w))) (sucℤ greatest) [] (pos 0) (2 ^ w) (counted-map-length lower (2 ^ w))
-
-  pub made-mark : (i : ℕ) → i ≤ 2 ^ w → getD (madeDimension n w ordered) i (pos 0) ≡ markAt n w ordered i
+  -- the first, an inner one, the last
+  pub mark-first : markAt outer n w ordered 0 ≡ outer .first
   unfolding markAt
-  made-mark i most =
-      elim (eq-or-lt-of-le most) [
-        | inl e ↦ rw (e, le-ltb (2 ^ w) (2 ^ w) (omega arith)) made-last
-        | inr below ↦ rw (lt-ltb i (2 ^ w) below) (made-at i below)
-      ]
+  mark-first = refl
 
-module _ {n : ℕ} (w : ℕ) {ordered : List ℤ} (some : 0 < n) (is : Ordered n ordered) where
-  -- the greatest component's key is one less than the last mark's
-  top-key : keyOf (sucℤ (greatest n w ordered)) ≡ suc (keyOf (greatest n w ordered))
-  top-key = key-suc (greatest n w ordered) (component-small (greatest n w ordered) (is .components (n - 1)))
+  pub mark-inner : (i : ℕ) → 0 < i → i < 2 ^ w → markAt outer n w ordered i ≡ getD ordered (i * n / 2 ^ w) (pos 0)
+  unfolding markAt
+  mark-inner i some below = rw (ne-eqb i 0 (omega arith), lt-ltb i (2 ^ w) below)
 
-  lower-mark : (i : ℕ) → isMark (lower n w ordered i) ≡ true
-  lower-mark i = component-mark (lower n w ordered i) (is .components (i * n / 2 ^ w))
+  pub mark-last : (i : ℕ) → 2 ^ w ≤ i → markAt outer n w ordered i ≡ outer .last
+  unfolding markAt
+  mark-last i past = rw (ne-eqb i 0 (omega (arith, pow-pos w)), le-ltb i (2 ^ w) past)
 
-  top-mark : isMark (sucℤ (greatest n w ordered)) ≡ true
-  top-mark = next-mark (greatest n w ordered) (is .components (n - 1))
+  pub between-first : firstMark (marksBetween outer n w ordered) ≡ outer .first
+  between-first = between-at 0 (omega arith) ∙ mark-first
 
-  -- no component is above the greatest
-  key-below-top : (p : ℕ) → p < n → keyOf (getD ordered p (pos 0)) < keyOf (sucℤ (greatest n w ordered))
-  key-below-top p within = rw top-key (omega (arith, is .rises p (n - 1) (omega arith) (omega arith)))
+  pub between-last : lastMark (marksBetween outer n w ordered) ≡ outer .last
+  between-last =
+      last-mark (marksBetween outer n w ordered) (2 ^ w) (omega (arith, between-length))
+      ∙ between-at (2 ^ w) (omega arith)
+      ∙ mark-last (2 ^ w) (omega arith)
 
-  each : (i : ℕ) → i < length (madeDimension n w ordered) → isMark (getD (madeDimension n w ordered) i (pos 0)) ≡ true
-  each i within =
-      let within : suc i ≤ suc (2 ^ w) = omega (arith, made-length n w ordered) in
-      elim (eq-or-lt-of-le (le-of-suc-le-suc within)) [
-        | inl e ↦ rw (e, made-last n w ordered) top-mark
-        | inr below ↦ rw (made-at n w ordered i below) (lower-mark i)
-      ]
+-- outer marks that no component lies beyond
+pub record Around (n : ℕ) (ordered : List ℤ) (outer : Outer) : Type 0 where
+  pub first-mark : isMark (outer .first) ≡ true
+  pub last-mark : isMark (outer .last) ≡ true
+  pub above-first : (p : ℕ) → p < n → keyOf (outer .first) ≤ keyOf (getD ordered p (pos 0))
+  pub below-last : (p : ℕ) → p < n → keyOf (getD ordered p (pos 0)) ≤ keyOf (outer .last)
 
-  rise : (i : ℕ) → suc i < length (madeDimension n w ordered)
-      → leZ (getD (madeDimension n w ordered) i (pos 0)) (getD (madeDimension n w ordered) (suc i) (pos 0)) ≡ true
-  rise i within =
-      let within : suc (suc i) ≤ suc (2 ^ w) = omega (arith, made-length n w ordered) in
-      elim (eq-or-lt-of-le (le-of-suc-le-suc within)) [
-        | inl e ↦
-            let below : i < 2 ^ w = omega arith in
-            rw (made-at n w ordered i below, e, made-last n w ordered)
-            (mark-le (lower n w ordered i) (sucℤ (greatest n w ordered)) (lower-mark i) top-mark
-            (omega (arith, key-below-top (i * n / 2 ^ w) (place-below i n w below some))))
-        | inr below ↦
-            rw (made-at n w ordered i (omega arith), made-at n w ordered (suc i) below)
-            (mark-le (lower n w ordered i) (lower n w ordered (suc i)) (lower-mark i) (lower-mark (suc i))
-            (is .rises (i * n / 2 ^ w) (suc i * n / 2 ^ w) (place-rises i (suc i) n w (omega arith)) (place-below (suc i) n w below some)))
-      ]
+module _ {outer : Outer} {n : ℕ} (w : ℕ) {ordered : List ℤ} (some : 0 < n) (is : Ordered n ordered) (around : Around n ordered outer) where
+  abbrev mark : ℕ → ℤ
+  mark i = markAt outer n w ordered i
 
-  pub made-good : goodDimension (madeDimension n w ordered) ≡ true
-  made-good = good-by-marks (madeDimension n w ordered) each rise
+  -- the component at the place of region i's lower mark
+  abbrev share : ℕ → ℤ
+  share i = getD ordered (i * n / 2 ^ w) (pos 0)
 
-  -- the component at any place lies inside them
-  pub made-in : (p : ℕ) → p < n → inMarks (madeDimension n w ordered) (getD ordered p (pos 0)) ≡ true
-  made-in p within = within-marks (madeDimension n w ordered) (getD ordered p (pos 0)) (record { lower = above-first; upper = below-last })
+  mark-is-mark : (i : ℕ) → isMark (mark i) ≡ true
+  unfolding markAt
+  mark-is-mark i = go (eqb i 0) (ltb i (2 ^ w))
     where
-      is-mark : (q : ℕ) → isMark (getD ordered q (pos 0)) ≡ true
-      is-mark q = component-mark (getD ordered q (pos 0)) (is .components q)
+      go : (s t : Bool) → isMark (cond s (outer .first) (cond t (share i) (outer .last))) ≡ true
+      go true t = around .first-mark
+      go false true = component-mark (share i) (is .components (i * n / 2 ^ w))
+      go false false = around .last-mark
 
-      above-first : leZ (firstMark (madeDimension n w ordered)) (getD ordered p (pos 0)) ≡ true
-      above-first =
-          let first : 0 * n / 2 ^ w ≡ 0 = ap (λ (k : ℕ). k / 2 ^ w) (zero-mul n) ∙ zero-div (2 ^ w) in
-          rw (made-at n w ordered 0 (pow-pos w), first)
-          (mark-le (getD ordered 0 (pos 0)) (getD ordered p (pos 0)) (is-mark 0) (is-mark p) (is .rises 0 p (omega arith) within))
+  -- a region's lower mark is not above that component, and its upper mark not below
+  lower-below : (i : ℕ) → i < 2 ^ w → keyOf (mark i) ≤ keyOf (share i)
+  lower-below zero below = rw (mark-first outer n w ordered) (around .above-first (0 * n / 2 ^ w) (place-below 0 n w below some))
+  lower-below (suc i) below = rw (mark-inner outer n w ordered (suc i) (omega arith) below) (omega arith)
 
-      below-last : ltZ (getD ordered p (pos 0)) (lastMark (madeDimension n w ordered)) ≡ true
-      below-last =
-          rw (last-mark (madeDimension n w ordered) (2 ^ w) (omega (arith, made-length n w ordered)), made-last n w ordered)
-          (mark-lt (getD ordered p (pos 0)) (sucℤ (greatest n w ordered)) (is-mark p) top-mark (key-below-top p within))
+  upper-above : (i : ℕ) → i < 2 ^ w → keyOf (share i) ≤ keyOf (mark (suc i))
+  upper-above i below =
+      elim (eq-or-lt-of-le below) [
+        | inl e ↦
+            rw (mark-last outer n w ordered (suc i) (omega arith)) (around .below-last (i * n / 2 ^ w) (place-below i n w below some))
+        | inr more ↦
+            rw (mark-inner outer n w ordered (suc i) (omega arith) more)
+            (is .rises (i * n / 2 ^ w) (suc i * n / 2 ^ w) (place-rises i (suc i) n w (omega arith)) (place-below (suc i) n w more some))
+      ]
+
+  pub between-good : goodDimension (marksBetween outer n w ordered) ≡ true
+  between-good = good-by-marks (marksBetween outer n w ordered) each rise
+    where
+      count : length (marksBetween outer n w ordered) ≡ 2 ^ w + 1
+      count = between-length outer n w ordered
+
+      each : (i : ℕ) → i < length (marksBetween outer n w ordered) → isMark (getD (marksBetween outer n w ordered) i (pos 0)) ≡ true
+      each i within = rw (between-at outer n w ordered i (omega (arith, count))) (mark-is-mark i)
+
+      rise : (i : ℕ) → suc i < length (marksBetween outer n w ordered)
+          → leZ (getD (marksBetween outer n w ordered) i (pos 0)) (getD (marksBetween outer n w ordered) (suc i) (pos 0)) ≡ true
+      rise i within =
+          let below : i < 2 ^ w = omega (arith, count) in
+          rw (between-at outer n w ordered i (omega arith), between-at outer n w ordered (suc i) below)
+          (mark-le (mark i) (mark (suc i)) (mark-is-mark i) (mark-is-mark (suc i))
+          (omega (arith, lower-below i below, upper-above i below)))
+
+-- ---- between the ends of the scale
+
+-- the keys of the ends
+first-key : keyOf leastMark ≡ 2 ^ 31 - 32768
+unfolding keyOf
+first-key = refl
+
+last-key : keyOf greatestMark ≡ 2 ^ 31 + 32768
+unfolding keyOf
+last-key = refl
+
+scale-around : {n : ℕ} {ordered : List ℤ} → Ordered n ordered → Around n ordered scaleEnds
+scale-around {ordered = ordered} is = record {
+  first-mark = refl;
+  last-mark = refl;
+  above-first = λ p within. rw first-key (key-range (getD ordered p (pos 0)) (is .components p) .above);
+  below-last = λ p within. omega (arith, last-key, key-range (getD ordered p (pos 0)) (is .components p) .below);
+}
+
+pub made-good : {n : ℕ} (w : ℕ) {ordered : List ℤ} → 0 < n → Ordered n ordered → goodDimension (madeDimension n w ordered) ≡ true
+made-good w some is = between-good w some is (scale-around is)
+
+-- every component lies inside
+pub made-in : (n w : ℕ) (ordered : List ℤ) (z : ℤ) → isComponent z ≡ true → inMarks (madeDimension n w ordered) z ≡ true
+made-in n w ordered z is = within-marks (madeDimension n w ordered) z (record { lower = lower; upper = upper })
+  where
+    lower : leZ (firstMark (madeDimension n w ordered)) z ≡ true
+    lower =
+        rw (between-first scaleEnds n w ordered)
+        (mark-le leastMark z refl (component-mark z is) (rw first-key (key-range z is .above)))
+
+    upper : ltZ z (lastMark (madeDimension n w ordered)) ≡ true
+    upper =
+        rw (between-last scaleEnds n w ordered)
+        (mark-lt z greatestMark (component-mark z is) refl (omega (arith, last-key, key-range z is .below)))

@@ -1,18 +1,17 @@
 // Marks made from vectors.
+use limits::GREATEST_MARK;
+use limits::LEAST_MARK;
 use limits::MAX_VECTORS;
 use refusal::Refusal;
 use refusal::Verdict;
 ghost use mathlib.Core.Path.{_≡_};
-ghost use mathlib.Core.Bool.{true};
 ghost use mathlib.Core.List.{map, _++_};
 ghost use Prim.Native.Nat.{_+_, _^_, _≤_};
-ghost use lib.IntN.{sucℤ};
 ghost use lib.ListN.{length, drop};
 ghost use Rattle.refusal.specs.First.{first, outcome};
 ghost use Rattle.refusal.specs.declared.Verdict.the-variants.{Accepted};
-ghost use Rattle.limits.specs.Limits.{isComponent};
 ghost use Rattle.signed.specs.Keys.{keyOf};
-ghost use Rattle.marking.specs.Made.{column, inOrder, madeDimension, markAt, madeMarks};
+ghost use Rattle.marking.specs.Made.{column, inOrder, markAt, scaleEnds, madeDimension, madeMarks};
 ghost use Rattle.marking.specs.Making.{makeCauses, ColumnOf, MarksOf, Shares};
 ghost use Rattle.marking.specs.KeysInOrder.{wholeOf, ComponentKey, ComponentKeys};
 
@@ -144,18 +143,20 @@ fn write_marks(w: usize, keys: &[u64], part: &mut [i32])
     }
 }
 
-// Mark i of w bits: region i's lower mark, or behind the last region the number behind the greatest component.
+// Mark i of w bits: the outer ones are the ends of the scale, an inner one is the component at its share of the components.
 fn mark(w: usize, keys: &[u64], i: usize) -> i32
     requires { ⌜ (Shares (length (now keys)) w) × (ComponentKeys (now keys)) ⌝ }
-    ensures { λ r. ⌜ r ≡ markAt (length (now (keys .entry))) w (map wholeOf (now (keys .entry))) i ⌝ }
+    ensures { λ r. ⌜ r ≡ markAt scaleEnds (length (now (keys .entry))) w (map wholeOf (now (keys .entry))) i ⌝ }
 {
     let n = keys.len();
-    let last = n - 1;
     let regions = 1usize << w;
+    if i < 1 {
+        return LEAST_MARK;
+    }
     if i < regions {
         return component_of(keys[(i * n) >> w]);
     }
-    next(component_of(keys[last]))
+    GREATEST_MARK
 }
 
 // The component of a key.
@@ -164,12 +165,4 @@ fn component_of(key: u64) -> i32
     ensures { λ r. ⌜ r ≡ wholeOf key ⌝ }
 {
     (key as i64 - 0x8000_0000) as i32
-}
-
-// The number behind a component.
-fn next(z: i32) -> i32
-    requires { ⌜ isComponent z ≡ true ⌝ }
-    ensures { λ r. ⌜ r ≡ sucℤ z ⌝ }
-{
-    z + 1
 }

@@ -12,8 +12,8 @@ use borrow.Rule.Slice.PartMut.{midOf, postOf, putMid, same-len-mid}
 use Rattle.layout.specs.declared.Stretch.{Stretch}
 use Rattle.layout.specs.Layout.{bitsOf, firstMarks}
 use Rattle.layout.specs.Stretch.{stretchOf, shape, Stretches, stretches, dimension-accepted}
-use Rattle.marking.specs.Made.{column, inOrder, madeDimension, madeFirst}
-use Rattle.marking.specs.MadeDimension.{made-length}
+use Rattle.marking.specs.Made.{column, inOrder, firstBetween, scaleEnds, madeDimension, madeFirst}
+use Rattle.marking.specs.MadeDimension.{between-length}
 use Rattle.marking.specs.Making.{Given, given, MarksOf}
 use Rattle.marking.proofs.make_dimensions.Statement.{statement}
 use Rattle.marking.proofs.make_dimensions.Tie as tie
@@ -40,7 +40,8 @@ written o m k marks last within count =
 
 -- ---- one dimension's stretch of the marks buffer, s
 
-module _ {d b n : ℕ} {vectors : List ℤ} {room : ℕ} (is : Given d b n vectors room) (t : ℕ) (among : t < d) (s : Stretch) (told : s ≡ stretchOf d b (t + 1)) where
+module _ {d b n : ℕ} {vectors : List ℤ} {room : ℕ} (is : Given d b n vectors room) (t : ℕ) (among : t < d)
+    (s : Stretch) (told : s ≡ stretchOf d b (t + 1)) where
   stretch : Stretches d b (t + 1) s
   stretch = stretches (dimension-accepted d b t (is .shaped) among) told
 
@@ -64,12 +65,12 @@ module _ {d b n : ℕ} {vectors : List ℤ} {room : ℕ} (is : Given d b n vecto
         (midOf (s .offset) (length marks - s .offset) marks)
         → take (firstMarks d b t) marks ≡ madeFirst d b n vectors t
         → take (firstMarks d b (t + 1)) (putMid (s .offset) (length marks - s .offset) marks last) ≡ madeFirst d b n vectors (t + 1)
-    unfolding madeFirst
+    unfolding firstBetween
     turn last kept made so-far =
         let o = s .offset in
         let m = 2 ^ s .bits + 1 in
         let start : t + 1 - 1 ≡ t = omega arith in
-        let own = made-length n (s .bits) (inOrder (column d n vectors t)) in
+        let own = between-length scaleEnds n (s .bits) (inOrder (column d n vectors t)) in
         let front : take m last ≡ madeDimension n (s .bits) (inOrder (column d n vectors t)) =
         ap (take m) (rw all at made) ∙ take-at _ _ m own in
         let before : take o marks ≡ madeFirst d b n vectors t = rw (stretch .offset-is, start) so-far in
@@ -92,7 +93,7 @@ in-buffer c =
     (ends (facts (at .before .before .before)) (at .loop .t) (c .before .loop-test .taken) (c .stretch-of .result) (c .stretch-of .ensures))
 
 loop-holds : tie.Need-loop-holds Inv-loop μ-loop
-unfolding firstMarks madeFirst
+unfolding firstMarks firstBetween
 loop-holds c = (omega arith, refl, refl, refl, refl)
 
 make-dimension-requires : tie.Need-make-dimension-requires Inv-loop μ-loop

@@ -9,9 +9,9 @@ use lib.Seq.{take-all, drop-set-lt}
 use mir.Syntax.{w32}
 use mir.ValLaws.{toZ-ofZ}
 use Rattle.partition.proofs.Power.{shifted}
-use Rattle.marking.specs.Made.{madeDimension, markAt}
+use Rattle.marking.specs.Made.{markAt, scaleEnds, madeDimension}
 use Rattle.marking.specs.KeysInOrder.{wholeOf}
-use Rattle.marking.specs.MadeDimension.{made-length, made-mark}
+use Rattle.marking.specs.MadeDimension.{between-length, between-at}
 use Rattle.marking.proofs.Filled.{filled-one}
 use Rattle.marking.proofs.write_marks.Statement.{statement}
 use Rattle.marking.proofs.write_marks.Tie as tie
@@ -33,11 +33,13 @@ Inv-loop w keys part₀ regions i₀ part i = Filling w keys part₀ regions par
 abbrev μ-loop : tie.MeasureT-loop
 μ-loop w keys part₀ regions i₀ part i = regions + 1 - i
 
-module _ {w : ℕ} {keys : List ℕ} {old : List ℤ} {regions : ℕ} {part : List ℤ} {i : ℕ} (fits : 2 ^ w + 1 ≤ length old) (at : Filling w keys old regions part i) where
+module _ {w : ℕ} {keys : List ℕ} {old : List ℤ} {regions : ℕ} {part : List ℤ} {i : ℕ} (fits : 2 ^ w + 1 ≤ length old)
+    (at : Filling w keys old regions part i) where
   count-made : length (whole w keys) ≡ 2 ^ w + 1
-  count-made = made-length (length keys) w (map wholeOf keys)
+  count-made = between-length scaleEnds (length keys) w (map wholeOf keys)
 
-  turn : i ≤ regions → (x : ℤ) → x ≡ markAt (length keys) w (map wholeOf keys) i → Filling w keys old regions (set part i x) (i + 1)
+  turn : i ≤ regions → (x : ℤ) → x ≡ markAt scaleEnds (length keys) w (map wholeOf keys) i
+      → Filling w keys old regions (set part i x) (i + 1)
   turn more x is =
       record {
         count = at .count;
@@ -46,7 +48,7 @@ module _ {w : ℕ} {keys : List ℕ} {old : List ℤ} {regions : ℕ} {part : Li
         so-far =
             filled-one part (whole w keys) i x (pos 0) (omega (arith, at .same, at .count)) (omega (arith, count-made, at .count))
             (at .so-far)
-            (is ∙ sym (made-mark (length keys) w (map wholeOf keys) i (omega (arith, at .count))));
+            (is ∙ sym (between-at scaleEnds (length keys) w (map wholeOf keys) i (omega (arith, at .count))));
         rest = drop-set-lt (2 ^ w + 1) part i x (omega (arith, at .count)) ∙ at .rest;
       }
 
