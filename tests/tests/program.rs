@@ -1,25 +1,15 @@
 //! The program's function (document 01, "The program"; document 02, Slip 1): the C interface against the reference.
 
-use std::fs;
 use tests::{
-    c,
     input::told,
     interface,
-    matches::{damage, loaded, noise, Match, TEXT_ROOM},
+    matches::{damage, loaded, noise, sample, Match, SAMPLES, TEXT_ROOM},
     random::Random,
     reference,
 };
 
 /// "No accepted input is longer than 45,928 bytes."
 const LONGEST: usize = 45_928;
-
-fn sample(name: &str) -> Vec<u8> {
-    fs::read(c::root().join("samples").join(name)).expect("the sample can be read")
-}
-
-fn samples() -> [Vec<u8>; 3] {
-    ["a.match", "forty.match", "trees.match"].map(sample)
-}
 
 fn longest() -> Vec<u8> {
     let bytes = Match::longest().bytes();
@@ -101,7 +91,9 @@ fn no_match_of_absent_readings_alone_is_answered() {
 #[test]
 fn no_cut_match_is_answered() {
     let absent = (0..100).map(|seed| Match::random_with_absent(seed, 6).bytes());
-    for input in samples().into_iter().chain((0..100).map(|seed| Match::random(seed, 6).bytes())).chain(absent) {
+    for input in
+        SAMPLES.map(sample).into_iter().chain((0..100).map(|seed| Match::random(seed, 6).bytes())).chain(absent)
+    {
         let cut = (0..input.len()).map(|length| input[..length].to_vec());
         let counts = counts(cut);
         assert_eq!(counts[12], input.len(), "{counts:?}");

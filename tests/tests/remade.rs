@@ -7,7 +7,7 @@ use tests::{
     faults::assert_same_refusals,
     input::{Entry, Found, Input, LoadRoom, Loaded},
     interface,
-    matches::TEXT_ROOM,
+    matches::{with_marks, TEXT_ROOM},
     random::Random,
     reference,
     samples::{self, component, file, random_query, random_vectors, random_word, readings_present, GREATEST, LEAST},
@@ -128,6 +128,7 @@ fn no_search_of_a_remade_library_is_refused_otherwise() {
         before_and_after(d, b, &vectors, &query, k).map(|input| input.with_word(word).from(format!("d {d}, b {b}")))
     };
     let pairs: Vec<[Input; 2]> = [1, 2, 3, 4, 5, 8, 31, 32].into_iter().cycle().take(24).map(&mut pair).collect();
+    assert!(pairs.iter().all(|[before, after]| before.marks != after.marks), "the marks are others");
     assert_same_refusals(&SEARCH, &pairs);
 }
 
@@ -182,15 +183,6 @@ fn no_answer_of_the_program_is_another() {
         other_files += usize::from(before != after);
     });
     assert!(other_files > 1000, "{other_files} files that are others when remade");
-}
-
-/// A file's bytes with other marks in it.
-fn with_marks(bytes: &[u8], marks: &[i32]) -> Vec<u8> {
-    let mut bytes = bytes.to_vec();
-    for (mark, body) in marks.iter().zip(bytes[5..].chunks_mut(5)) {
-        body[1..].copy_from_slice(&mark.to_le_bytes());
-    }
-    bytes
 }
 
 /// "A dealer made a library from small tractors and the first large one fell outside the marks." By one component or more,
