@@ -104,17 +104,17 @@ fn forty_tractors() -> Vec<Vector> {
 /// The bits of their codes.
 const BITS: usize = 24;
 
-/// A dimension's outer marks, from its components in order.
+/// What gives a dimension's outer marks, from its components in order.
 type Outer = fn(&[i32]) -> [i32; 2];
 
-/// The ends of the scale: from these and the inner marks below, marks are made (document 02, Slip 2).
+/// Those of marks made now, the ends of the scale (document 02, Slip 2).
 const MADE: Outer = |_| [-32768, 32768];
 
-/// A dimension's least component, and its greatest plus 1: so marks were made by document 01's rule, and files already
-/// written hold them.
+/// Those of document 01's rule before it, a dimension's least component and its greatest plus 1. Files already written
+/// hold them.
 const FORMER: Outer = |components| [components[0], components[components.len() - 1] + 1];
 
-/// Between the outer marks, inner mark i is at place (i·n) div 2^w of the dimension's components in order.
+/// Between the outer marks, inner mark i is at place (i·n) div 2^w of a dimension's components in order.
 fn marks(outer: Outer, vectors: &[Vector]) -> Vec<Vec<i32>> {
     let dimension = |j: usize| {
         let regions = 1 << (BITS / READINGS + usize::from(j < BITS % READINGS));

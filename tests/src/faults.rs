@@ -299,8 +299,8 @@ pub fn assert_refusals(call: &Call, inputs: &[Input]) {
     assert_tried(call, causes, call.causes);
 }
 
-/// Two inputs that differ in their marks alone are refused with the same numbers, for all faults but those in the content
-/// of marks and codes and in vectors that are read (7, 9, 10).
+/// Two inputs that differ in their marks alone are refused with the same numbers, for all faults but those in the
+/// content of marks and codes and in vectors that are read (7, 9, 10).
 pub fn assert_same_refusals(call: &Call, pairs: &[[Input; 2]]) {
     let due: Vec<u32> = call.causes.iter().copied().filter(|cause| ![7, 9, 10].contains(cause)).collect();
     let mut causes = vec![];

@@ -1,6 +1,6 @@
 //! Document 01 in Rust, with the change requests of document 02 that have landed (the first two), written from the
-//! documents alone: what the matcher's answers are held to. Where there is an obvious method, this is another one. A call's
-//! outcome is what it answers, or the number of the refusal.
+//! documents alone: what the matcher's answers are held to. Where there is an obvious method, this is another one. A
+//! call's outcome is what it answers, or the number of the refusal.
 
 mod approximation;
 mod causes;

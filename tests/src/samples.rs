@@ -206,8 +206,8 @@ pub fn random_vectors(random: &mut Random, d: usize, n: usize) -> Vec<i32> {
     (0..n * d).map(&mut component).collect()
 }
 
-/// Marks around the vectors: made from them, former ones, from end to end of the scale, or drawn anyhow near the vectors,
-/// with equal neighbours.
+/// Marks around the vectors: made from them, former ones, from end to end of the scale, or drawn anyhow near the
+/// vectors, with equal neighbours.
 pub fn random_marks(random: &mut Random, d: usize, b: usize, vectors: &[i32]) -> Vec<i32> {
     let former = reference::former_marks(d, b, vectors);
     let style = random.below(5);

@@ -196,8 +196,8 @@ fn no_made_marks_leave_a_vector_outside() {
     }
 }
 
-/// Document 02, Slip 2: every component lies inside made marks, in every dimension, not only those that the marks were made
-/// from; what is no component lies outside. A vector of any components has its regions in them.
+/// Document 02, Slip 2: every component lies inside made marks, in every dimension, not only those that the marks were
+/// made from; what is no component lies outside. A vector of any components has its regions in them.
 #[test]
 fn no_made_marks_leave_a_component_outside() {
     let mut random = Random::new(7);

@@ -1,6 +1,6 @@
-//! Libraries with former marks, and the same remade (document 02, Slip 2): "Where the old marks came by 01's rule from the
-//! same patterns and the old codes were their own, codes and neighbours of a library remade so are the old ones; its reads
-//! may grow. Files already written load with the marks they hold."
+//! Libraries with former marks, and the same remade (document 02, Slip 2): "Where the old marks came by 01's rule from
+//! the same patterns and the old codes were their own, codes and neighbours of a library remade so are the old ones;
+//! its reads may grow. Files already written load with the marks they hold."
 
 use tests::{
     calls::{PACK_VECTORS, REGIONS, SEARCH, WRITE},
@@ -23,8 +23,8 @@ fn before_and_after(d: usize, b: usize, vectors: &[i32], query: &[i32], k: usize
     [before, Input { codes, regions, ..after }]
 }
 
-/// All components equal, at an end of the scale or anywhere; of two values; anywhere, with both ends among them; as random
-/// libraries have them.
+/// All components equal, at an end of the scale or anywhere; of two values; anywhere, with both ends among them; as
+/// random libraries have them.
 fn vectors_of_each_sort(random: &mut Random, d: usize, n: usize) -> [Vec<i32>; 6] {
     let (count, x, y) = (n * d, component(random), component(random));
     let two = (0..count).map(|_| random.one_of(&[x, y])).collect();
@@ -35,13 +35,13 @@ fn vectors_of_each_sort(random: &mut Random, d: usize, n: usize) -> [Vec<i32>; 6
     [vec![LEAST; count], vec![GREATEST; count], vec![x; count], two, anywhere, random_vectors(random, d, n)]
 }
 
-/// Every number of dimensions, with no bits, some and as many as there can be, for one vector, two, some and 512, of each
-/// sort, before and after it is remade.
+/// Every number of dimensions, with no bits, some and as many as there can be, for one vector, two, some and 512, of
+/// each sort, before and after it is remade.
 fn each_library(seed: u64, mut visit: impl FnMut(&mut Random, [Input; 2])) {
     let mut random = Random::new(seed);
     for d in 1..=32 {
         let (some, few) = (random.below(6 * d + 1), 3 + random.below(60));
-        for (b, n) in [0, some, 6 * d].into_iter().flat_map(|b| [1, 2, few].map(|n| (b, n))).chain([(some, 512)]) {
+        for (b, n) in [0, some, 6 * d].into_iter().flat_map(|b| [1, 2, few, 512].map(|n| (b, n))) {
             for (sort, vectors) in vectors_of_each_sort(&mut random, d, n).iter().enumerate() {
                 let origin = format!("d {d}, b {b}, n {n}, sort {sort}");
                 let pair = before_and_after(d, b, vectors, &vec![0; d], 1);
@@ -78,8 +78,8 @@ fn found(input: &Input) -> Found {
     found
 }
 
-/// Queries anywhere, at the vectors and at marks, with full and partial words, for one neighbour, some and all: numbers and
-/// distances are those from before, and the scan's. "its reads may grow", and in this run they do.
+/// Queries anywhere, at the vectors and at marks, with full and partial words, for one neighbour, some and all: numbers
+/// and distances are those from before, and the scan's. "its reads may grow", and in this run they do.
 #[test]
 fn no_neighbour_of_a_remade_library_is_another() {
     let (mut searches, mut grown, mut kept, mut partial) = (0, 0, 0, 0);
@@ -103,11 +103,11 @@ fn no_neighbour_of_a_remade_library_is_another() {
         }
     });
     let counts = format!("{searches} searches, {partial} with a partial word: {grown} read more, {kept} the same");
-    assert!(grown > 500 && kept > 500 && partial > 500, "{counts}");
+    assert!(grown > 1000 && kept > 5000 && partial > 2000, "{counts}");
 }
 
-/// Both vectors are in the one cell. The former marks, 0 and 11, tell that neither is nearer to 100 than the first, which
-/// is read; the marks made now leave that open.
+/// Both vectors are in the one cell. The former marks, 0 and 11, tell that neither is nearer to 100 than the first,
+/// which is read; the marks made now leave that open.
 #[test]
 fn case_a_remade_library_reads_more() {
     let [before, after] = before_and_after(1, 0, &[10, 0], &[100], 1);
@@ -160,8 +160,8 @@ fn no_file_already_written_is_remade() {
     assert!(other_marks > 1000, "{other_marks} files with other marks than are made now");
 }
 
-/// The program names the same tractors, settings and distances for a file already written and for its library remade. Line
-/// one has the read count, which may grow.
+/// The program names the same tractors, settings and distances for a file already written and for its library remade.
+/// Line one has the read count, which may grow.
 #[test]
 fn no_answer_of_the_program_is_another() {
     let mut other_files = 0;
@@ -185,9 +185,9 @@ fn no_answer_of_the_program_is_another() {
     assert!(other_files > 1000, "{other_files} files that are others when remade");
 }
 
-/// "A dealer made a library from small tractors and the first large one fell outside the marks." By one component or more,
-/// from just outside to the ends of the scale: it is refused with 8 in the small ones' former marks, and taken in the marks
-/// made from them now; its own readings find it.
+/// "A dealer made a library from small tractors and the first large one fell outside the marks." By one component or
+/// more, from just outside to the ends of the scale: it is refused with 8 in the small ones' former marks, and taken in
+/// the marks made from them now; its own readings find it.
 #[test]
 fn no_large_tractor_falls_outside_the_marks_of_small_ones() {
     let mut random = Random::new(106);

@@ -29,8 +29,8 @@ fn case_library_a_with_its_query() {
     assert_eq!(reference::program(&sample("a.match")), "2 3\n3 104 1\n4 105 61\n");
 }
 
-/// Forty tractors, of eight readings each, that are not alike, in a file already written, with their former marks; a query
-/// for three.
+/// Forty tractors, of eight readings each, that are not alike, in a file already written, with their former marks; a
+/// query for three.
 #[test]
 fn forty_tractors_of_eight_readings() {
     let bytes = sample("forty.match");
@@ -64,9 +64,9 @@ fn forty_tractors_with_three_readings_gone() {
     assert_eq!(reference::program(&trees.bytes()), "3 7\n28 1503 1361\n21 1401 31947\n22 1402 61189\n");
 }
 
-/// Document 02, Slip 2: the forty and behind them a large one, with the marks that are made from all of them. Five of the
-/// large one's readings lie outside the forty's former marks, in which it is refused with 8. A query for three, with a held
-/// reading, finds it.
+/// Document 02, Slip 2: the forty and behind them a large one, with the marks that are made from all of them. Five of
+/// the large one's readings lie outside the forty's former marks, in which it is refused with 8. A query for three,
+/// with a held reading, finds it.
 #[test]
 fn forty_tractors_and_a_large_one() {
     let (forty, bytes) = (loaded(&sample("forty.match")), sample("large.match"));

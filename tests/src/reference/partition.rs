@@ -38,9 +38,9 @@ pub fn region_of(marks: &[i32], value: i32) -> Option<usize> {
 /// How often each component stands in a dimension.
 type Counts = BTreeMap<i32, usize>;
 
-/// Each dimension's marks between two outer ones: "inner mark i is the component at place (i·n) div 2^w, places from 0, of
-/// the components in non-falling order". The component at a place is the first one with more components up to it than the
-/// place.
+/// Each dimension's marks between two outer ones: "inner mark i is the component at place (i·n) div 2^w, places from 0,
+/// of the components in non-falling order". The component at a place is the first one with more components up to it
+/// than the place.
 fn marks_between(d: usize, b: usize, vectors: &[i32], outer: impl Fn(&Counts) -> [i32; 2]) -> Vec<i32> {
     let n = vectors.len() / d;
     let dimension_marks = |(dimension, part): (usize, Range<usize>)| {
@@ -69,9 +69,9 @@ pub fn made_marks(d: usize, b: usize, vectors: &[i32]) -> Vec<i32> {
     marks_between(d, b, vectors, |_| [-32768, 32768])
 }
 
-/// Marks of document 01's rule, before Slip 2: "the first is the dimension's least component, the last its greatest plus
-/// 1". No call makes them any more. Files already written hold them, and "codes and neighbours of a library remade" are
-/// held to those that it had with them.
+/// Marks of document 01's rule, before Slip 2: "the first is the dimension's least component, the last its greatest
+/// plus 1". No call makes them any more. Files already written hold them, and "codes and neighbours of a library
+/// remade" are held to those that it had with them.
 pub fn former_marks(d: usize, b: usize, vectors: &[i32]) -> Vec<i32> {
     let least = |counts: &Counts| *counts.keys().min().expect("there is a vector");
     let greatest = |counts: &Counts| *counts.keys().max().expect("there is a vector");
