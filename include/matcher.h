@@ -228,8 +228,9 @@ uint32_t matcher_region_of(size_t d, size_t b, const int32_t *marks, size_t mark
 uint32_t matcher_region(const int32_t *marks, size_t marks_len, size_t regions, int32_t v, size_t *region);
 
 /*
- * Marks made from n vectors: a dimension's first mark is its least component, the last its greatest plus 1, and
- * inner mark i, of 2^w regions, the component at place (i n) / 2^w, from 0, of its components in non-falling order.
+ * Marks made from n vectors: a dimension's first mark is MATCHER_LEAST_MARK, its last MATCHER_GREATEST_MARK, and inner
+ * mark i, of 2^w regions, the component at place (i n) / 2^w, from 0, of its components in non-falling order. So every
+ * component lies inside them, those of vectors that are not among the n too.
  * Lengths: vectors n d, one after the other; marks MATCHER_MARKS(d, b).
  * Refusals: 1, 2, 3, 5, 6.
  */

@@ -101,36 +101,70 @@ fn forty_tractors() -> Vec<Vector> {
     (0..MODELS.len()).flat_map(|model| (0..STATES.len()).map(move |state| vector(model, state))).collect()
 }
 
-/// Marks by document 01's rule: a dimension's least component, inner mark i at place (i·n) div 2^w of its components in
-/// order, its greatest plus 1.
-fn made_marks(b: usize, vectors: &[Vector]) -> Vec<Vec<i32>> {
+/// The bits of their codes.
+const BITS: usize = 24;
+
+/// What gives a dimension's outer marks, from its components in order.
+type Outer = fn(&[i32]) -> [i32; 2];
+
+/// Those of marks made now, the ends of the scale (document 02, Slip 2).
+const MADE: Outer = |_| [-32768, 32768];
+
+/// Those of document 01's rule before it, a dimension's least component and its greatest plus 1. Files already written
+/// hold them.
+const FORMER: Outer = |components| [components[0], components[components.len() - 1] + 1];
+
+/// Between the outer marks, inner mark i is at place (i·n) div 2^w of a dimension's components in order.
+fn marks(outer: Outer, vectors: &[Vector]) -> Vec<Vec<i32>> {
     let dimension = |j: usize| {
-        let regions = 1 << (b / READINGS + usize::from(j < b % READINGS));
+        let regions = 1 << (BITS / READINGS + usize::from(j < BITS % READINGS));
         let mut components: Vec<i32> = vectors.iter().map(|vector| i32::from(vector.components[j])).collect();
         components.sort();
-        let last = components[components.len() - 1] + 1;
-        (0..regions).map(|i| components[i * components.len() / regions]).chain([last]).collect()
+        let [first, last] = outer(&components);
+        let inner = (1..regions).map(|i| components[i * components.len() / regions]);
+        [first].into_iter().chain(inner).chain([last]).collect()
     };
     (0..READINGS).map(dimension).collect()
 }
 
-/// The three of the forty that are nearest to what was measured.
-fn of_forty(measured: &[Reading; READINGS]) -> Vec<u8> {
-    let (b, vectors) = (24, forty_tractors());
-    input(library(b, &made_marks(b, &vectors), &vectors), 3, query(measured))
+/// The three of these tractors that are nearest to what was measured.
+fn nearest_three(outer: Outer, vectors: &[Vector], measured: &[Reading; READINGS]) -> Vec<u8> {
+    input(library(BITS, &marks(outer, vectors), vectors), 3, query(measured))
 }
 
-/// A long row crop tractor with a plough, not one of the forty. The smallest turn was measured some time before.
+/// A long row crop tractor with a plough, not one of the forty. The smallest turn was measured some time before. This
+/// library is a file already written: it keeps the marks of document 01's rule.
 fn forty() -> Vec<u8> {
     let [dead_time, lag, gain, overshoot, play, rate, drift] = [0.25, 0.35, 0.79, 1.7, 1.5, 24.25, -0.375].map(Fresh);
-    of_forty(&[dead_time, lag, gain, overshoot, play, rate, drift, Held(6.25, 14)])
+    let measured = [dead_time, lag, gain, overshoot, play, rate, drift, Held(6.25, 14)];
+    nearest_three(FORMER, &forty_tractors(), &measured)
 }
 
-/// The same tractor under trees. What the receiver's track gives is gone: overshoot and smallest turn are older than two
-/// seconds, the drift is lost. What is measured at the wheels is there.
+/// The same tractor under trees, with the same library. What the receiver's track gives is gone: overshoot and smallest
+/// turn are older than two seconds, the drift is lost. What is measured at the wheels is there.
 fn trees() -> Vec<u8> {
     let [dead_time, lag, gain, play, rate] = [0.25, 0.35, 0.79, 1.5, 24.25].map(Fresh);
-    of_forty(&[dead_time, lag, gain, Held(1.7, 26), play, rate, Lost, Held(6.25, 44)])
+    let measured = [dead_time, lag, gain, Held(1.7, 26), play, rate, Lost, Held(6.25, 44)];
+    nearest_three(FORMER, &forty_tractors(), &measured)
+}
+
+// ---- the forty and a large one
+
+/// A large articulated tractor, which steers by its frame, behind the forty. It is slower to answer than any of them,
+/// its gain and its rate are lower, its smallest turn is wider.
+fn forty_one_tractors() -> Vec<Vector> {
+    let large = [0.65, 0.95, 0.58, 0.5, 1.8, 9.5, 0.20, 8.9].map(|value: f64| (256.0 * value).round() as i16);
+    let mut vectors = forty_tractors();
+    vectors.push(Vector { settings: 1800, components: large.to_vec() });
+    vectors
+}
+
+/// Another large articulated tractor. Its smallest turn was measured some time before. The marks are made anew from all
+/// forty-one.
+fn large() -> Vec<u8> {
+    let [dead_time, lag, gain, overshoot, play, rate, drift] = [0.625, 0.9, 0.6, 0.55, 1.75, 10.0, 0.125].map(Fresh);
+    let measured = [dead_time, lag, gain, overshoot, play, rate, drift, Held(9.25, 11)];
+    nearest_three(MADE, &forty_one_tractors(), &measured)
 }
 
 fn main() -> Result<(), Box<dyn Error>> {
@@ -138,5 +172,6 @@ fn main() -> Result<(), Box<dyn Error>> {
     fs::write(folder.join("a.match"), library_a())?;
     fs::write(folder.join("forty.match"), forty())?;
     fs::write(folder.join("trees.match"), trees())?;
+    fs::write(folder.join("large.match"), large())?;
     Ok(())
 }

@@ -7,6 +7,7 @@ mod data;
 mod matcher;
 mod peer;
 mod random;
+mod reads;
 mod table;
 mod timing;
 
@@ -20,10 +21,11 @@ fn main() {
     let words: Vec<String> = env::args().skip(1).collect();
     match words.iter().map(String::as_str).collect::<Vec<_>>()[..] {
         ["times"] => print_times(),
+        ["reads"] => reads::print(),
         ["cpp"] => cpp::print(),
         ["counts"] => counts::print(),
         ["calls", ref words @ ..] => counts::work(words),
-        _ => panic!("times, cpp, counts, or what counts runs under valgrind"),
+        _ => panic!("times, reads, cpp, counts, or what counts runs under valgrind"),
     }
 }
 

@@ -12,13 +12,10 @@ use std::{
 };
 use tests::{
     interface,
-    matches::{damage, noise, Match},
+    matches::{damage, noise, Match, TEXT_ROOM},
     random::Random,
     reference,
 };
-
-/// The length of the output's buffer.
-const ROOM: usize = 14_344;
 
 /// The inputs of a seed: a match that is right, with absent readings or without, the same damaged some times, bytes of no
 /// plan.
@@ -38,7 +35,7 @@ fn inputs(seed: u64) -> Vec<Vec<u8>> {
 
 /// The number of an input's refusal, or 0, or what is wrong.
 fn number(input: &[u8]) -> Result<usize, String> {
-    let (text, due) = (interface::program(input, ROOM), reference::program(input));
+    let (text, due) = (interface::program(input, TEXT_ROOM), reference::program(input));
     if text.as_deref() != Ok(due.as_bytes()) {
         return Err(format!("{text:?}, and by the reference {due:?}, for {input:?}"));
     }

@@ -293,15 +293,37 @@ pub fn assert_refusals(call: &Call, inputs: &[Input]) {
     let mut causes = vec![];
     for input in inputs {
         let faults = faults_for(call, input);
-        for (place, second) in faults.iter().enumerate() {
-            assert_refused(call, input, &[second]);
-            faults[..place].iter().for_each(|first| assert_refused(call, input, &[second, first]));
-        }
+        assert_in_order(call, input, &faults);
         causes.extend(faults.iter().map(|fault| fault.cause));
     }
+    assert_tried(call, causes, call.causes);
+}
+
+/// Two inputs that differ in their marks alone are refused with the same numbers, for all faults but those in the
+/// content of marks and codes and in vectors that are read (7, 9, 10).
+pub fn assert_same_refusals(call: &Call, pairs: &[[Input; 2]]) {
+    let due: Vec<u32> = call.causes.iter().copied().filter(|cause| ![7, 9, 10].contains(cause)).collect();
+    let mut causes = vec![];
+    for pair in pairs {
+        let mut faults = faults_for(call, &pair[0]);
+        faults.retain(|fault| due.contains(&fault.cause));
+        pair.iter().for_each(|input| assert_in_order(call, input, &faults));
+        causes.extend(faults.iter().map(|fault| fault.cause));
+    }
+    assert_tried(call, causes, &due);
+}
+
+fn assert_in_order(call: &Call, input: &Input, faults: &[Fault]) {
+    for (place, second) in faults.iter().enumerate() {
+        assert_refused(call, input, &[second]);
+        faults[..place].iter().for_each(|first| assert_refused(call, input, &[second, first]));
+    }
+}
+
+fn assert_tried(call: &Call, mut causes: Vec<u32>, due: &[u32]) {
     causes.sort_by_key(|&cause| place_of(cause));
     causes.dedup();
-    assert_eq!(causes, call.causes, "the causes of {} that were tried", call.name);
+    assert_eq!(causes, due, "the causes of {} that were tried", call.name);
 }
 
 /// The faults stand with the later cause first, so that a length is changed after the contents.

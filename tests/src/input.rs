@@ -79,6 +79,11 @@ pub struct LoadRoom {
     pub components: usize,
 }
 
+impl LoadRoom {
+    /// "only load lends its buffers at the largest size (2,080 marks, 16,384 components, 512 settings)"
+    pub const LARGEST: LoadRoom = LoadRoom { marks: 2080, settings: 512, components: 16_384 };
+}
+
 /// Where a dimension's marks begin in the marks buffer, and how many bits it has.
 #[derive(Clone, Copy, PartialEq, Eq, Debug)]
 pub struct Stretch {

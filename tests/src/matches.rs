@@ -1,11 +1,24 @@
-//! Inputs of the program: a library, k, a query; and such inputs damaged.
+//! Inputs of the program: a library, k, a query; the samples, random ones, and such inputs damaged.
 
 use crate::{
+    c,
     input::{LoadRoom, Loaded},
     random::Random,
     reference,
     samples::{file, largest_input, random_input, random_input_with_word, readings, readings_present},
 };
+use std::fs;
+
+/// The inputs in samples/.
+pub const SAMPLES: [&str; 4] = ["a.match", "forty.match", "trees.match", "large.match"];
+
+pub fn sample(name: &str) -> Vec<u8> {
+    fs::read(c::root().join("samples").join(name)).expect("the sample can be read")
+}
+
+/// The length of the output's buffer: two counts, then 512 times a number, settings and a distance, each with the byte
+/// behind it.
+pub const TEXT_ROOM: usize = 4 + 4 + 512 * (4 + 11 + 13);
 
 /// The parts of an input whose library is right.
 #[derive(Clone, PartialEq, Eq, Debug)]
@@ -49,8 +62,16 @@ impl Match {
 
 /// The library that an input begins with.
 pub fn loaded(bytes: &[u8]) -> Loaded {
-    let room = LoadRoom { marks: 2080, settings: 512, components: 16_384 };
-    reference::load(bytes, room).expect("the library is right")
+    reference::load(bytes, LoadRoom::LARGEST).expect("the library is right")
+}
+
+/// An input with other marks in its library.
+pub fn with_marks(bytes: &[u8], marks: &[i32]) -> Vec<u8> {
+    let mut bytes = bytes.to_vec();
+    for (mark, record) in marks.iter().zip(bytes[5..].chunks_mut(5)) {
+        record[1..].copy_from_slice(&mark.to_le_bytes());
+    }
+    bytes
 }
 
 /// Damages an input in one place or more, most of them in the head or near the end: a byte changed, put in or left out,

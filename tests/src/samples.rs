@@ -206,23 +206,26 @@ pub fn random_vectors(random: &mut Random, d: usize, n: usize) -> Vec<i32> {
     (0..n * d).map(&mut component).collect()
 }
 
-/// Marks around the vectors: made from them, from end to end of the scale, or drawn anyhow, with equal neighbours.
+/// Marks around the vectors: made from them, former ones, from end to end of the scale, or drawn anyhow near the
+/// vectors, with equal neighbours.
 pub fn random_marks(random: &mut Random, d: usize, b: usize, vectors: &[i32]) -> Vec<i32> {
-    let made = reference::made_marks(d, b, vectors);
-    let style = random.below(4);
-    if style == 0 {
-        return made;
+    let former = reference::former_marks(d, b, vectors);
+    let style = random.below(5);
+    match style {
+        0 => return reference::made_marks(d, b, vectors),
+        1 => return former,
+        _ => (),
     }
     let near = random.one_of(&[1, 5, 40_000]);
     let dimension = |part: Range<usize>| {
-        let (least, end) = (made[part.start], made[part.end - 1]);
+        let (least, end) = (former[part.start], former[part.end - 1]);
         let (first, last) = match style {
-            1 => (LEAST, GREATEST + 1),
+            2 => (LEAST, GREATEST + 1),
             _ => ((least - random.between(0, near)).max(LEAST), (end + random.between(0, near)).min(GREATEST + 1)),
         };
         let inner = |place: usize| match random.below(3) {
-            0 => made[place],
-            1 => (made[place] + random.between(-near, near)).clamp(first, last),
+            0 => former[place],
+            1 => (former[place] + random.between(-near, near)).clamp(first, last),
             _ => random.between(first, last),
         };
         let mut marks: Vec<i32> = (part.start + 1..part.end - 1).map(inner).collect();

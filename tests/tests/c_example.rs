@@ -6,14 +6,18 @@ use std::{
     process::{Command, Output},
     sync::LazyLock,
 };
-use tests::{c, kit, matches::Match, reference};
+use tests::{
+    c, kit,
+    matches::{self, Match, SAMPLES},
+    reference,
+};
 
 /// The example, compiled once.
 static EXAMPLE: LazyLock<PathBuf> =
     LazyLock::new(|| c::compiled(&c::root().join("examples/match.c"), Path::new(env!("CARGO_TARGET_TMPDIR"))));
 
 fn sample(name: &str) -> Match {
-    Match::of(&fs::read(c::root().join("samples").join(name)).expect("the sample can be read"))
+    Match::of(&matches::sample(name))
 }
 
 /// Runs the example on files with these contents, in a folder of the test's own.
@@ -48,7 +52,7 @@ fn assert_answers(test: &str, matches: &[Match], status: i32) {
 
 #[test]
 fn no_sample_is_answered_otherwise() {
-    for name in ["a.match", "forty.match", "trees.match"] {
+    for name in SAMPLES {
         assert_answers("sample", &[sample(name)], 0);
     }
 }

@@ -8,7 +8,7 @@ use tests::{
     c,
     input::told,
     kit::{self, kit, kit_within},
-    matches::{damage, loaded, noise, Match},
+    matches::{damage, loaded, noise, sample, Match, SAMPLES},
     random::Random,
     reference,
 };
@@ -21,14 +21,6 @@ const STACK: usize = 256;
 
 /// Document 01, "Cases".
 const CASE: &str = "2 3\n3 104 1\n4 105 61\n";
-
-fn sample(name: &str) -> Vec<u8> {
-    fs::read(c::root().join("samples").join(name)).expect("the sample can be read")
-}
-
-fn samples() -> [Vec<u8>; 3] {
-    ["a.match", "forty.match", "trees.match"].map(sample)
-}
 
 fn longest() -> Vec<u8> {
     let bytes = Match::longest().bytes();
@@ -50,7 +42,7 @@ fn case_library_a_with_its_query() {
 
 #[test]
 fn no_run_goes_wrong() {
-    samples().iter().for_each(|input| assert_run(input));
+    SAMPLES.map(sample).iter().for_each(|input| assert_run(input));
     assert_run(&longest());
     for seed in 0..200 {
         assert_run(&Match::random(seed, if seed % 20 == 0 { 512 } else { 30 }).bytes());
@@ -89,7 +81,7 @@ fn no_longest_run_with_absent_readings_goes_wrong() {
 #[test]
 fn no_run_on_a_wrong_input_is_answered_otherwise() {
     let mut random = Random::new(64);
-    for input in samples() {
+    for input in SAMPLES.map(sample) {
         (0..input.len()).for_each(|length| assert_run(&input[..length]));
         for at in 0..input.len() {
             let mut input = input.clone();
@@ -116,7 +108,7 @@ fn no_damaged_run_goes_wrong() {
 #[test]
 fn no_short_read_is_taken_for_the_end() {
     let mut random = Random::new(66);
-    for input in samples().into_iter().chain([longest()]) {
+    for input in SAMPLES.map(sample).into_iter().chain([longest()]) {
         let any: Vec<usize> = (0..50).map(|_| 1 + random.below(3000)).collect();
         for lengths in [&[4096][..], &[1, 4095], &[7, 1000, 1], &any] {
             assert_eq!(kit::run_in_pieces(&input, lengths), reference::program(&input), "pieces of {lengths:?}");
@@ -153,7 +145,7 @@ fn no_other_sort_of_input_is_taken_otherwise() {
 fn no_run_uses_more_stack_than_the_readme_says() {
     let readme = fs::read_to_string(c::root().join("README.md")).expect("README.md can be read");
     assert!(readme.contains(&format!("at most {STACK} KiB of stack")), "README.md says something else");
-    for input in samples().into_iter().chain([longest()]) {
+    for input in SAMPLES.map(sample).into_iter().chain([longest()]) {
         let output = kit::fed(&mut kit_within(STACK), &input, &[input.len()]);
         assert_eq!(kit::good(&output), reference::program(&input), "the reference is on the right");
     }

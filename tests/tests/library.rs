@@ -13,14 +13,11 @@ use tests::{
     },
 };
 
-/// "only load lends its buffers at the largest size"
-const LARGEST: LoadRoom = LoadRoom { marks: 2080, settings: 512, components: 16_384 };
-
 /// Loading by interface and reference, which agree. What was loaded is written to the very bytes that were used.
 fn load(bytes: &[u8]) -> Result<Loaded, u32> {
     let _told = told(bytes);
-    let loaded = interface::load(bytes, LARGEST);
-    assert_eq!(loaded, reference::load(bytes, LARGEST), "the reference is on the right");
+    let loaded = interface::load(bytes, LoadRoom::LARGEST);
+    assert_eq!(loaded, reference::load(bytes, LoadRoom::LARGEST), "the reference is on the right");
     if let Ok(library) = &loaded {
         assert_eq!(interface::write(&input_of(library)).as_deref(), Ok(&bytes[..library.used]), "written again");
     }
@@ -369,10 +366,10 @@ fn no_buffer_of_another_length_is_taken() {
     let (good, largest) = (file(&library_a([0, 0], 1)), file(&largest_input()));
     let mut rooms = vec![];
     let others = |exact: usize| (0..exact + 10).filter(move |&length| length != exact).chain([2 * exact, 65_536]);
-    rooms.extend(others(2080).map(|marks| LoadRoom { marks, ..LARGEST }));
-    rooms.extend(others(512).map(|settings| LoadRoom { settings, ..LARGEST }));
+    rooms.extend(others(2080).map(|marks| LoadRoom { marks, ..LoadRoom::LARGEST }));
+    rooms.extend(others(512).map(|settings| LoadRoom { settings, ..LoadRoom::LARGEST }));
     let near = |components: &usize| components.is_multiple_of(100) || *components > 16_300;
-    rooms.extend(others(16_384).filter(near).map(|components| LoadRoom { components, ..LARGEST }));
+    rooms.extend(others(16_384).filter(near).map(|components| LoadRoom { components, ..LoadRoom::LARGEST }));
     rooms.push(LoadRoom { marks: 8, settings: 5, components: 10 });
     rooms.push(LoadRoom { marks: 0, settings: 0, components: 0 });
     rooms.push(LoadRoom { marks: 16_384, settings: 2080, components: 512 });

@@ -1,4 +1,5 @@
-//! Bits, marks and regions (document 01, "Marks, regions, codes"): the C interface against the reference.
+//! Bits, marks and regions (document 01, "Marks, regions, codes"; document 02, Slip 2): the C interface against the
+//! reference.
 
 use tests::{
     calls::{Call, CHECK_MARKS, DIMENSION_REGION, MAKE_MARKS, PART, REGION, REGIONS, STRETCH},
@@ -7,7 +8,9 @@ use tests::{
     interface,
     random::Random,
     reference,
-    samples::{self, largest_input, library_a, random_input, random_of_shape, shapes, small_inputs, GREATEST, LEAST},
+    samples::{
+        self, component, largest_input, library_a, random_input, random_of_shape, shapes, small_inputs, GREATEST, LEAST,
+    },
 };
 
 const CALLS: [Call; 7] = [STRETCH, CHECK_MARKS, PART, DIMENSION_REGION, REGION, MAKE_MARKS, REGIONS];
@@ -193,6 +196,60 @@ fn no_made_marks_leave_a_vector_outside() {
     }
 }
 
+/// Document 02, Slip 2: every component lies inside made marks, in every dimension, not only those that the marks were
+/// made from; what is no component lies outside. A vector of any components has its regions in them.
+#[test]
+fn no_made_marks_leave_a_component_outside() {
+    let mut random = Random::new(7);
+    for seed in 0..600 {
+        let mut input = random_input(seed, 60);
+        input.marks = interface::make_marks(&input).expect("the vectors are right");
+        for j in 1..=input.d {
+            let anywhere = [component(&mut random), component(&mut random)];
+            let values = [LEAST, LEAST + 1, -1, 0, 1, GREATEST - 1, GREATEST].into_iter().chain(anywhere);
+            let outside = [LEAST - 1, GREATEST + 1, i32::MIN, i32::MAX].map(|value| (8, value));
+            for (number, value) in values.map(|value| (0, value)).chain(outside) {
+                (input.j, input.one.value) = (j, value);
+                DIMENSION_REGION.gives(number, &input);
+            }
+        }
+        let ends = vec![random.one_of(&[LEAST, GREATEST]); input.vectors.len()];
+        let anywhere = input.vectors.iter().map(|_| component(&mut random)).collect();
+        for vectors in [ends, anywhere] {
+            REGIONS.gives(0, &Input { vectors, ..input.clone() });
+        }
+    }
+}
+
+/// "inner marks keep their rule": they are those of the former marks, and the outer ones are the ends of the scale.
+#[test]
+fn no_made_mark_but_the_outer_ones_is_another_than_before() {
+    for seed in 0..1500 {
+        let input = random_input(seed, 512);
+        let mut marks = reference::former_marks(input.d, input.b, &input.vectors);
+        for part in reference::parts(input.d, input.b) {
+            (marks[part.start], marks[part.end - 1]) = (LEAST, GREATEST + 1);
+        }
+        assert_eq!(interface::make_marks(&input), Ok(marks), "seed {seed}");
+    }
+}
+
+/// With no bits a dimension has the two outer marks alone, whatever the vectors: all of them, or those behind b.
+#[test]
+fn no_dimension_without_bits_has_other_marks_than_the_outer_ones() {
+    let mut random = Random::new(8);
+    for d in 1..=32 {
+        for n in [1, 2, 17, 512] {
+            let input = random_of_shape(&mut random, d, 0, n);
+            assert_eq!(interface::make_marks(&input), Ok([LEAST, GREATEST + 1].repeat(d)), "d {d}, n {n}");
+            let b = random.below(d);
+            let input = random_of_shape(&mut random, d, b, n);
+            let marks = interface::make_marks(&input).expect("the vectors are right");
+            assert_eq!(marks[3 * b..], [LEAST, GREATEST + 1].repeat(d - b), "d {d}, b {b}, n {n}");
+        }
+    }
+}
+
 /// Every number of dimensions and of bits.
 #[test]
 fn no_shape_is_left_out() {
@@ -285,12 +342,18 @@ fn no_vector_is_taken_outside_the_range_or_the_marks() {
     }
 }
 
-/// Document 01, "Cases".
+/// Document 01, "Cases", which document 02, Slip 2 changed: "P10 becomes -32768 2 4 13 32768 and -32768 3 32768."
 #[test]
 fn case_p10_marks_made_from_library_a() {
-    let marks = vec![1, 2, 4, 13, 19, 1, 3, 11];
+    let marks = vec![-32768, 2, 4, 13, 32768, -32768, 3, 32768];
     assert_eq!(interface::make_marks(&library_a([0, 0], 1)), Ok(marks.clone()));
     assert_eq!(reference::make_marks(&library_a([0, 0], 1)), Ok(marks), "by the reference");
+}
+
+/// Document 01, "Cases", before that: "marks made from A's patterns: 1 2 4 13 19 and 1 3 11".
+#[test]
+fn case_p10_former_marks_of_library_a() {
+    assert_eq!(reference::former_marks(2, 3, &library_a([0, 0], 1).vectors), [1, 2, 4, 13, 19, 1, 3, 11]);
 }
 
 /// Document 01, "Cases": "b 12 with d 2 is taken, 13 is 2".

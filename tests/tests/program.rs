@@ -1,29 +1,15 @@
 //! The program's function (document 01, "The program"; document 02, Slip 1): the C interface against the reference.
 
-use std::fs;
 use tests::{
-    c,
     input::told,
     interface,
-    matches::{damage, loaded, noise, Match},
+    matches::{damage, loaded, noise, sample, Match, SAMPLES, TEXT_ROOM},
     random::Random,
     reference,
 };
 
-/// The length of the output's buffer: two counts, then 512 times a number, settings and a distance, each with the byte
-/// behind it.
-const ROOM: usize = 4 + 4 + 512 * (4 + 11 + 13);
-
 /// "No accepted input is longer than 45,928 bytes."
 const LONGEST: usize = 45_928;
-
-fn sample(name: &str) -> Vec<u8> {
-    fs::read(c::root().join("samples").join(name)).expect("the sample can be read")
-}
-
-fn samples() -> [Vec<u8>; 3] {
-    ["a.match", "forty.match", "trees.match"].map(sample)
-}
 
 fn longest() -> Vec<u8> {
     let bytes = Match::longest().bytes();
@@ -34,7 +20,7 @@ fn longest() -> Vec<u8> {
 /// The function and the reference agree. Gives the number of the refusal, or 0.
 fn number(input: &[u8]) -> usize {
     let _told = told(input);
-    let text = interface::program(input, ROOM).expect("the room is right");
+    let text = interface::program(input, TEXT_ROOM).expect("the room is right");
     let text = String::from_utf8(text).expect("the output is text");
     assert_eq!(text, reference::program(input), "the reference is on the right");
     match text.strip_prefix("refused ") {
@@ -55,7 +41,7 @@ fn counts(inputs: impl IntoIterator<Item = Vec<u8>>) -> [usize; 20] {
 /// Document 01, "Cases".
 #[test]
 fn case_library_a_with_its_query() {
-    let text = interface::program(&sample("a.match"), ROOM);
+    let text = interface::program(&sample("a.match"), TEXT_ROOM);
     assert_eq!(text, Ok(b"2 3\n3 104 1\n4 105 61\n".to_vec()));
 }
 
@@ -105,7 +91,9 @@ fn no_match_of_absent_readings_alone_is_answered() {
 #[test]
 fn no_cut_match_is_answered() {
     let absent = (0..100).map(|seed| Match::random_with_absent(seed, 6).bytes());
-    for input in samples().into_iter().chain((0..100).map(|seed| Match::random(seed, 6).bytes())).chain(absent) {
+    for input in
+        SAMPLES.map(sample).into_iter().chain((0..100).map(|seed| Match::random(seed, 6).bytes())).chain(absent)
+    {
         let cut = (0..input.len()).map(|length| input[..length].to_vec());
         let counts = counts(cut);
         assert_eq!(counts[12], input.len(), "{counts:?}");
@@ -189,7 +177,7 @@ fn no_input_past_the_limit_is_answered() {
 #[test]
 fn no_output_of_another_length_is_taken() {
     for input in [&sample("a.match")[..], &longest(), &[], &[9]] {
-        for room in (0..100).chain([ROOM - 1, ROOM + 1, 2 * ROOM, 45_928]) {
+        for room in (0..100).chain([TEXT_ROOM - 1, TEXT_ROOM + 1, 2 * TEXT_ROOM, 45_928]) {
             assert_eq!(interface::program(input, room), Err(5), "{room} bytes");
         }
     }

@@ -1,7 +1,11 @@
 //! README.md and docs/FORMAT.md say what the crates are.
 
 use std::fs;
-use tests::{c, map, reference};
+use tests::{
+    c, map,
+    matches::{sample, SAMPLES},
+    reference,
+};
 
 fn read(path: &str) -> String {
     fs::read_to_string(c::root().join(path)).unwrap_or_else(|error| panic!("{path}: {error}"))
@@ -20,9 +24,8 @@ fn no_crate_is_left_out_of_the_map() {
 #[test]
 fn no_sample_is_answered_otherwise_than_the_readme_shows() {
     let readme = read("README.md");
-    for name in ["a.match", "forty.match", "trees.match"] {
-        let input = fs::read(c::root().join("samples").join(name)).expect("the sample can be read");
-        let shown: String = reference::program(&input).lines().map(|line| format!("      {line}\n")).collect();
+    for name in SAMPLES {
+        let shown: String = reference::program(&sample(name)).lines().map(|line| format!("      {line}\n")).collect();
         assert!(readme.contains(&format!("\n\n{shown}\n")), "README.md does not show, for {name}:\n{shown}");
     }
 }

@@ -368,7 +368,7 @@ fn no_byte_of_the_codes_is_misread() {
     assert!([0, 9, 10].iter().all(|&number| numbers[number] > 1000), "{numbers:?}");
 }
 
-/// Queries at the ends of the scale and anywhere, for marks that reach nowhere near them.
+/// Queries at the ends of the scale and anywhere, for former marks, which reach nowhere near them.
 #[test]
 fn no_query_outside_the_marks_is_taken_for_one_inside() {
     let mut random = Random::new(38);
@@ -376,7 +376,7 @@ fn no_query_outside_the_marks_is_taken_for_one_inside() {
         let (d, n) = (1 + random.below(6), 1 + random.below(20));
         let b = random.below(3 * d + 1);
         let vectors: Vec<i32> = (0..n * d).map(|_| random.between(-40, 40)).collect();
-        let marks = reference::made_marks(d, b, &vectors);
+        let marks = reference::former_marks(d, b, &vectors);
         let ends: Vec<i32> = (0..d).map(|_| random.one_of(&[LEAST, GREATEST])).collect();
         let anywhere: Vec<i32> = (0..d).map(|_| component(&mut random)).collect();
         let k = 1 + random.below(n);

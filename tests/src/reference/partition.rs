@@ -1,4 +1,4 @@
-//! Bits, marks and regions (document 01, "Marks, regions, codes").
+//! Bits, marks and regions (document 01, "Marks, regions, codes"; document 02, Slip 2).
 
 use super::causes;
 use crate::input::{Input, Stretch};
@@ -35,11 +35,16 @@ pub fn region_of(marks: &[i32], value: i32) -> Option<usize> {
     region
 }
 
-/// "Marks made from patterns": the component at a place is the first one with more components up to it than the place.
-pub fn made_marks(d: usize, b: usize, vectors: &[i32]) -> Vec<i32> {
+/// How often each component stands in a dimension.
+type Counts = BTreeMap<i32, usize>;
+
+/// Each dimension's marks between two outer ones: "inner mark i is the component at place (i·n) div 2^w, places from 0,
+/// of the components in non-falling order". The component at a place is the first one with more components up to it
+/// than the place.
+fn marks_between(d: usize, b: usize, vectors: &[i32], outer: impl Fn(&Counts) -> [i32; 2]) -> Vec<i32> {
     let n = vectors.len() / d;
     let dimension_marks = |(dimension, part): (usize, Range<usize>)| {
-        let mut counts = BTreeMap::new();
+        let mut counts = Counts::new();
         vectors.chunks(d).for_each(|vector| *counts.entry(vector[dimension]).or_insert(0) += 1);
         let at = |place: usize| {
             let mut up_to = 0;
@@ -49,13 +54,28 @@ pub fn made_marks(d: usize, b: usize, vectors: &[i32]) -> Vec<i32> {
             });
             *reached.expect("the place is below n").0
         };
-        let regions = part.len() - 1;
-        let mut marks = vec![*counts.keys().min().expect("there is a vector")];
+        let (regions, [first, last]) = (part.len() - 1, outer(&counts));
+        let mut marks = vec![first];
         marks.extend((1..regions).map(|i| at(i * n / regions)));
-        marks.push(counts.keys().max().expect("there is a vector") + 1);
+        marks.push(last);
         marks
     };
     parts(d, b).into_iter().enumerate().flat_map(dimension_marks).collect()
+}
+
+/// Document 02, Slip 2: "From now on, marks made from patterns begin at -32768 and end at 32768; inner marks keep their
+/// rule."
+pub fn made_marks(d: usize, b: usize, vectors: &[i32]) -> Vec<i32> {
+    marks_between(d, b, vectors, |_| [-32768, 32768])
+}
+
+/// Marks of document 01's rule, before Slip 2: "the first is the dimension's least component, the last its greatest
+/// plus 1". No call makes them any more. Files already written hold them, and "codes and neighbours of a library
+/// remade" are held to those that it had with them.
+pub fn former_marks(d: usize, b: usize, vectors: &[i32]) -> Vec<i32> {
+    let least = |counts: &Counts| *counts.keys().min().expect("there is a vector");
+    let greatest = |counts: &Counts| *counts.keys().max().expect("there is a vector");
+    marks_between(d, b, vectors, |counts| [least(counts), greatest(counts) + 1])
 }
 
 /// The region numbers of all vectors, in the vectors' order.

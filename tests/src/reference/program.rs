@@ -21,7 +21,7 @@ pub fn program(input: &[u8]) -> String {
 /// "line one is k and the read count; then one line for each entry: number, settings, distance": the answer is the full
 /// scan's, the count the reading order's.
 fn matched(input: &[u8]) -> Result<Vec<String>, u32> {
-    let library = load(input, LoadRoom { marks: 2080, settings: 512, components: 16_384 })?;
+    let library = load(input, LoadRoom::LARGEST)?;
     let (k, rest) = causes::whole(input[library.used..].split_first_chunk())?;
     let k = usize::from(u16::from_le_bytes(*k));
     causes::neighbours(library.n, k)?;
