@@ -32,6 +32,17 @@ unfolding regionsFrom
 length-regions d b marks t [] = refl
 length-regions d b marks t (z ∷ zs) = ap suc (length-regions d b marks (nextColumn d t) zs)
 
+-- Components lie inside if each lies inside the marks of its column's dimension, the first of them in column p % d.
+pub inside-from : (d b : ℕ) → 0 < d → (marks : List ℤ) (p : ℕ) (zs : List ℤ)
+    → ((q : ℕ) → q < length zs → inMarks (dimensionMarks d b marks (suc ((p + q) % d))) (getD zs q (pos 0)) ≡ true)
+    → insideFrom d b marks (p % d) zs ≡ true
+unfolding insideFrom
+inside-from d b some marks p [] each = refl
+inside-from d b some marks p (z ∷ zs) each =
+    let here : inMarks (dimensionMarks d b marks (suc (p % d))) z ≡ true = rw add-zero at (each 0 (omega arith)) in
+    let rest = inside-from d b some marks (suc p) zs (λ q h. rw (suc-add p q, ← add-suc p q) (each (suc q) (omega arith))) in
+    rw (here, next-column d b some p) rest
+
 -- A region that holds a value is one of its dimension's.
 holds-fit : (d b : ℕ) (marks : List ℤ) (t r : ℕ) (z : ℤ) → RegionHolds (dimensionMarks d b marks (suc t)) r z → r < regionCount d b (suc t)
 unfolding dimensionMarks

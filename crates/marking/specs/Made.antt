@@ -1,7 +1,7 @@
 -- Marks made from vectors (document 01, "Marks, regions, codes"; document 02, Slip 2). n vectors of d components stand in a row, each with
 -- its d components alone. Assumes nothing.
 use mathlib.Core.Bool.{cond}
-use mathlib.Core.List.{List, [], _∷_, _++_, map}
+use mathlib.Core.List.{List, [], _++_, map}
 use Prim.Native.Nat.{ℕ, zero, suc, _+_, _*_, _/_, _^_}
 use lib.Dec.{ltb, eqb}
 use lib.IntN.{ℤ, pos}
@@ -25,12 +25,12 @@ pub record Outer : Type 0 where
   pub first : ℤ
   pub last : ℤ
 
--- mark i of a dimension of w bits: the first, "inner mark i is the component at place (i·n) div 2^w, places from 0, of the components in
--- non-falling order", and from the last on the last
+-- mark i of a dimension of w bits between its outer marks, from n components in order: "inner mark i is the component at place
+-- (i·n) div 2^w, places from 0, of the components in non-falling order". Past the last it is the last.
 unfoldable pub markAt : Outer → ℕ → ℕ → List ℤ → ℕ → ℤ
 markAt outer n w ordered i = cond (eqb i 0) (outer .first) (cond (ltb i (2 ^ w)) (getD ordered (i * n / 2 ^ w) (pos 0)) (outer .last))
 
--- its marks: "With w bits it has 2^w regions and 2^w + 1 marks."
+-- the dimension's marks: "With w bits it has 2^w regions and 2^w + 1 marks."
 unfoldable pub marksBetween : Outer → ℕ → ℕ → List ℤ → List ℤ
 marksBetween outer n w ordered = map (markAt outer n w ordered) (countFrom 0 (2 ^ w + 1))
 
@@ -44,6 +44,7 @@ firstBetween outer d b n vectors (suc t) =
 abbrev pub scaleEnds : Outer
 scaleEnds = record { first = leastMark; last = greatestMark }
 
+-- one dimension's marks that are made, those of the first t dimensions, and all
 abbrev pub madeDimension : ℕ → ℕ → List ℤ → List ℤ
 madeDimension n w ordered = marksBetween scaleEnds n w ordered
 

@@ -1,13 +1,13 @@
 -- Laws of one dimension's marks, made from n components in order between two outer marks: how many they are, which stands where, that
 -- they pass the marks test, and which components lie inside them. Assumes nothing.
-use mathlib.Core.Path.{_≡_, refl, sym, ap, _∙_}
+use mathlib.Core.Path.{_≡_, refl, sym, _∙_}
 use mathlib.Core.Bool.{Bool, true, false, cond}
 use mathlib.Core.Logic.{inl, inr}
 use mathlib.Core.List.{List, [], _∷_}
 use Prim.Native.Nat.{ℕ, zero, suc, _+_, _-_, _*_, _/_, _^_, _≤_, _<_}
-use native.Mathlib.Nat.{mul-comm, mul-le-mul-right, mul-lt-mul-of-pos-right, div-lt-iff-lt-mul, eq-or-lt-of-le, le-of-suc-le-suc}
+use native.Mathlib.Nat.{mul-comm, mul-le-mul-right, mul-lt-mul-of-pos-right, div-lt-iff-lt-mul, eq-or-lt-of-le}
 use native.Mathlib.Omega.{arith}
-use borrow.Author.Tests.{le-leb, lt-ltb, le-ltb, eq-eqb, ne-eqb}
+use borrow.Author.Tests.{le-leb, lt-ltb, le-ltb, ne-eqb}
 use lib.Dec.{ltb, eqb}
 use lib.IntN.{ℤ, pos}
 use lib.Signed.{leZ, ltZ}
@@ -85,10 +85,10 @@ module _ (outer : Outer) (n w : ℕ) (ordered : List ℤ) where
   unfolding markAt
   mark-last i past = rw (ne-eqb i 0 (omega (arith, pow-pos w)), le-ltb i (2 ^ w) past)
 
-  pub between-first : firstMark (marksBetween outer n w ordered) ≡ outer .first
+  between-first : firstMark (marksBetween outer n w ordered) ≡ outer .first
   between-first = between-at 0 (omega arith) ∙ mark-first
 
-  pub between-last : lastMark (marksBetween outer n w ordered) ≡ outer .last
+  between-last : lastMark (marksBetween outer n w ordered) ≡ outer .last
   between-last =
       last-mark (marksBetween outer n w ordered) (2 ^ w) (omega (arith, between-length))
       ∙ between-at (2 ^ w) (omega arith)

@@ -1,36 +1,21 @@
 -- The codes that packing gives for a library whose records pass are its vectors' own. Assumes nothing.
-use mathlib.Core.Path.{_≡_, refl}
+use mathlib.Core.Path.{_≡_}
 use mathlib.Core.Bool.{true}
-use mathlib.Core.List.{List, [], _∷_}
-use Prim.Native.Nat.{ℕ, suc, _+_, _*_, _/_, _%_, _<_}
-use native.Mathlib.Nat.{zero-add, zero-mod, add-zero, add-suc, suc-add, mod-lt, div-lt-iff-lt-mul}
-use native.Mathlib.Omega.{arith}
-use lib.IntN.{ℤ, pos}
-use lib.ListN.{length, getD}
+use mathlib.Core.List.{List}
+use Prim.Native.Nat.{ℕ, suc, _*_, _/_, _%_, _<_}
+use native.Mathlib.Nat.{zero-add, zero-mod, mod-lt, div-lt-iff-lt-mul}
 use Rattle.refusal.specs.declared.Verdict.the-variants.{Accepted}
 use Rattle.refusal.specs.First.{first}
 use Rattle.region.specs.Region.{inMarks}
 use Rattle.partition.specs.Marks.{dimensionMarks}
-use Rattle.codes.specs.PackLaws.{next-column}
-use Rattle.approximation.specs.Vectors.{insideFrom, vectorsInside, vectorCodes}
+use Rattle.approximation.specs.Vectors.{vectorsInside, vectorCodes}
 use Rattle.cells.specs.Cells.{Own}
-use Rattle.approximation.specs.OwnCodes.{own-codes}
+use Rattle.approximation.specs.OwnCodes.{inside-from, own-codes}
 use Rattle.library.specs.EachLaws.{every-at}
 use Rattle.library.specs.Library.{Library, markTotal, componentAt, readLibrary}
 use Rattle.library.specs.Tests.{inside}
 use Rattle.loading.specs.Load.{recordsCauses as libraryCauses}
 use Rattle.loading.specs.Loaded.{shaped, components-count, component-at, vector-inside}
-
--- components that lie, each, inside the marks of their column's dimension, the first in column p % d
-inside-from : (d b : ℕ) → 0 < d → (marks : List ℤ) (p : ℕ) (zs : List ℤ)
-    → ((q : ℕ) → q < length zs → inMarks (dimensionMarks d b marks (suc ((p + q) % d))) (getD zs q (pos 0)) ≡ true)
-    → insideFrom d b marks (p % d) zs ≡ true
-unfolding insideFrom
-inside-from d b some marks p [] each = refl
-inside-from d b some marks p (z ∷ zs) each =
-    let here : inMarks (dimensionMarks d b marks (suc (p % d))) z ≡ true = rw add-zero at (each 0 (omega arith)) in
-    let rest = inside-from d b some marks (suc p) zs (λ q h. rw (suc-add p q, ← add-suc p q) (each (suc q) (omega arith))) in
-    rw (here, next-column d b some p) rest
 
 module _ (bytes : List ℕ) (accepted : first (libraryCauses (readLibrary bytes) bytes) ≡ Accepted) where
   abbrev l : Library

@@ -1,18 +1,20 @@
 -- A library remade (document 02, Slip 2): "Where the old marks came by 01's rule from the same patterns and the old codes were their own,
 -- codes and neighbours of a library remade so are the old ones". Nothing is said of the reads. Assumes nothing.
 use mathlib.Core.Path.{_≡_, refl, sym, ap, _∙_}
-use mathlib.Core.Bool.{true, and-eq-true-iff}
+use mathlib.Core.Bool.{true, not, and-eq-true-iff}
 use mathlib.Core.Logic.{inl, inr}
 use mathlib.Core.List.{List}
-use Prim.Native.Nat.{ℕ, zero, suc, _+_, _*_, _^_, _≤_, _<_}
-use native.Mathlib.Nat.{eq-or-lt-of-le}
+use Prim.Native.Nat.{ℕ, zero, suc, _+_, _*_, _%_, _^_, _≤_, _<_}
+use native.Mathlib.Nat.{eq-or-lt-of-le, mod-lt, zero-mod}
 use native.Mathlib.Omega.{arith}
+use borrow.Author.Tests.{eq-eqb}
 use lib.IntN.{ℤ, pos}
 use lib.Signed.{leZ, ltZ}
 use lib.ListN.{length, getD}
+use Rattle.refusal.specs.declared.Refusal.the-variants.{Dimension, Bits, Count}
 use Rattle.refusal.specs.declared.Verdict.the-variants.{Accepted}
-use Rattle.refusal.specs.First.{first}
-use Rattle.limits.specs.Limits.{isComponent}
+use Rattle.refusal.specs.First.{first, any, passed, accepted-if-none}
+use Rattle.limits.specs.Limits.{isComponent, isDimensionCount, isBits, isVectorCount}
 use Rattle.signed.specs.Components.{component-at}
 use Rattle.layout.specs.Layout.{bitsOf, firstMarks}
 use Rattle.layout.specs.Stretch.{shape}
@@ -24,20 +26,21 @@ use Rattle.codes.specs.Codes.{codeLength, codeRegion}
 use Rattle.codes.specs.PackLaws.{code-region-fits}
 use Rattle.cells.specs.Cells.{vectorAt, inFirst, Own}
 use Rattle.cells.specs.CellLaws.{vector-component}
-use Rattle.approximation.specs.Vectors.{vectorCodes}
-use Rattle.approximation.specs.OwnCodes.{own-good, own-packed}
-use Rattle.search.specs.Search.{Index, Query, Room, searched, inOwnCells, searchCauses}
+use Rattle.approximation.specs.Vectors.{vectorsInside, vectorCodes}
+use Rattle.approximation.specs.VectorCauses.{packVectorsCauses}
+use Rattle.approximation.specs.OwnCodes.{inside-from, own-good, own-packed}
+use Rattle.search.specs.Search.{Index, Query, Room, searched, searchCauses}
 use Rattle.search.specs.Settled.{OwnCodes}
 use Rattle.search.specs.Theorems.{search-is-scan, own-reads}
 use Rattle.marking.specs.Made.{Outer, column, inOrder, markAt, marksBetween, scaleEnds, madeMarks}
 use Rattle.marking.specs.Making.{makeCauses, Given, given}
 use Rattle.marking.specs.MadeDimension.{between-at, mark-first, mark-inner, mark-last, on-scale}
-use Rattle.marking.specs.MadeLaws.{between-count, between-part, made-passes}
+use Rattle.marking.specs.MadeLaws.{between-count, between-part, made-passes, made-inside}
 use Rattle.remade.specs.Former.{formerOuters, formerMarks, former-passes}
 
 -- a library whose marks came by 01's rule from its own vectors, which are such that marks can be made from them, and whose codes were the
 -- vectors' own
-pub record Former (l : Index) : Type 0 where
+pub record FormerLibrary (l : Index) : Type 0 where
   pub makeable : first (makeCauses (l .d) (l .b) (l .n) (l .vectors) (length (l .marks))) ≡ Accepted
   pub marks : l .marks ≡ formerMarks (l .d) (l .b) (l .n) (l .vectors)
   pub bytes : Bytes (l .codes)
@@ -93,9 +96,12 @@ module _ (outer : Outer) (n w : ℕ) (ordered : List ℤ) (r : ℕ) (below : r <
 
 -- ---- the theorems
 
-module _ {l : Index} (old : Former l) where
+module _ {l : Index} (old : FormerLibrary l) where
   facts : Given (l .d) (l .b) (l .n) (l .vectors) (length (l .marks))
   facts = given (l .d) (l .b) (l .n) (l .vectors) (length (l .marks)) (old .makeable)
+
+  some : 0 < l .d
+  some = shape (l .d) (l .b) (facts .shaped) .some
 
   -- each vector lies in its old code's cell under the new marks too
   component-kept : (i t : ℕ) → t < l .d → let v = getD (vectorAt (l .d) (l .vectors) i) t (pos 0) in
@@ -130,12 +136,39 @@ module _ {l : Index} (old : Former l) where
   new-passes : goodMarks (l .d) (l .b) (newMarks l) ≡ true
   new-passes = made-passes (l .d) (l .b) (l .n) (l .vectors) (facts .count .above) (facts .components)
 
+  new-inside : vectorsInside (l .d) (l .b) (newMarks l) (l .vectors) ≡ true
+  new-inside =
+      rw zero-mod at
+      (inside-from (l .d) (l .b) some (newMarks l) 0 (l .vectors)
+      (λ q h.
+      made-inside (l .d) (l .b) (l .n) (l .vectors) ((0 + q) % l .d) (mod-lt (0 + q) some) (getD (l .vectors) q (pos 0))
+      (component-at (l .vectors) (facts .components) q)))
+
   new-count : length (newMarks l) ≡ firstMarks (l .d) (l .b) (l .d)
   new-count = between-count (λ _. scaleEnds) (l .d) (l .b) (l .n) (l .vectors)
 
-  -- 1. Its codes are the old ones, byte for byte.
+  -- 1. Packing its vectors is not refused, and gives the old codes, byte for byte.
+  pub remade-packs : first (packVectorsCauses (l .d) (l .b) (l .n) (l .vectors) (newMarks l) (codeLength (l .b) (l .n))) ≡ Accepted
+  unfolding any
+  remade-packs =
+      let dimensions = passed (not (isDimensionCount (l .d))) Dimension _ (old .makeable) in
+      let bits = passed (not (isBits (l .d) (l .b))) Bits _ (dimensions .rest) in
+      let count = passed (not (isVectorCount (l .n))) Count _ (bits .rest) in
+      accepted-if-none (packVectorsCauses (l .d) (l .b) (l .n) (l .vectors) (newMarks l) (codeLength (l .b) (l .n)))
+      (rw (
+        dimensions .fails,
+        bits .fails,
+        count .fails,
+        eq-eqb (length (l .vectors)) (l .n * l .d) (facts .full),
+        eq-eqb (codeLength (l .b) (l .n)) (codeLength (l .b) (l .n)) refl,
+        eq-eqb (length (newMarks l)) (firstMarks (l .d) (l .b) (l .d)) new-count,
+        facts .components,
+        new-passes,
+        new-inside,
+      ))
+
   pub remade-codes : (remade l) .codes ≡ l .codes
-  remade-codes = own-packed (shape (l .d) (l .b) (facts .shaped) .some) new-count new-passes (facts .full) own-kept (old .bytes) (old .size)
+  remade-codes = own-packed some new-count new-passes (facts .full) own-kept (old .bytes) (old .size)
 
   pub remade-own : OwnCodes (remade l)
   remade-own = rw remade-codes own-kept

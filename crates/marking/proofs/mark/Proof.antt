@@ -1,5 +1,5 @@
 -- `mark` meets its contract: the place of a region's lower mark is one of the keys'. Assumes nothing.
-use mathlib.Core.Path.{_≡_, refl, sym, ap, _∙_}
+use mathlib.Core.Path.{_≡_, sym, _∙_}
 use Prim.Native.Nat.{ℕ, _*_, _/_, _^_, _≤_, _<_}
 use native.Mathlib.Nat.{mul-le-mul}
 use native.Mathlib.Omega.{arith}
@@ -10,7 +10,7 @@ use mir.Syntax.{w32}
 use mir.ValLaws.{toZ-ofZ}
 use Rattle.limits.specs.Limits.{maxDimensionBits, maxVectors}
 use Rattle.partition.proofs.Power.{shifted}
-use Rattle.marking.specs.Made.{markAt, scaleEnds}
+use Rattle.marking.specs.Made.{scaleEnds}
 use Rattle.marking.specs.InOrder.{map-at}
 use Rattle.marking.specs.KeysInOrder.{wholeOf}
 use Rattle.marking.specs.MadeDimension.{place-below, mark-first, mark-inner, mark-last}
