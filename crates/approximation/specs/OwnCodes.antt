@@ -43,6 +43,33 @@ inside-from d b some marks p (z ∷ zs) each =
     let rest = inside-from d b some marks (suc p) zs (λ q h. rw (suc-add p q, ← add-suc p q) (each (suc q) (omega arith))) in
     rw (here, next-column d b some p) rest
 
+-- The other way round, component q lies inside the marks of its column's dimension.
+inside-at : (d b : ℕ) → 0 < d → (marks : List ℤ) (p q : ℕ) (zs : List ℤ) → q < length zs → insideFrom d b marks (p % d) zs ≡ true
+    → inMarks (dimensionMarks d b marks (suc ((p + q) % d))) (getD zs q (pos 0)) ≡ true
+unfolding insideFrom
+inside-at d b some marks p q [] more inside = absurd (omega arith)
+inside-at d b some marks p zero (z ∷ zs) more inside = rw add-zero (and-eq-true-iff _ _ .0 inside .0)
+inside-at d b some marks p (suc q) (z ∷ zs) more inside =
+    let rest = and-eq-true-iff (inMarks (dimensionMarks d b marks (suc (p % d))) z)
+    (insideFrom d b marks (nextColumn d (p % d)) zs) .0 inside .1 in
+    rw (add-suc p q, ← suc-add p q)
+    (inside-at d b some marks (suc p) q zs (le-of-suc-le-suc more) (rw (next-column d b some p) at rest))
+
+-- Its region number is that of its region in these marks.
+region-at : (d b : ℕ) → 0 < d → (marks : List ℤ) (p q : ℕ) (vectors : List ℤ) → q < length vectors
+    → getD (regionsFrom d b marks (p % d) vectors) q 0 ≡ regionOf (dimensionMarks d b marks (suc ((p + q) % d))) (getD vectors q (pos 0))
+unfolding regionsFrom
+region-at d b some marks p q [] more = absurd (omega arith)
+region-at d b some marks p zero (z ∷ zs) more = rw add-zero
+region-at d b some marks p (suc q) (z ∷ zs) more =
+    rw (add-suc p q, ← suc-add p q, next-column d b some p) (region-at d b some marks (suc p) q zs (le-of-suc-le-suc more))
+
+-- The region number of component t of vector i is that of its region in dimension t + 1's marks.
+located : (d b : ℕ) → 0 < d → (marks vectors : List ℤ) (i t : ℕ) → i * d + t < length vectors → t < d
+    → getD (vectorRegions d b marks vectors) (i * d + t) 0 ≡ regionOf (dimensionMarks d b marks (suc t)) (getD vectors (i * d + t) (pos 0))
+located d b some marks vectors i t here column =
+    rw (zero-mod d, zero-add (i * d + t), digits-mod i column) at (region-at d b some marks 0 (i * d + t) vectors here)
+
 -- A region that holds a value is one of its dimension's.
 holds-fit : (d b : ℕ) (marks : List ℤ) (t r : ℕ) (z : ℤ) → RegionHolds (dimensionMarks d b marks (suc t)) r z → r < regionCount d b (suc t)
 unfolding dimensionMarks
@@ -68,20 +95,6 @@ pub regions-fit : (d b : ℕ) (marks vectors : List ℤ) → vectorsInside d b m
     → regionsFit d b 0 (vectorRegions d b marks vectors) ≡ true
 regions-fit d b marks vectors inside = inside-fit d b marks 0 vectors inside
 
--- Component q, the first of them in column p % d, lies in its region.
-from-holds : (d b : ℕ) → 0 < d → (marks : List ℤ) (p q : ℕ) (vectors : List ℤ) → q < length vectors
-    → insideFrom d b marks (p % d) vectors ≡ true
-    → RegionHolds (dimensionMarks d b marks (suc ((p + q) % d))) (getD (regionsFrom d b marks (p % d) vectors) q 0) (getD vectors q (pos 0))
-unfolding regionsFrom insideFrom
-from-holds d b some marks p q [] more inside = absurd (omega arith)
-from-holds d b some marks p zero (z ∷ zs) more inside =
-    rw add-zero (region-of-holds (dimensionMarks d b marks (suc (p % d))) z (and-eq-true-iff _ _ .0 inside .0))
-from-holds d b some marks p (suc q) (z ∷ zs) more inside =
-    let rest = and-eq-true-iff (inMarks (dimensionMarks d b marks (suc (p % d))) z)
-    (insideFrom d b marks (nextColumn d (p % d)) zs) .0 inside .1 in
-    rw (add-suc p q, ← suc-add p q, next-column d b some p)
-    (from-holds d b some marks (suc p) q zs (le-of-suc-le-suc more) (rw (next-column d b some p) at rest))
-
 -- ---- Own codes
 
 module _ (d b n : ℕ) (some : 0 < d) (marks vectors : List ℤ) (rows : length vectors ≡ n * d)
@@ -100,9 +113,10 @@ module _ (d b n : ℕ) (some : 0 < d) (marks vectors : List ℤ) (rows : length 
       code-region d b n some (packed d b n regions) i t row column
       ∙ ap (λ (l : List ℕ). getD l (i * d + t) 0)
       (unpacked-packed d b n some regions rows-located (regions-fit d b marks vectors inside)) in
-      rw (is, vector-component d vectors i t column)
-      (rw (zero-mod d, zero-add (i * d + t), digits-mod i column) at
-      (from-holds d b some marks 0 (i * d + t) vectors here (rw zero-mod inside)))
+      let in-marks = inside-at d b some marks 0 (i * d + t) vectors here (rw zero-mod inside) in
+      rw (is, vector-component d vectors i t column, located d b some marks vectors i t here column)
+      (region-of-holds (dimensionMarks d b marks (suc t)) (getD vectors (i * d + t) (pos 0))
+      (rw (zero-add (i * d + t), digits-mod i column) at in-marks))
 
   first-inside : (i : ℕ) → i < n → (t : ℕ) → t ≤ d → inFirst d b marks (vectorCodes d b n marks vectors) i (vectorAt d vectors i) t ≡ true
   unfolding inFirst
@@ -152,15 +166,6 @@ own-good {n = n} own = and-eq-true-iff _ _ .1 (own-not-empty own n (omega arith)
 
 -- ---- Packing gives the only own codes
 
--- Component q, the first of them in column p % d, has its dimension's region number.
-region-at : (d b : ℕ) → 0 < d → (marks : List ℤ) (p q : ℕ) (vectors : List ℤ) → q < length vectors
-    → getD (regionsFrom d b marks (p % d) vectors) q 0 ≡ regionOf (dimensionMarks d b marks (suc ((p + q) % d))) (getD vectors q (pos 0))
-unfolding regionsFrom
-region-at d b some marks p q [] more = absurd (omega arith)
-region-at d b some marks p zero (z ∷ zs) more = rw add-zero
-region-at d b some marks p (suc q) (z ∷ zs) more =
-    rw (add-suc p q, ← suc-add p q, next-column d b some p) (region-at d b some marks (suc p) q zs (le-of-suc-le-suc more))
-
 module _ {d b n : ℕ} (some : 0 < d) {marks : List ℤ} (exact : length marks ≡ firstMarks d b d) (good : goodMarks d b marks ≡ true)
     {vectors : List ℤ} (rows : length vectors ≡ n * d) {codes : List ℕ} (own : Own d b n marks codes vectors) where
   -- The region that code i names for dimension t + 1 is that of the vector's component.
@@ -172,7 +177,7 @@ module _ {d b n : ℕ} (some : 0 < d) {marks : List ℤ} (exact : length marks �
       omega (arith, part-length d b marks exact t column, code-region-fits d b codes i t) in
       let holds : RegionHolds own-marks (codeRegion d b codes i t) (getD vectors (i * d + t) (pos 0)) =
       record { exists = exists; inside = rw (vector-component d vectors i t column) at (cell-region (own .cells i row) t column) } in
-      (rw (zero-mod d, zero-add (i * d + t), digits-mod i column) at (region-at d b some marks 0 (i * d + t) vectors here))
+      located d b some marks vectors i t here column
       ∙ sym (region-of-is (good-marks-each d b marks t column good) holds)
 
   own-regions : vectorRegions d b marks vectors ≡ unpacked d b n codes

@@ -48,7 +48,7 @@ pub data Case : Type 0 where
   -- the marks made from a library's vectors
   makes : Index → List ℤ → Case
   -- the marks that document 01's rule makes from them, which no call makes any more
-  made : Index → List ℤ → Case
+  made-formerly : Index → List ℤ → Case
   -- the search of a library for the k nearest, with every dimension present, gives these pairs (distance, number) and this read list
   finds : Index → List ℤ → ℕ → List Pair → List ℕ → Case
 
@@ -61,7 +61,7 @@ Holds (codes l) =
     × (vectorCodes (l .d) (l .b) (l .n) (l .marks) (l .vectors) ≡ l .codes)
 Holds (makes l marks) =
     (first (makeCauses (l .d) (l .b) (l .n) (l .vectors) (length marks)) ≡ Accepted) × (madeMarks (l .d) (l .b) (l .n) (l .vectors) ≡ marks)
-Holds (made l marks) = formerMarks (l .d) (l .b) (l .n) (l .vectors) ≡ marks
+Holds (made-formerly l marks) = formerMarks (l .d) (l .b) (l .n) (l .vectors) ≡ marks
 Holds (finds l query k entries reads) =
     (first (searchCauses l (fullQuery l query) k (roomOf k (l .n))) ≡ Accepted)
     × (searched l (fullQuery l query) k ≡ record { best = entries; reads = reads })
@@ -117,7 +117,7 @@ table =
     ∷ codes libraryP12
     -- P10: "-32768 2 4 13 32768 and -32768 3 32768", and before Slip 2 "1 2 4 13 19 and 1 3 11"
     ∷ makes libraryA (negsuc 32767 ∷ pos 2 ∷ pos 4 ∷ pos 13 ∷ pos 32768 ∷ negsuc 32767 ∷ pos 3 ∷ pos 32768 ∷ [])
-    ∷ made libraryA (pos 1 ∷ pos 2 ∷ pos 4 ∷ pos 13 ∷ pos 19 ∷ pos 1 ∷ pos 3 ∷ pos 11 ∷ [])
+    ∷ made-formerly libraryA (pos 1 ∷ pos 2 ∷ pos 4 ∷ pos 13 ∷ pos 19 ∷ pos 1 ∷ pos 3 ∷ pos 11 ∷ [])
     -- P11
     ∷ finds libraryA (pos 12 ∷ pos 6 ∷ []) 1 (at 1 3 ∷ []) (3 ∷ [])
     ∷ finds libraryA (pos 12 ∷ pos 6 ∷ []) 2 (at 1 3 ∷ at 61 4 ∷ []) (3 ∷ 2 ∷ 4 ∷ [])

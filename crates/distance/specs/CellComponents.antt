@@ -1,7 +1,7 @@
 -- Marks in range leave only components between them: the vectors of a cell are vectors of components. Assumes nothing.
 use mathlib.Core.Path.{_≡_, refl, sym, _∙_}
 use mathlib.Core.Bool.{true, and-eq-true-iff}
-use mathlib.Core.List.{List, [], _∷_}
+use mathlib.Core.List.{List}
 use Prim.Native.Nat.{ℕ, zero, suc, _<_}
 use native.Mathlib.Omega.{arith}
 use lib.Dec.{leb·suc-suc}
@@ -10,7 +10,7 @@ use lib.Signed.{leZ}
 use lib.ListN.{length, getD}
 use Rattle.limits.specs.Limits.{isComponent, isMark, greatestComponent, leastMark, greatestMark}
 use Rattle.signed.specs.Components.{areComponents, all-components}
-use Rattle.region.specs.Dimension.{notAbove, goodDimension}
+use Rattle.region.specs.Regions.{mark-in-range}
 use Rattle.partition.specs.Marks.{dimensionMarks, goodMarks, good-marks-each}
 use Rattle.codes.specs.Codes.{codeRegion}
 use Rattle.cells.specs.Cells.{InCell}
@@ -35,15 +35,9 @@ inside-component {low} {v} {high} lows highs inside =
       leZ-trans v (predℤ high) greatestComponent (sym (lt-pred v high) ∙ inside .below) (last-component high greatest),
     )
 
-mark-at : (ms : List ℤ) (r : ℕ) → goodDimension ms ≡ true → isMark (getD ms r (pos 0)) ≡ true
-unfolding goodDimension
-mark-at [] r h = refl
-mark-at (m ∷ ms) zero h = and-eq-true-iff (isMark m) _ .0 h .0
-mark-at (m ∷ ms) (suc r) h = mark-at ms r (and-eq-true-iff (notAbove m ms) (goodDimension ms) .0 (and-eq-true-iff (isMark m) _ .0 h .1) .1)
-
 module _ (d b : ℕ) (marks : List ℤ) (good : goodMarks d b marks ≡ true) where
   pub good-mark : (t r : ℕ) → t < d → isMark (getD (dimensionMarks d b marks (suc t)) r (pos 0)) ≡ true
-  good-mark t r h = mark-at (dimensionMarks d b marks (suc t)) r (good-marks-each d b marks t h good)
+  good-mark t r h = mark-in-range (dimensionMarks d b marks (suc t)) r (good-marks-each d b marks t h good)
 
   pub cell-components : (codes : List ℕ) (i : ℕ) {vector : List ℤ} → InCell d b marks codes i vector → areComponents vector ≡ true
   cell-components codes i {vector} cell = all-components vector one

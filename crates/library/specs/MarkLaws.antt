@@ -1,7 +1,7 @@
 -- The marks of a buffer by their numbers: those of a dimension stand behind those of the dimensions before it. Assumes nothing.
 use mathlib.Core.Path.{_≡_, refl, ap, _∙_}
 use mathlib.Core.Bool.{true, false, not, _&&_}
-use mathlib.Core.List.{List, [], _∷_}
+use mathlib.Core.List.{List}
 use Prim.Native.Nat.{ℕ, zero, suc, _+_, _-_, _^_, _≤_, _<_}
 use native.Mathlib.Nat.{add-zero}
 use native.Mathlib.Decide.{decLt}
@@ -14,19 +14,10 @@ use Rattle.limits.specs.Tests.{ltZ-not}
 use Rattle.layout.specs.Layout.{bitsOf, markCount, firstMarks}
 use Rattle.region.specs.Dimension.{goodDimension}
 use Rattle.region.specs.Region.{inMarks}
-use Rattle.region.specs.Regions.{good-first, marks-rise, last-mark}
+use Rattle.region.specs.Regions.{mark-in-range, marks-rise, last-mark}
 use Rattle.partition.specs.Marks.{dimensionMarks, goodFirst, goodMarks, good-marks-each}
 use Rattle.partition.specs.Parts.{part-at, part-length}
 use Rattle.library.specs.Each.{every}
-
--- ---- one dimension
-
-mark-in-range : (marks : List ℤ) → goodDimension marks ≡ true → (i : ℕ) → i < length marks → isMark (getD marks i (pos 0)) ≡ true
-mark-in-range [] good i h = absurd (omega arith)
-mark-in-range (m ∷ ms) good zero h = good-first m ms good .in-range
-mark-in-range (m ∷ ms) good (suc i) h = mark-in-range ms (good-first m ms good .rest) i (omega arith)
-
--- ---- all dimensions
 
 -- mark p is number i of dimension t + 1, both from 0
 pub record Numbered (d b n p : ℕ) : Type 0 where
@@ -76,7 +67,7 @@ module _ (d b : ℕ) (marks : List ℤ) (whole : length marks ≡ firstMarks d b
 
     pub good-range : (i : ℕ) → i < markCount d b (suc t) → isMark (getD marks (firstMarks d b t + i) (pos 0)) ≡ true
     good-range i h =
-        rw (part-at d b marks t i (pos 0) h) at (mark-in-range (dimensionMarks d b marks (suc t)) good-part i (omega (arith, size)))
+        rw (part-at d b marks t i (pos 0) h) at (mark-in-range (dimensionMarks d b marks (suc t)) i good-part)
 
     pub good-rise : (i : ℕ) → suc i < markCount d b (suc t)
         → ltZ (getD marks (firstMarks d b t + suc i) (pos 0)) (getD marks (firstMarks d b t + i) (pos 0)) ≡ false

@@ -32,40 +32,40 @@ at-end o c marks X start count = rw (drop-at marks X o start) (take-all c X (ome
 -- ---- between any outer marks
 
 module _ (outer : ℕ → Outer) (d b n : ℕ) (vectors : List ℤ) where
-  -- dimension t + 1's marks, and those of the first t
-  abbrev own : ℕ → List ℤ
-  own t = marksBetween (outer t) n (bitsOf d b (suc t)) (inOrder (column d n vectors t))
+  -- dimension t + 1's marks, and those of the first t dimensions
+  abbrev part : ℕ → List ℤ
+  part t = marksBetween (outer t) n (bitsOf d b (suc t)) (inOrder (column d n vectors t))
 
-  abbrev first : ℕ → List ℤ
-  first t = firstBetween outer d b n vectors t
+  abbrev marks : ℕ → List ℤ
+  marks t = firstBetween outer d b n vectors t
 
-  first-length : (t : ℕ) → length (first t) ≡ firstMarks d b t
+  first-length : (t : ℕ) → length (marks t) ≡ firstMarks d b t
   unfolding firstBetween firstMarks
   first-length zero = refl
   first-length (suc t) =
-      length-append (first t) (own t)
+      length-append (marks t) (part t)
       ∙ ap₂ _+_ (first-length t) (between-length (outer t) n (bitsOf d b (suc t)) (inOrder (column d n vectors t)))
 
-  pub between-count : length (first d) ≡ firstMarks d b d
+  pub between-count : length (marks d) ≡ firstMarks d b d
   between-count = first-length d
 
   -- the last dimension's part of the first, and an earlier one's
-  last-part : (m : ℕ) → dimensionMarks d b (first (suc m)) (suc m) ≡ own m
+  last-part : (m : ℕ) → dimensionMarks d b (marks (suc m)) (suc m) ≡ part m
   unfolding firstBetween dimensionMarks
   last-part m =
       let offset : suc m - 1 ≡ m = omega arith in
       rw offset
-      (at-end (firstMarks d b m) (markCount d b (suc m)) (first m) (own m) (first-length m)
+      (at-end (firstMarks d b m) (markCount d b (suc m)) (marks m) (part m) (first-length m)
       (between-length (outer m) n (bitsOf d b (suc m)) (inOrder (column d n vectors m))))
 
-  earlier-part : (m t : ℕ) → t < m → dimensionMarks d b (first (suc m)) (suc t) ≡ dimensionMarks d b (first m) (suc t)
+  earlier-part : (m t : ℕ) → t < m → dimensionMarks d b (marks (suc m)) (suc t) ≡ dimensionMarks d b (marks m) (suc t)
   unfolding firstBetween dimensionMarks firstMarks
   earlier-part m t below =
       let offset : suc t - 1 ≡ t = omega arith in
       rw offset
-      (before (firstMarks d b t) (markCount d b (suc t)) (first m) (own m) (rw (first-length m) (marks-within d b m t below)))
+      (before (firstMarks d b t) (markCount d b (suc t)) (marks m) (part m) (rw (first-length m) (marks-within d b m t below)))
 
-  part-of-first : (m t : ℕ) → t < m → dimensionMarks d b (first m) (suc t) ≡ own t
+  part-of-first : (m t : ℕ) → t < m → dimensionMarks d b (marks m) (suc t) ≡ part t
   part-of-first zero t below = absurd (omega arith)
   part-of-first (suc m) t below =
       elim (eq-or-lt-of-le (le-of-suc-le-suc below)) [
@@ -74,15 +74,15 @@ module _ (outer : ℕ → Outer) (d b n : ℕ) (vectors : List ℤ) where
       ]
 
   -- a dimension's part of the marks is its own marks
-  pub between-part : (t : ℕ) → t < d → dimensionMarks d b (first d) (suc t) ≡ own t
+  pub between-part : (t : ℕ) → t < d → dimensionMarks d b (marks d) (suc t) ≡ part t
   between-part = part-of-first d
 
   -- the marks pass the marks test if each dimension's do
-  pub between-passes : ((t : ℕ) → goodDimension (own t) ≡ true) → goodMarks d b (first d) ≡ true
+  pub between-passes : ((t : ℕ) → goodDimension (part t) ≡ true) → goodMarks d b (marks d) ≡ true
   unfolding goodFirst
   between-passes good = go d (omega arith)
     where
-      go : (m : ℕ) → m ≤ d → goodFirst d b (first d) m ≡ true
+      go : (m : ℕ) → m ≤ d → goodFirst d b (marks d) m ≡ true
       go zero within = refl
       go (suc m) within = rw (go m (omega arith), between-part m within) (good m)
 

@@ -84,6 +84,12 @@ good-first m ms good = go (isMark m) (notAbove m ms) refl refl good
     go true false e f good = absurd (true≢false (sym good))
     go false t e f good = absurd (true≢false (sym good))
 
+-- Each of good marks is in range, and what is read past the last, 0, is too.
+pub mark-in-range : (marks : List ℤ) (i : ℕ) → goodDimension marks ≡ true → isMark (getD marks i (pos 0)) ≡ true
+mark-in-range [] i good = refl
+mark-in-range (m ∷ ms) zero good = good-first m ms good .in-range
+mark-in-range (m ∷ ms) (suc i) good = mark-in-range ms i (good-first m ms good .rest)
+
 -- No mark is below an earlier one.
 pub marks-rise : (marks : List ℤ) → goodDimension marks ≡ true → (i j : ℕ) → i ≤ j → j < length marks
     → leZ (getD marks i (pos 0)) (getD marks j (pos 0)) ≡ true

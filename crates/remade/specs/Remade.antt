@@ -29,7 +29,9 @@ use Rattle.cells.specs.CellLaws.{vector-component}
 use Rattle.approximation.specs.Vectors.{vectorsInside, vectorCodes}
 use Rattle.approximation.specs.VectorCauses.{packVectorsCauses}
 use Rattle.approximation.specs.OwnCodes.{inside-from, own-good, own-packed}
+use Rattle.entries.specs.declared.Entry.{Entry}
 use Rattle.search.specs.Search.{Index, Query, Room, searched, searchCauses}
+use Rattle.search.specs.Answer.{searchEntries}
 use Rattle.search.specs.Settled.{OwnCodes}
 use Rattle.search.specs.Theorems.{search-is-scan, own-reads}
 use Rattle.marking.specs.Made.{Outer, column, inOrder, markAt, marksBetween, scaleEnds, madeMarks}
@@ -196,3 +198,9 @@ module _ {l : Index} (old : FormerLibrary l) where
     where
       former-good : goodMarks (l .d) (l .b) (l .marks) ≡ true
       former-good = rw (old .marks) (former-passes (l .d) (l .b) (l .n) (l .vectors) (facts .count .above) (facts .components))
+
+  -- So the entries that a search leaves are the old ones, whether it is refused or not.
+  pub remade-entries : (query : Query) (k : ℕ) (room : Room) (lent : List Entry)
+      → searchEntries (first (searchCauses (remade l) query k room)) (remade l) query k lent
+      ≡ searchEntries (first (searchCauses l query k room)) l query k lent
+  remade-entries query k room lent = rw (remade-verdict query k room, remade-neighbours query k)
