@@ -1,9 +1,9 @@
 -- Laws of numbers as lists of bits. Assumes nothing.
 use mathlib.Core.Path.{_≡_, refl, sym, ap, _∙_}
 use mathlib.Core.Bool.{Bool, true, false, _&&_, and-eq-true-iff}
-use mathlib.Core.List.{List, [], _∷_, _++_, append-assoc}
+use mathlib.Core.List.{List, [], _∷_, _++_, append-assoc, append-nil}
 use Prim.Native.Nat.{ℕ, zero, suc, _+_, _-_, _*_, _/_, _%_, _^_, _≤_, _<_, zero-le}
-use native.Mathlib.Nat.{suc-add, add-comm, zero-add, sub-zero, suc-sub-suc, suc-mul, zero-mul, zero-div, mul-assoc, mul-comm}
+use native.Mathlib.Nat.{suc-add, add-comm, zero-add, sub-zero, suc-sub-suc, suc-mul, zero-mul, zero-div, mul-assoc, mul-comm, add-zero}
 use native.Mathlib.Nat.{mul-le-mul-right, mul-add-div-right, mul-add-mod-self-right, mod-lt, mod-eq-of-lt, pow-suc, pow-succ'}
 use native.Mathlib.Nat.{le-of-suc-le-suc}
 use native.Mathlib.Numerals.{one-add}
@@ -237,6 +237,45 @@ pub binary-bytes : (bytes : List ℕ) → Binary (byteBits bytes)
 unfolding byteBits
 binary-bytes [] = none
 binary-bytes (x ∷ bytes) = binary-append (binary-low 8 x) (binary-bytes bytes)
+
+-- the bits behind those of the first bytes are those of the other bytes
+pub drop-bytes : (q : ℕ) (bytes : List ℕ) → drop (q * 8) (byteBits bytes) ≡ byteBits (drop q bytes)
+unfolding byteBits
+drop-bytes zero bytes = refl
+drop-bytes (suc q) [] = drop-nil (suc q * 8)
+drop-bytes (suc q) (x ∷ bytes) =
+    rw (
+      suc-mul q 8,
+      add-comm (q * 8) 8,
+      ← drop-drop (q * 8) 8 (lowBits 8 x ++ byteBits bytes),
+      drop-at (lowBits 8 x) (byteBits bytes) 8 (length-low 8 x),
+    )
+    (drop-bytes q bytes)
+
+-- the bits of the first two bytes, as those of one number, in front of the rest
+two-bytes : (bytes : List ℕ) → Bytes bytes
+    → Same (byteBits bytes) (lowBits 16 (getD bytes 0 0 * 256 + getD bytes 1 0) ++ byteBits (drop 2 bytes))
+unfolding byteBits
+two-bytes [] small = rw append-nil (same-zeros 16 [])
+two-bytes (x ∷ []) small = rw (append-nil (lowBits 8 x), append-nil, ← low-join 8 8 x 0 (small 1)) (same-zeros 8 (lowBits 8 x))
+two-bytes (x ∷ y ∷ bytes) small = rw (← append-assoc, low-join 8 8 x y (small 1)) (λ i. refl)
+
+in-two : (bytes : List ℕ) → Bytes bytes → (r w : ℕ) → r < 8 → w ≤ 8
+    → fromBits w (drop r (byteBits bytes)) ≡ (getD bytes 0 0 * 256 + getD bytes 1 0) / 2 ^ (16 - r - w) % 2 ^ w
+in-two bytes small r w place few =
+    let two = getD bytes 0 0 * 256 + getD bytes 1 0 in
+    let all : r + (w + (16 - r - w)) ≡ 16 = omega arith in
+    let wide = lowBits 16 two ++ byteBits (drop 2 bytes) in
+    from-same w (drop r (byteBits bytes)) (drop r wide) (same-drop r (byteBits bytes) wide (two-bytes bytes small))
+    ∙ rw all at (from-field r w (16 - r - w) two (byteBits (drop 2 bytes)))
+
+-- w bits from bit r of byte i on stand in that byte and the next
+pub bits-in-two : (bytes : List ℕ) → Bytes bytes → (i r w : ℕ) → r < 8 → w ≤ 8
+    → fromBits w (drop (i * 8 + r) (byteBits bytes)) ≡ (getD bytes i 0 * 256 + getD bytes (i + 1) 0) / 2 ^ (16 - r - w) % 2 ^ w
+bits-in-two bytes small i r w place few =
+    let rest : Bytes (drop i bytes) = λ j. rw (getD-drop i bytes j 0) (small (i + j)) in
+    rw (← drop-drop r (i * 8) (byteBits bytes), drop-bytes i bytes)
+    (rw (getD-drop i bytes 0 0, getD-drop i bytes 1 0, add-zero i) at (in-two (drop i bytes) rest r w place few))
 
 -- up to 8 bits are read as they stand, and make a byte
 pub bits-at : (bytes : List ℕ) (from w : ℕ) → w ≤ 8 → bitsAt bytes from w ≡ fromBits w (drop from (byteBits bytes))
