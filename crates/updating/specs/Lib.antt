@@ -1,0 +1,4 @@
+pub mod Updated
+pub mod UpdateCauses
+pub mod Accepted
+pub mod CodeMoves
