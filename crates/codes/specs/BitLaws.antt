@@ -11,7 +11,7 @@ use native.Mathlib.Omega.{arith}
 use borrow.Author.Tests.{eqb-true, eqb-false, le-leb, ne-eqb}
 use lib.Arith.{digits-lt}
 use lib.Dec.{eqb}
-use lib.ListN.{length, getD, drop, replicate, length-append}
+use lib.ListN.{length, getD, take, drop, replicate, length-append}
 use lib.Seq.{drop-at, drop-nil, getD-drop, drop-drop}
 use lib.Pow.{pow-pos, pow-mono, shr-shr, high, mod-pow-add, split}
 use Rattle.codes.specs.Bits.{lowBits, fromBits, bytesOf, byteBits, bitsAt, allZero}
@@ -180,6 +180,18 @@ padded-same zero bits zeros i = zero-at bits zeros i
 padded-same (suc w) bits zeros zero = refl
 padded-same (suc w) [] zeros (suc i) = padded-same w [] (rw drop-nil zeros) i
 padded-same (suc w) (x ∷ bits) zeros (suc i) = padded-same w bits zeros i
+
+-- nor is it where the bits are cut there
+pub take-same : (w : ℕ) (bits : List ℕ) → allZero (drop w bits) ≡ true → Same (take w bits) bits
+take-same zero bits zeros i = zero-at bits zeros i
+take-same (suc w) [] zeros i = refl
+take-same (suc w) (x ∷ bits) zeros zero = refl
+take-same (suc w) (x ∷ bits) zeros (suc i) = take-same w bits zeros i
+
+pub same-behind : (front one other : List ℕ) → Same one other → Same (front ++ one) (front ++ other)
+same-behind [] one other same i = same i
+same-behind (x ∷ front) one other same zero = refl
+same-behind (x ∷ front) one other same (suc i) = same-behind front one other same i
 
 pub low-from : (w : ℕ) {bits : List ℕ} → Binary bits → lowBits w (fromBits w bits) ≡ padded w bits
 unfolding lowBits fromBits padded

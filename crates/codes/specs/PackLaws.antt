@@ -9,15 +9,15 @@ use native.Mathlib.Omega.{arith}
 use borrow.Author.Tests.{ltb-true, lt-ltb, eqb-true, eqb-false}
 use lib.Arith.{digits-lt, digits-div, digits-mod}
 use lib.Dec.{eqb, lit≤}
-use lib.ListN.{length, getD, drop, replicate, length-append, length-drop}
+use lib.ListN.{length, getD, drop, replicate, length-append, length-drop, drop-of-length-le}
 use lib.Seq.{drop-at, drop-drop}
 use Rattle.layout.specs.Layout.{bitsOf, regionCount, firstBits}
 use Rattle.layout.specs.Laws.{all-bits}
 use Rattle.layout.specs.Runs.{Run, run-bits}
-use Rattle.codes.specs.Bits.{lowBits, fromBits, byteBits, bitsAt}
+use Rattle.codes.specs.Bits.{lowBits, fromBits, byteBits, bitsAt, allZero}
 use Rattle.codes.specs.BitLaws.{Binary, none, binary-drop, binary-append, binary-low, binary-bytes, Bytes, padded, length-low}
 use Rattle.codes.specs.BitLaws.{length-bytes, length-byte-bits, low-from, from-low, from-lt, from-zero, padded-add, padded-long}
-use Rattle.codes.specs.BitLaws.{padded-same, zeros, bytes-same, bytes-of, bits-bytes, bytes-bits, bits-at}
+use Rattle.codes.specs.BitLaws.{padded-same, zeros, bytes-same, bytes-of, bits-bytes, bytes-bits, bits-at, Same}
 use Rattle.codes.specs.Codes.{nextColumn, joined, regionsFit, codeLength, packed, split, unpacked, codeRegion, spareZero}
 
 -- ---- region numbers joined, and split again
@@ -189,6 +189,15 @@ module _ (d b n : ℕ) (some : 0 < d) where
       let room : n * b ≤ codeLength b n * 8 = omega arith in
       bits-bytes (codeLength b n) (binary-joined d b 0 regions)
       ∙ rw bits at (padded-long (codeLength b n * 8) (joined d b 0 regions) (rw bits room))
+
+  -- with zeros behind them they are those of the numbers alone
+  pub packed-same : (regions : List ℕ) → length regions ≡ n * d → Same (byteBits (packed d b n regions)) (joined d b 0 regions)
+  unfolding packed allZero
+  packed-same regions rows =
+      let bits = length-joined d b some n regions rows in
+      let none : drop (codeLength b n * 8) (joined d b 0 regions) ≡ [] =
+      drop-of-length-le (joined d b 0 regions) {i = codeLength b n * 8} (omega (arith, bits)) in
+      rw (bits-bytes (codeLength b n) (binary-joined d b 0 regions)) (padded-same (codeLength b n * 8) (joined d b 0 regions) (rw none refl))
 
   -- no spare bit is set
   pub packed-spare : (regions : List ℕ) → length regions ≡ n * d → spareZero b n (packed d b n regions) ≡ true

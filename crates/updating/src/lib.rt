@@ -15,9 +15,10 @@ use refusal::Verdict;
 use signed::components::are_components;
 use splicing::splice;
 ghost use mathlib.Core.Path.{_≡_};
-ghost use mathlib.Core.Bool.{true};
+ghost use mathlib.Core.Bool.{true, _&&_};
 ghost use mathlib.Core.List.{[]};
 ghost use Prim.Native.Nat.{suc, _≤_, _<_};
+ghost use lib.Dec.{ltb};
 ghost use lib.ListN.{length};
 ghost use Rattle.refusal.specs.declared.Verdict.the-variants.{Accepted};
 ghost use Rattle.refusal.specs.First.{first, outcome};
@@ -143,7 +144,10 @@ fn check_add(
     let own = Lengths { vectors: vectors.len(), settings: settings.len(), codes: codes.len() };
     match check_library(d, b, n, marks.len(), own) {
         Verdict::Accepted => {
-            if !(vector.len() == d && are_exact(d, b, n + 1, room)) {
+            if vector.len() != d {
+                return Verdict::Refused(Refusal::Length);
+            }
+            if !are_exact(d, b, n + 1, room.vectors, room.settings, room.codes) {
                 return Verdict::Refused(Refusal::Length);
             }
             if n == MAX_VECTORS {
@@ -173,10 +177,10 @@ fn check_remove(
     let own = Lengths { vectors: vectors.len(), settings: settings.len(), codes: codes.len() };
     match check_library(d, b, n, marks.len(), own) {
         Verdict::Accepted => {
-            if !are_exact(d, b, n - 1, room) {
+            if !are_exact(d, b, n - 1, room.vectors, room.settings, room.codes) {
                 return Verdict::Refused(Refusal::Length);
             }
-            if !(terms.number < n && 1 < n) {
+            if !is_removable(n, terms.number) {
                 return Verdict::Refused(Refusal::NotRemovable);
             }
             check_contents(d, b, n, marks, codes, vectors, &vectors[..0])
@@ -194,7 +198,10 @@ fn check_library(d: usize, b: usize, n: usize, marks: usize, own: Lengths) -> Ve
             if !limits::is_vector_count(n) {
                 return Verdict::Refused(Refusal::Count);
             }
-            if !(marks == layout::marks_length(d, b) && are_exact(d, b, n, own)) {
+            if marks != layout::marks_length(d, b) {
+                return Verdict::Refused(Refusal::Length);
+            }
+            if !are_exact(d, b, n, own.vectors, own.settings, own.codes) {
                 return Verdict::Refused(Refusal::Length);
             }
             Verdict::Accepted
@@ -204,11 +211,24 @@ fn check_library(d: usize, b: usize, n: usize, marks: usize, own: Lengths) -> Ve
 }
 
 // Whether buffers for vectors, settings and codes have the lengths of n vectors.
-fn are_exact(d: usize, b: usize, n: usize, lengths: Lengths) -> bool
+fn are_exact(d: usize, b: usize, n: usize, vectors: usize, settings: usize, codes: usize) -> bool
     requires { ⌜ (Shape d b) × (n ≤ suc maxVectors) ⌝ }
-    ensures { λ r. ⌜ r ≡ exactFor d b n lengths ⌝ }
+    ensures { λ r. ⌜ r ≡ exactFor d b n (lengthsWith vectors settings codes) ⌝ }
 {
-    lengths.vectors == n * d && lengths.settings == n && lengths.codes == (n * b + 7) / 8
+    if vectors != n * d {
+        return false;
+    }
+    if settings != n {
+        return false;
+    }
+    codes == (n * b + 7) / 8
+}
+
+// Whether a number is that of one of n vectors, and not of the only one.
+fn is_removable(n: usize, number: usize) -> bool
+    ensures { λ r. ⌜ r ≡ ltb number n && ltb 1 n ⌝ }
+{
+    number < n && 1 < n
 }
 
 // Whether the library's components, and some more, are in range, its marks good, all components inside the marks, and its codes good.
