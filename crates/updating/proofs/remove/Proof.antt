@@ -94,8 +94,8 @@ remove-spec =
     settings-requires
     code-requires
     (λ c. search needs)
-    (λ c. c .before .before .before .before .before .before .before .before .before .cut-components .kept .1 .1 .0)
+    (λ c. c .before .before .before .before .before .before .before .before .before .cut-components .kept .1 .1 .1 .0)
     (λ c. c .before .before .before .before .before .before .cut-settings .kept .1 .1 .0)
-    (λ c. c .before .before .cut-code .kept .1 .1 .1 .1 .0)
+    (λ c. c .before .before .cut-code .kept .1 .1 .0)
     returns
     returns-2)
