@@ -1,1 +1,2 @@
 pub mod ListRows
+pub mod CodeRows
