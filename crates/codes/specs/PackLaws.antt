@@ -196,7 +196,7 @@ spare-read b n codes long =
 
 module _ (d b n : ℕ) (some : 0 < d) where
   -- the bits of the bytes are those of the numbers, and then zeros
-  pub packed-bits : (regions : List ℕ) → length regions ≡ n * d
+  packed-bits : (regions : List ℕ) → length regions ≡ n * d
       → byteBits (packed d b n regions) ≡ joined d b 0 regions ++ replicate (codeLength b n * 8 - n * b) 0
   unfolding packed
   packed-bits regions rows =
