@@ -1,3 +1,4 @@
 pub mod ListRows
 pub mod CodeRows
 pub mod Fresh
+pub mod OuterMarks
