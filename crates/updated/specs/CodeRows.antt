@@ -177,6 +177,14 @@ module _ (b n : ℕ) (codes : List ℕ) (full : length codes ≡ codeLength b n)
   unfolding removedCodes
   removed-bits = codes-bits b (n - 1) fewer-binary fewer-length
 
+  pub removed-length : length fewer ≡ codeLength b (n - 1)
+  unfolding removedCodes
+  removed-length = length-bytes (codeLength b (n - 1)) (without b i (codeBits b n codes))
+
+  pub removed-bytes : Bytes fewer
+  unfolding removedCodes
+  removed-bytes = bytes-of (codeLength b (n - 1)) fewer-binary
+
   there : suc i * b ≤ length (codeBits b n codes)
   there = rw (bits-length b n codes full) (mul-le-mul-right b stored)
 

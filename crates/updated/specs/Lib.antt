@@ -2,3 +2,4 @@ pub mod ListRows
 pub mod CodeRows
 pub mod Fresh
 pub mod OuterMarks
+pub mod Updates

@@ -1,0 +1,255 @@
+-- What adding and removing promise (document 02, Slip 3). The statements can be read without the proofs; the laws behind them are in the
+-- other files of this folder. Assumes nothing.
+use mathlib.Core.Path.{_≡_, refl, sym, ap, _∙_}
+use mathlib.Core.Bool.{true, and-eq-true-iff}
+use mathlib.Core.List.{List, [], _∷_, _++_}
+use Prim.Native.Nat.{ℕ, suc, _+_, _-_, _*_, _≤_, _<_}
+use native.Mathlib.Nat.{mul-one, suc-mul, mul-le-mul-right}
+use native.Mathlib.Omega.{arith}
+use borrow.Author.Tests.{le-leb}
+use lib.IntN.{ℤ}
+use lib.ListN.{length, length-append}
+use lib.Seq.{take-all, drop-at}
+use Rattle.refusal.specs.declared.Refusal.the-variants.{Outside}
+use Rattle.refusal.specs.declared.Verdict.the-variants.{Accepted, Refused}
+use Rattle.refusal.specs.First.{Row, first}
+use Rattle.limits.specs.Limits.{maxVectors, isVectorCount}
+use Rattle.limits.specs.Tests.{between}
+use Rattle.signed.specs.Components.{areComponents}
+use Rattle.layout.specs.Stretch.{shape}
+use Rattle.codes.specs.BitLaws.{Bytes}
+use Rattle.codes.specs.Codes.{codeLength, codeRegion}
+use Rattle.cells.specs.Cells.{vectorAt, noEmptyCodes, Own}
+use Rattle.approximation.specs.Vectors.{insideFrom, vectorsInside, vectorCodes}
+use Rattle.approximation.specs.VectorCauses.{packVectorsCauses}
+use Rattle.approximation.specs.OwnCodes.{own-codes, own-packed}
+use Rattle.marking.specs.Made.{madeMarks}
+use Rattle.updating.specs.declared.Lengths.{Lengths}
+use Rattle.updating.specs.Updated.{CodedLibrary, codeBits, added, without, removed, removedCodes}
+use Rattle.updating.specs.UpdateCauses.{lengthsOf, addCauses, removeCauses}
+use Rattle.updating.specs.Accepted.{Addable, addable, Removable, removable}
+use Rattle.updated.specs.ListRows.{row-front, without-before, without-behind, length-without, without-last, test-without}
+use Rattle.updated.specs.CodeRows.{codeAt, region-same, added-spare, added-length, added-bytes, earlier-bits, earlier-code, taken-back}
+use Rattle.updated.specs.CodeRows.{code-before, code-behind, removed-length, removed-bytes}
+use Rattle.updated.specs.Fresh.{components-rowwise, inside-rowwise, added-packed, removed-packed, packs, removes, added-not-empty}
+use Rattle.updated.specs.OuterMarks.{EndsOfScale, made-ends, never-outside}
+
+-- the region that code i of a library names for dimension t + 1
+abbrev pub regionIn : CodedLibrary → ℕ → ℕ → ℕ
+regionIn l i t = codeRegion (l .d) (l .b) (l .codes) i t
+
+-- "the codes were the patterns' own"; a code is bytes
+pub record OwnLibrary (l : CodedLibrary) : Type 0 where
+  pub bytes : Bytes (l .codes)
+  pub own : Own (l .d) (l .b) (l .n) (l .marks) (l .codes) (l .vectors)
+
+-- the codes "that packing afresh would give", and the causes for which it would be refused
+abbrev pub freshCodes : CodedLibrary → List ℕ
+freshCodes l = vectorCodes (l .d) (l .b) (l .n) (l .marks) (l .vectors)
+
+abbrev pub freshCauses : CodedLibrary → List Row
+freshCauses l = packVectorsCauses (l .d) (l .b) (l .n) (l .vectors) (l .marks) (length (l .codes))
+
+-- ---- an addition that is not refused
+
+module _ (l : CodedLibrary) (vector : List ℤ) (room : Lengths) (accepted : first (addCauses l vector room) ≡ Accepted) (setting : ℕ) where
+  facts : Addable l vector room
+  facts = addable l vector room accepted
+
+  some : 0 < l .d
+  some = shape (l .d) (l .b) (facts .library .shaped) .some
+
+  abbrev new : CodedLibrary
+  new = added l vector setting
+
+  -- 1. "Adding puts the new pattern last ..
+  pub adding-puts-last : vectorAt (l .d) (new .vectors) (l .n) ≡ vector
+  adding-puts-last =
+      rw (drop-at (l .vectors) vector (l .n * l .d) (facts .library .exact .of-vectors))
+      (take-all (l .d) vector (omega (arith, facts .size)))
+
+  pub adding-keeps-vectors : (i : ℕ) → i < l .n → vectorAt (l .d) (new .vectors) i ≡ vectorAt (l .d) (l .vectors) i
+  adding-keeps-vectors = row-front (l .d) (l .n) (l .vectors) vector (facts .library .exact .of-vectors)
+
+  -- .. and changes no earlier code": bit for bit, and region by region.
+  pub adding-keeps-bits : codeBits (l .b) (l .n) (new .codes) ≡ codeBits (l .b) (l .n) (l .codes)
+  adding-keeps-bits = earlier-bits (l .d) (l .b) (l .n) some (l .marks) (l .codes) vector (facts .library .exact .of-codes) (facts .size)
+
+  pub adding-keeps-regions : (i t : ℕ) → i < l .n → t < l .d → regionIn new i t ≡ regionIn l i t
+  adding-keeps-regions i t row among =
+      region-same (l .d) (l .b) some (new .codes) (l .codes) i i
+      (earlier-code (l .d) (l .b) (l .n) some (l .marks) (l .codes) vector (facts .library .exact .of-codes) (facts .size) i row) t among
+
+  -- 3. "where the codes were the patterns' own, the library after it has those that packing afresh would give": packing is not refused, ..
+  new-rows : length (new .vectors) ≡ suc (l .n) * l .d
+  new-rows =
+      length-append (l .vectors) vector
+      ∙ rw (facts .library .exact .of-vectors, facts .size) (sym (suc-mul (l .n) (l .d)))
+
+  new-counted : isVectorCount (suc (l .n)) ≡ true
+  new-counted = rw (le-leb 1 (suc (l .n)) (omega arith)) (le-leb (suc (l .n)) maxVectors (facts .not-full))
+
+  new-components : areComponents (new .vectors) ≡ true
+  new-components =
+      components-rowwise (l .d) .joins (l .n) (l .vectors) vector (facts .library .exact .of-vectors)
+      ∙ rw (facts .contents .components) (facts .contents .more-components)
+
+  new-inside : vectorsInside (l .d) (l .b) (l .marks) (new .vectors) ≡ true
+  new-inside =
+      inside-rowwise (l .d) (l .b) some (l .marks) .joins (l .n) (l .vectors) vector (facts .library .exact .of-vectors)
+      ∙ rw (facts .contents .inside) (facts .contents .more-inside)
+
+  new-bytes : length (new .codes) ≡ codeLength (l .b) (suc (l .n))
+  new-bytes = added-length (l .d) (l .b) (l .n) some (l .marks) (l .codes) vector (facts .library .exact .of-codes) (facts .size)
+
+  pub adding-packs : first (freshCauses new) ≡ Accepted
+  adding-packs =
+      packs (l .d) (l .b) (suc (l .n)) (new .vectors) (l .marks) (length (new .codes)) (facts .library .shaped) new-counted new-rows
+      (facts .library .of-marks) new-bytes new-components (facts .contents .good) new-inside
+
+  -- .. gives the codes after the addition, ..
+  pub adding-is-fresh : OwnLibrary l → new .codes ≡ freshCodes new
+  adding-is-fresh is =
+      added-packed (l .d) (l .b) some (l .marks) (l .n) (l .codes) (l .vectors) (facts .library .exact .of-vectors)
+      (own-packed some (facts .library .of-marks) (facts .contents .good) (facts .library .exact .of-vectors) (is .own) (is .bytes)
+      (facts .library .exact .of-codes)) vector
+
+  -- .. and these are the vectors' own.
+  pub adding-keeps-own : OwnLibrary l → OwnLibrary new
+  adding-keeps-own is = record {
+    bytes = added-bytes (l .d) (l .b) (l .n) some (l .marks) (l .codes) vector (facts .library .exact .of-codes) (facts .size);
+    own = rw (adding-is-fresh is) (own-codes (l .d) (l .b) (suc (l .n)) some (l .marks) (new .vectors) new-rows new-inside);
+  }
+
+  -- 4. What is removed after it was added is the old library, ..
+  pub added-removed : Bytes (l .codes) → removed new (l .n) ≡ l
+  added-removed bytes =
+      let one : suc (l .n) - 1 ≡ l .n = omega arith in
+      let spare = and-eq-true-iff (noEmptyCodes (l .d) (l .b) (l .marks) (l .codes) (l .n)) _ .0 (facts .contents .named) .1 in
+      let codes : removedCodes (l .b) (suc (l .n)) (new .codes) (l .n) ≡ l .codes =
+      taken-back (l .d) (l .b) (l .n) some (l .marks) (l .codes) vector (facts .library .exact .of-codes) (facts .size) bytes spare in
+      let settings : without 1 (l .n) (new .settings) ≡ l .settings =
+      without-last 1 (l .n) (l .settings) (setting ∷ []) (facts .library .exact .of-settings ∙ sym (mul-one (l .n))) refl in
+      let vectors : without (l .d) (l .n) (new .vectors) ≡ l .vectors =
+      without-last (l .d) (l .n) (l .vectors) vector (facts .library .exact .of-vectors) (facts .size) in
+      λ i. record {
+        d = l .d;
+        b = l .b;
+        n = one i;
+        marks = l .marks;
+        codes = codes i;
+        settings = settings i;
+        vectors = vectors i;
+      }
+
+  -- .. and this removal is not refused.
+  pub added-removable : first (removeCauses new (l .n) (lengthsOf l)) ≡ Accepted
+  unfolding areComponents insideFrom
+  added-removable =
+      let one : suc (l .n) - 1 ≡ l .n = omega arith in
+      let full = facts .library .exact .of-codes in
+      let counted = between 1 (l .n) maxVectors (facts .library .counted) in
+      let named = and-eq-true-iff (noEmptyCodes (l .d) (l .b) (l .marks) (l .codes) (l .n)) _ .0 (facts .contents .named) .0 in
+      removes new (l .n) (lengthsOf l)
+      (record {
+        shaped = facts .library .shaped;
+        counted = new-counted;
+        of-marks = facts .library .of-marks;
+        exact = record {
+          of-vectors = new-rows;
+          of-settings = length-append (l .settings) (setting ∷ []) ∙ rw (facts .library .exact .of-settings) (omega arith);
+          of-codes = new-bytes;
+        };
+      })
+      (record {
+        components = new-components;
+        more-components = refl;
+        good = facts .contents .good;
+        inside = new-inside;
+        more-inside = refl;
+        named = and-eq-true-iff _ _ .1 (
+          added-not-empty (l .d) (l .b) (l .n) some (l .marks) (l .codes) vector full (facts .size) named (facts .contents .more-inside),
+          added-spare (l .d) (l .b) (l .n) some (l .marks) (l .codes) vector full (facts .size),
+        );
+      })
+      (rw one (facts .library .exact)) (omega arith) (omega (arith, counted .above))
+
+-- ---- a removal that is not refused
+
+module _ (l : CodedLibrary) (i : ℕ) (room : Lengths) (accepted : first (removeCauses l i room) ≡ Accepted) where
+  given : Removable l i room
+  given = removable l i room accepted
+
+  positive : 0 < l .d
+  positive = shape (l .d) (l .b) (given .library .shaped) .some
+
+  abbrev left : CodedLibrary
+  left = removed l i
+
+  whole : suc i * l .d ≤ length (l .vectors)
+  whole = rw (given .library .exact .of-vectors) (mul-le-mul-right (l .d) (given .stored))
+
+  -- 2. "removing moves later patterns, settings and codes down by one", and leaves the earlier ones: vector by vector, ..
+  pub removing-keeps-vectors : (j : ℕ) → j < i → vectorAt (l .d) (left .vectors) j ≡ vectorAt (l .d) (l .vectors) j
+  removing-keeps-vectors = without-before (l .d) (l .vectors) i whole
+
+  pub removing-moves-vectors : (j : ℕ) → i ≤ j → vectorAt (l .d) (left .vectors) j ≡ vectorAt (l .d) (l .vectors) (suc j)
+  removing-moves-vectors = without-behind (l .d) (l .vectors) i whole
+
+  -- .. code by code, bit for bit, ..
+  pub removing-keeps-bits : (j : ℕ) → j < i → codeAt (l .b) (left .codes) j ≡ codeAt (l .b) (l .codes) j
+  removing-keeps-bits = code-before (l .b) (l .n) (l .codes) (given .library .exact .of-codes) i (given .stored)
+
+  pub removing-moves-bits : (j : ℕ) → i ≤ j → j < left .n → codeAt (l .b) (left .codes) j ≡ codeAt (l .b) (l .codes) (suc j)
+  removing-moves-bits = code-behind (l .b) (l .n) (l .codes) (given .library .exact .of-codes) i (given .stored)
+
+  -- .. and region by region.
+  pub removing-keeps-regions : (j t : ℕ) → j < i → t < l .d → regionIn left j t ≡ regionIn l j t
+  removing-keeps-regions j t earlier among =
+      region-same (l .d) (l .b) positive (left .codes) (l .codes) j j (removing-keeps-bits j earlier) t among
+
+  pub removing-moves-regions : (j t : ℕ) → i ≤ j → j < left .n → t < l .d → regionIn left j t ≡ regionIn l (suc j) t
+  removing-moves-regions j t later row among =
+      region-same (l .d) (l .b) positive (left .codes) (l .codes) j (suc j) (removing-moves-bits j later row) t among
+
+  -- 3. "where the codes were the patterns' own, the library after it has those that packing afresh would give": packing is not refused, ..
+  left-rows : length (left .vectors) ≡ (l .n - 1) * l .d
+  left-rows = length-without (l .d) (l .n) (l .vectors) i (given .library .exact .of-vectors) (given .stored)
+
+  left-inside : vectorsInside (l .d) (l .b) (l .marks) (left .vectors) ≡ true
+  left-inside = test-without (inside-rowwise (l .d) (l .b) positive (l .marks)) (l .vectors) i whole (given .contents .inside)
+
+  pub removing-packs : first (freshCauses left) ≡ Accepted
+  removing-packs =
+      let counted = between 1 (l .n) maxVectors (given .library .counted) in
+      packs (l .d) (l .b) (l .n - 1) (left .vectors) (l .marks) (length (left .codes)) (given .library .shaped)
+      (rw (le-leb 1 (l .n - 1) (omega (arith, given .others))) (le-leb (l .n - 1) maxVectors (omega (arith, counted .below))))
+      left-rows (given .library .of-marks) (removed-length (l .b) (l .n) (l .codes) (given .library .exact .of-codes) i (given .stored))
+      (test-without (components-rowwise (l .d)) (l .vectors) i whole (given .contents .components))
+      (given .contents .good) left-inside
+
+  -- .. gives the codes after the removal, ..
+  pub removing-is-fresh : OwnLibrary l → left .codes ≡ freshCodes left
+  removing-is-fresh is =
+      removed-packed (l .d) (l .b) positive (l .marks) (l .n) (l .codes) (l .vectors) (given .library .exact .of-vectors)
+      (own-packed positive (given .library .of-marks) (given .contents .good) (given .library .exact .of-vectors) (is .own) (is .bytes)
+      (given .library .exact .of-codes)) i (given .stored)
+
+  -- .. and these are the vectors' own.
+  pub removing-keeps-own : OwnLibrary l → OwnLibrary left
+  removing-keeps-own is = record {
+    bytes = removed-bytes (l .b) (l .n) (l .codes) (given .library .exact .of-codes) i (given .stored);
+    own = rw (removing-is-fresh is) (own-codes (l .d) (l .b) (l .n - 1) positive (l .marks) (left .vectors) left-rows left-inside);
+  }
+
+-- ---- outer marks at the ends of the scale
+
+-- 5. "8 never occurs in adding to a library whose outer marks are those of Slip 2", whatever the vector, the buffers and the rest of the
+-- library.
+pub adding-never-outside : (l : CodedLibrary) → EndsOfScale (l .d) (l .b) (l .marks) → (vector : List ℤ) (room : Lengths)
+    → ¬ (first (addCauses l vector room) ≡ Refused Outside)
+adding-never-outside = never-outside
+
+-- Marks that are made from any vectors have such outer marks.
+pub made-marks-end : (d b n : ℕ) (vectors : List ℤ) → EndsOfScale d b (madeMarks d b n vectors)
+made-marks-end = made-ends
