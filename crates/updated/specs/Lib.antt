@@ -2,4 +2,5 @@ pub mod ListRows
 pub mod CodeRows
 pub mod Fresh
 pub mod OuterMarks
+pub mod Renumbered
 pub mod Updates
