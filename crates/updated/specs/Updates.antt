@@ -1,14 +1,15 @@
 -- What adding and removing promise (document 02, Slip 3). The statements can be read without the proofs; the laws behind them are in the
 -- other files of this folder. Assumes nothing.
 use mathlib.Core.Path.{_≡_, refl, sym, ap, _∙_}
-use mathlib.Core.Bool.{true, and-eq-true-iff}
+use mathlib.Core.Bool.{Bool, true, false, cond, and-eq-true-iff}
 use mathlib.Core.List.{List, [], _∷_, _++_}
 use Prim.Native.Nat.{ℕ, suc, _+_, _-_, _*_, _≤_, _<_}
 use native.Mathlib.Nat.{mul-one, suc-mul, mul-le-mul-right}
 use native.Mathlib.Omega.{arith}
-use borrow.Author.Tests.{le-leb}
+use borrow.Author.Tests.{le-leb, ltb-true, ltb-false}
+use lib.Dec.{ltb}
 use lib.IntN.{ℤ}
-use lib.ListN.{length, length-append}
+use lib.ListN.{length, take, length-append}
 use lib.Seq.{take-all, drop-at}
 use Rattle.refusal.specs.declared.Refusal.the-variants.{Outside}
 use Rattle.refusal.specs.declared.Verdict.the-variants.{Accepted, Refused}
@@ -16,6 +17,8 @@ use Rattle.refusal.specs.First.{Row, first}
 use Rattle.limits.specs.Limits.{maxVectors, isVectorCount}
 use Rattle.limits.specs.Tests.{between}
 use Rattle.signed.specs.Components.{areComponents}
+use Rattle.order.specs.Pair.{insert}
+use Rattle.order.specs.Counted.{counted}
 use Rattle.layout.specs.Stretch.{shape}
 use Rattle.codes.specs.BitLaws.{Bytes}
 use Rattle.codes.specs.Codes.{codeLength, codeRegion}
@@ -23,6 +26,8 @@ use Rattle.cells.specs.Cells.{vectorAt, noEmptyCodes, Own}
 use Rattle.approximation.specs.Vectors.{insideFrom, vectorsInside, vectorCodes}
 use Rattle.approximation.specs.VectorCauses.{packVectorsCauses}
 use Rattle.approximation.specs.OwnCodes.{own-codes, own-packed}
+use Rattle.search.specs.Search.{Index, Query, distanceFrom, distanceIn, scanned, searched}
+use Rattle.search.specs.Theorems.{search-is-scan}
 use Rattle.marking.specs.Made.{madeMarks}
 use Rattle.updating.specs.declared.Lengths.{Lengths}
 use Rattle.updating.specs.Updated.{CodedLibrary, codeBits, added, without, removed, removedCodes}
@@ -32,6 +37,7 @@ use Rattle.updated.specs.ListRows.{row-front, without-before, without-be
 use Rattle.updated.specs.CodeRows.{codeAt, region-same, added-spare, added-length, added-bytes, earlier-bits, earlier-code, taken-back}
 use Rattle.updated.specs.CodeRows.{code-before, code-behind, removed-length, removed-bytes}
 use Rattle.updated.specs.Fresh.{components-rowwise, inside-rowwise, added-packed, removed-packed, packs, removes, added-not-empty}
+use Rattle.updated.specs.Renumbered.{scan-more, withoutNumber, movedUp, scan-without}
 use Rattle.updated.specs.OuterMarks.{EndsOfScale, made-ends, never-outside}
 
 -- the region that code i of a library names for dimension t + 1
@@ -49,6 +55,10 @@ freshCodes l = vectorCodes (l .d) (l .b) (l .n) (l .marks) (l .vectors)
 
 abbrev pub freshCauses : CodedLibrary → List Row
 freshCauses l = packVectorsCauses (l .d) (l .b) (l .n) (l .vectors) (l .marks) (length (l .codes))
+
+-- what the search and the scan see of a library
+abbrev pub indexOf : CodedLibrary → Index
+indexOf l = record { d = l .d; b = l .b; n = l .n; marks = l .marks; codes = l .codes; vectors = l .vectors }
 
 -- ---- an addition that is not refused
 
@@ -174,6 +184,22 @@ module _ (l : CodedLibrary) (vector : List ℤ) (room : Lengths) (accepted : fir
       })
       (rw one (facts .library .exact)) (omega arith) (omega (arith, counted .above))
 
+  -- 6. A scan of the new library gives what a scan of the old one gives, with the new vector's pair put in, cut to k, ..
+  pub adding-scan : (query : Query) (k : ℕ) → scanned (indexOf new) query k
+      ≡ take k (insert (record { key = distanceFrom (indexOf l) query vector; number = l .n }) (scanned (indexOf l) query k))
+  adding-scan query k =
+      scan-more k (distanceIn (indexOf l) query) (distanceIn (indexOf new) query) (l .n)
+      (λ j m. ap (distanceFrom (indexOf l) query) (adding-keeps-vectors j (omega (arith, counted 0 (l .n) m .below))))
+      ∙ rw adding-puts-last
+
+  -- .. and so does the search, where the codes were the vectors' own.
+  pub adding-search : OwnLibrary l → (query : Query) (k : ℕ) → (searched (indexOf new) query k) .best
+      ≡ take k (insert (record { key = distanceFrom (indexOf l) query vector; number = l .n }) ((searched (indexOf l) query k) .best))
+  adding-search is query k =
+      search-is-scan (indexOf new) query k (adding-keeps-own is .own)
+      ∙ adding-scan query k
+      ∙ rw (search-is-scan (indexOf l) query k (is .own))
+
 -- ---- a removal that is not refused
 
 module _ (l : CodedLibrary) (i : ℕ) (room : Lengths) (accepted : first (removeCauses l i room) ≡ Accepted) where
@@ -241,6 +267,29 @@ module _ (l : CodedLibrary) (i : ℕ) (room : Lengths) (accepted : first (remove
     bytes = removed-bytes (l .b) (l .n) (l .codes) (given .library .exact .of-codes) i (given .stored);
     own = rw (removing-is-fresh is) (own-codes (l .d) (l .b) (l .n - 1) positive (l .marks) (left .vectors) left-rows left-inside);
   }
+
+  -- 6. A scan for k of the library after it gives what a scan for k + 1 of the old one gives, without number i, numbers above i less one,
+  -- cut to k: over all, k is n - 1 and nothing is cut, ..
+  moved-vector : (j : ℕ) → vectorAt (l .d) (left .vectors) j ≡ vectorAt (l .d) (l .vectors) (movedUp i j)
+  moved-vector j = go (ltb j i) refl
+    where
+      go : (t : Bool) → ltb j i ≡ t → vectorAt (l .d) (left .vectors) j ≡ vectorAt (l .d) (l .vectors) (cond t j (suc j))
+      go true e = removing-keeps-vectors j (ltb-true j i e)
+      go false e = removing-moves-vectors j (ltb-false j i e)
+
+  pub removing-scan : (query : Query) (k : ℕ)
+      → scanned (indexOf left) query k ≡ take k (withoutNumber i (scanned (indexOf l) query (suc k)))
+  removing-scan query k =
+      scan-without i (distanceIn (indexOf l) query) (distanceIn (indexOf left) query)
+      (λ j. ap (distanceFrom (indexOf l) query) (moved-vector j)) k (l .n) (given .stored)
+
+  -- .. and so does the search, where the codes were the vectors' own.
+  pub removing-search : OwnLibrary l → (query : Query) (k : ℕ)
+      → (searched (indexOf left) query k) .best ≡ take k (withoutNumber i ((searched (indexOf l) query (suc k)) .best))
+  removing-search is query k =
+      search-is-scan (indexOf left) query k (removing-keeps-own is .own)
+      ∙ removing-scan query k
+      ∙ rw (search-is-scan (indexOf l) query (suc k) (is .own))
 
 -- ---- outer marks at the ends of the scale
 
