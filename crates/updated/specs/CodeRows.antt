@@ -1,8 +1,8 @@
 -- The bits of codes after an addition and after a removal, and the regions that they name. Assumes nothing.
-use mathlib.Core.Path.{_≡_, refl, sym, ap, _∙_}
+use mathlib.Core.Path.{_≡_, sym, ap, _∙_}
 use mathlib.Core.Bool.{true}
 use mathlib.Core.Logic.{inl, inr}
-use mathlib.Core.List.{List, _++_, append-assoc}
+use mathlib.Core.List.{List, _++_}
 use Prim.Native.Nat.{ℕ, zero, suc, _+_, _-_, _*_, _≤_, _<_}
 use native.Mathlib.Nat.{one-mul, suc-mul, mul-le-mul-right, eq-or-lt-of-le, le-of-suc-le-suc}
 use native.Mathlib.Omega.{arith}
@@ -20,7 +20,7 @@ use Rattle.splicing.specs.SpliceLaws.{from-take}
 use Rattle.approximation.specs.Vectors.{vectorRegions}
 use Rattle.approximation.specs.OwnCodes.{length-regions}
 use Rattle.updating.specs.Updated.{codeBits, vectorBits, addedCodes, without, removedCodes}
-use Rattle.updated.specs.ListRows.{rowAt, drop-take, row-take, row-front, without-before, without-behind, length-without, without-last}
+use Rattle.updated.specs.ListRows.{rowAt, drop-take, row-take, without-before, without-behind, length-without, without-last}
 
 -- the bits of code i
 abbrev pub codeAt : ℕ → List ℕ → ℕ → List ℕ
@@ -99,36 +99,36 @@ module _ (d b n : ℕ) (some : 0 < d) (marks : List ℤ) (codes : List ℕ) (vec
   abbrev new : List ℕ
   new = addedCodes d b n marks codes vector
 
-  abbrev all-bits-new : List ℕ
-  all-bits-new = codeBits b n codes ++ vectorBits d b marks vector
+  abbrev more-bits : List ℕ
+  more-bits = codeBits b n codes ++ vectorBits d b marks vector
 
   pub vector-bits-length : length (vectorBits d b marks vector) ≡ b
   vector-bits-length =
       length-joined d b some 1 (vectorRegions d b marks vector) (length-regions d b marks 0 vector ∙ size ∙ sym (one-mul d)) ∙ one-mul b
 
-  new-binary : Binary all-bits-new
-  new-binary = binary-append (binary-take (n * b) (binary-bytes codes)) (binary-joined d b 0 (vectorRegions d b marks vector))
+  more-binary : Binary more-bits
+  more-binary = binary-append (binary-take (n * b) (binary-bytes codes)) (binary-joined d b 0 (vectorRegions d b marks vector))
 
-  new-length : length all-bits-new ≡ suc n * b
-  new-length =
+  more-length : length more-bits ≡ suc n * b
+  more-length =
       length-append (codeBits b n codes) (vectorBits d b marks vector)
       ∙ rw (bits-length b n codes full, vector-bits-length) (sym (suc-mul n b))
 
   pub added-bits : codeBits b (suc n) new ≡ codeBits b n codes ++ vectorBits d b marks vector
   unfolding addedCodes
-  added-bits = codes-bits b (suc n) new-binary new-length
+  added-bits = codes-bits b (suc n) more-binary more-length
 
   pub added-spare : spareZero b (suc n) new ≡ true
   unfolding addedCodes
-  added-spare = codes-spare b (suc n) new-binary new-length
+  added-spare = codes-spare b (suc n) more-binary more-length
 
   pub added-length : length new ≡ codeLength b (suc n)
   unfolding addedCodes
-  added-length = length-bytes (codeLength b (suc n)) all-bits-new
+  added-length = length-bytes (codeLength b (suc n)) more-bits
 
   pub added-bytes : Bytes new
   unfolding addedCodes
-  added-bytes = bytes-of (codeLength b (suc n)) new-binary
+  added-bytes = bytes-of (codeLength b (suc n)) more-binary
 
   -- no earlier bit is changed
   pub earlier-bits : codeBits b n new ≡ codeBits b n codes

@@ -1,9 +1,9 @@
 -- Codes that are packed afresh after an addition and after a removal, and when packing and the next removal are not refused.
 -- Assumes nothing.
-use mathlib.Core.Path.{_≡_, refl, sym, ap, ap₂, _∙_}
-use mathlib.Core.Bool.{Bool, true, not, _&&_, and-assoc, and-eq-true-iff}
+use mathlib.Core.Path.{_≡_, refl, sym, ap, _∙_}
+use mathlib.Core.Bool.{true, not, _&&_, and-assoc, and-eq-true-iff}
 use mathlib.Core.List.{List, [], _∷_, _++_}
-use Prim.Native.Nat.{ℕ, zero, suc, _+_, _-_, _*_, _≤_, _<_}
+use Prim.Native.Nat.{ℕ, zero, suc, _-_, _*_, _≤_, _<_}
 use native.Mathlib.Nat.{zero-mul, one-mul, mul-le-mul-right}
 use native.Mathlib.Omega.{arith}
 use borrow.Author.Tests.{eq-eqb, lt-ltb}
@@ -16,11 +16,11 @@ use Rattle.limits.specs.Limits.{isComponent, isDimensionCount, isBits, isVector
 use Rattle.signed.specs.Components.{areComponents}
 use Rattle.layout.specs.Layout.{firstMarks, codeLength}
 use Rattle.layout.specs.Stretch.{shapeCauses}
-use Rattle.partition.specs.Marks.{dimensionMarks, goodMarks}
+use Rattle.partition.specs.Marks.{goodMarks}
 use Rattle.codes.specs.Bits.{bytesOf}
 use Rattle.codes.specs.Codes.{codeRegion, joined, packed}
 use Rattle.codes.specs.PackLaws.{binary-joined, length-joined, joined-rows}
-use Rattle.cells.specs.Cells.{hasValue, noneEmpty, noEmptyCodes}
+use Rattle.cells.specs.Cells.{noneEmpty, noEmptyCodes}
 use Rattle.approximation.specs.Vectors.{vectorRegions, vectorsInside, vectorCodes}
 use Rattle.approximation.specs.VectorCauses.{packVectorsCauses}
 use Rattle.approximation.specs.OwnCodes.{length-regions, regions-rows, inside-rows, own-codes, own-not-empty}

@@ -1,13 +1,13 @@
 -- Rows of so many elements each in a list: where they stand in a part of it and in a list without one of them, and what is made or tested
 -- row by row. Assumes nothing.
-use mathlib.Core.Path.{_≡_, refl, sym, ap, ap₂, _∙_}
+use mathlib.Core.Path.{_≡_, sym, ap, ap₂, _∙_}
 use mathlib.Core.Bool.{Bool, true, _&&_, and-eq-true-iff}
 use mathlib.Core.List.{List, [], _∷_, _++_, append-nil}
 use Prim.Native.Nat.{ℕ, zero, suc, _+_, _-_, _*_, _≤_, _<_}
-use native.Mathlib.Nat.{zero-add, suc-add, suc-mul, mul-le-mul-right}
+use native.Mathlib.Nat.{zero-add, add-zero, suc-add, suc-mul, mul-one, mul-le-mul-right}
 use native.Mathlib.Omega.{arith}
-use lib.ListN.{length, take, drop, length-append, length-drop, take-append-drop, drop-of-length-le}
-use lib.Seq.{take-at, drop-at, take-take, take-nil, drop-drop, length-take-le}
+use lib.ListN.{length, getD, take, drop, length-append, length-drop, take-append-drop, drop-of-length-le}
+use lib.Seq.{getD-take, getD-drop, take-at, drop-at, take-take, take-nil, drop-drop, length-take-le}
 use Rattle.updating.specs.Updated.{without}
 
 -- row i
@@ -18,6 +18,10 @@ pub drop-take : {A : Type 0} (m n : ℕ) (list : List A) → drop m (take (m + n
 drop-take zero n list = rw zero-add
 drop-take (suc m) n [] = rw (take-nil (suc m + n), take-nil n)
 drop-take (suc m) n (x ∷ list) = rw (suc-add m n) (drop-take m n list)
+
+-- a row of one element
+pub row-one : {A : Type 0} (list : List A) (i : ℕ) (z : A) → getD (rowAt 1 list i) 0 z ≡ getD list i z
+row-one list i z = getD-take 1 (drop (i * 1) list) 0 z (omega arith) ∙ getD-drop (i * 1) list 0 z ∙ rw (mul-one i, add-zero i)
 
 module _ {A : Type 0} (size : ℕ) where
   -- a row stands in the first n rows as it stands in all

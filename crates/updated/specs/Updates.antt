@@ -2,15 +2,15 @@
 -- other files of this folder. Assumes nothing.
 use mathlib.Core.Path.{_≡_, refl, sym, ap, _∙_}
 use mathlib.Core.Bool.{Bool, true, false, cond, and-eq-true-iff}
-use mathlib.Core.List.{List, [], _∷_, _++_}
-use Prim.Native.Nat.{ℕ, suc, _+_, _-_, _*_, _≤_, _<_}
+use mathlib.Core.List.{List, [], _∷_}
+use Prim.Native.Nat.{ℕ, suc, _-_, _*_, _≤_, _<_}
 use native.Mathlib.Nat.{mul-one, suc-mul, mul-le-mul-right}
 use native.Mathlib.Omega.{arith}
 use borrow.Author.Tests.{le-leb, ltb-true, ltb-false}
 use lib.Dec.{ltb}
 use lib.IntN.{ℤ}
-use lib.ListN.{length, take, length-append}
-use lib.Seq.{take-all, drop-at}
+use lib.ListN.{length, getD, take, length-append, List·getD-append}
+use lib.Seq.{take-all, drop-at, getD-at}
 use Rattle.refusal.specs.declared.Refusal.the-variants.{Outside}
 use Rattle.refusal.specs.declared.Verdict.the-variants.{Accepted, Refused}
 use Rattle.refusal.specs.First.{Row, first}
@@ -33,7 +33,7 @@ use Rattle.updating.specs.declared.Lengths.{Lengths}
 use Rattle.updating.specs.Updated.{CodedLibrary, codeBits, added, without, removed, removedCodes}
 use Rattle.updating.specs.UpdateCauses.{lengthsOf, addCauses, removeCauses}
 use Rattle.updating.specs.Accepted.{Addable, addable, Removable, removable}
-use Rattle.updated.specs.ListRows.{row-front, without-before, without-behind, length-without, without-last, test-without}
+use Rattle.updated.specs.ListRows.{row-front, row-one, without-before, without-behind, length-without, without-last, test-without}
 use Rattle.updated.specs.CodeRows.{codeAt, region-same, added-spare, added-length, added-bytes, earlier-bits, earlier-code, taken-back}
 use Rattle.updated.specs.CodeRows.{code-before, code-behind, removed-length, removed-bytes}
 use Rattle.updated.specs.Fresh.{components-rowwise, inside-rowwise, added-packed, removed-packed, packs, removes, added-not-empty}
@@ -80,6 +80,12 @@ module _ (l : CodedLibrary) (vector : List ℤ) (room : Lengths) (accepted : fir
 
   pub adding-keeps-vectors : (i : ℕ) → i < l .n → vectorAt (l .d) (new .vectors) i ≡ vectorAt (l .d) (l .vectors) i
   adding-keeps-vectors = row-front (l .d) (l .n) (l .vectors) vector (facts .library .exact .of-vectors)
+
+  pub adding-puts-setting-last : getD (new .settings) (l .n) 0 ≡ setting
+  adding-puts-setting-last = getD-at (l .settings) setting [] 0 (l .n) (facts .library .exact .of-settings)
+
+  pub adding-keeps-settings : (i : ℕ) → i < l .n → getD (new .settings) i 0 ≡ getD (l .settings) i 0
+  adding-keeps-settings i row = List·getD-append (l .settings) (setting ∷ []) 0 i (rw (facts .library .exact .of-settings) row)
 
   -- .. and changes no earlier code": bit for bit, and region by region.
   pub adding-keeps-bits : codeBits (l .b) (l .n) (new .codes) ≡ codeBits (l .b) (l .n) (l .codes)
@@ -221,6 +227,22 @@ module _ (l : CodedLibrary) (i : ℕ) (room : Lengths) (accepted : first (remove
 
   pub removing-moves-vectors : (j : ℕ) → i ≤ j → vectorAt (l .d) (left .vectors) j ≡ vectorAt (l .d) (l .vectors) (suc j)
   removing-moves-vectors = without-behind (l .d) (l .vectors) i whole
+
+  -- .. settings number by settings number, ..
+  one-setting : suc i * 1 ≤ length (l .settings)
+  one-setting = rw (given .library .exact .of-settings, mul-one (suc i)) (given .stored)
+
+  pub removing-keeps-settings : (j : ℕ) → j < i → getD (left .settings) j 0 ≡ getD (l .settings) j 0
+  removing-keeps-settings j earlier =
+      sym (row-one (left .settings) j 0)
+      ∙ ap (λ (row : List ℕ). getD row 0 0) (without-before 1 (l .settings) i one-setting j earlier)
+      ∙ row-one (l .settings) j 0
+
+  pub removing-moves-settings : (j : ℕ) → i ≤ j → getD (left .settings) j 0 ≡ getD (l .settings) (suc j) 0
+  removing-moves-settings j later =
+      sym (row-one (left .settings) j 0)
+      ∙ ap (λ (row : List ℕ). getD row 0 0) (without-behind 1 (l .settings) i one-setting j later)
+      ∙ row-one (l .settings) (suc j) 0
 
   -- .. code by code, bit for bit, ..
   pub removing-keeps-bits : (j : ℕ) → j < i → codeAt (l .b) (left .codes) j ≡ codeAt (l .b) (l .codes) j
