@@ -155,8 +155,11 @@ module _ (d b n : ℕ) (some : 0 < d) (marks : List ℤ) (codes : List ℕ) (vec
   unfolding removedCodes
   taken-back bytes spare =
       let one : suc n - 1 ≡ n = omega arith in
-      rw (one, added-bits,
-        without-last b n (codeBits b n codes) (vectorBits d b marks vector) (bits-length b n codes full) vector-bits-length)
+      rw (
+        one,
+        added-bits,
+        without-last b n (codeBits b n codes) (vectorBits d b marks vector) (bits-length b n codes full) vector-bits-length,
+      )
       (bits-codes b n codes full bytes spare)
 
 -- ---- code i taken out of n
