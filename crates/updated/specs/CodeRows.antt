@@ -180,6 +180,10 @@ module _ (b n : ℕ) (codes : List ℕ) (full : length codes ≡ codeLength b n)
   unfolding removedCodes
   removed-bits = codes-bits b (n - 1) fewer-binary fewer-length
 
+  pub removed-spare : spareZero b (n - 1) fewer ≡ true
+  unfolding removedCodes
+  removed-spare = codes-spare b (n - 1) fewer-binary fewer-length
+
   pub removed-length : length fewer ≡ codeLength b (n - 1)
   unfolding removedCodes
   removed-length = length-bytes (codeLength b (n - 1)) (without b i (codeBits b n codes))

@@ -171,9 +171,12 @@ module _ (i : ℕ) where
         ap (ranked distance) (count-append 0 i (suc m) ∙ rw (zero-add i))
         ∙ ranked-insert distance (countFrom 0 i) i (countFrom (suc i) m)
         ∙ ap (insert (pairOf distance i))
-        (ap (ranked distance) (sym (count-others m)) ∙ ap sort (keyed-up (countFrom 0 (i + m))) ∙ sort-up (keyed other (countFrom 0 (i + m))))
+        (ap (ranked distance) (sym (count-others m))
+        ∙ ap sort (keyed-up (countFrom 0 (i + m)))
+        ∙ sort-up (keyed other (countFrom 0 (i + m))))
 
-    scan-others : (k m : ℕ) → scan k other (countFrom 0 (i + m)) ≡ take k (withoutNumber i (scan (suc k) distance (countFrom 0 (i + suc m))))
+    scan-others : (k m : ℕ)
+        → scan k other (countFrom 0 (i + m)) ≡ take k (withoutNumber i (scan (suc k) distance (countFrom 0 (i + suc m))))
     unfolding scan
     scan-others k m = rw (ranked-others m) (sym (taken-out (pairOf distance i) refl k (ranked other (countFrom 0 (i + m)))))
 

@@ -4,26 +4,25 @@ use mathlib.Core.Path.{_≡_, refl, sym, ap, _∙_}
 use mathlib.Core.Bool.{Bool, true, false, cond, and-eq-true-iff}
 use mathlib.Core.List.{List, [], _∷_}
 use Prim.Native.Nat.{ℕ, suc, _-_, _*_, _≤_, _<_}
-use native.Mathlib.Nat.{mul-one, suc-mul, mul-le-mul-right}
+use native.Mathlib.Nat.{mul-one, mul-le-mul-right}
 use native.Mathlib.Omega.{arith}
-use borrow.Author.Tests.{le-leb, ltb-true, ltb-false}
+use borrow.Author.Tests.{ltb-true, ltb-false}
 use lib.Dec.{ltb}
 use lib.IntN.{ℤ}
-use lib.ListN.{length, getD, take, length-append, List·getD-append}
+use lib.ListN.{length, getD, take, List·getD-append}
 use lib.Seq.{take-all, drop-at, getD-at}
 use Rattle.refusal.specs.declared.Refusal.the-variants.{Outside}
 use Rattle.refusal.specs.declared.Verdict.the-variants.{Accepted, Refused}
 use Rattle.refusal.specs.First.{Row, first}
-use Rattle.limits.specs.Limits.{maxVectors, isVectorCount}
+use Rattle.limits.specs.Limits.{maxVectors}
 use Rattle.limits.specs.Tests.{between}
-use Rattle.signed.specs.Components.{areComponents}
 use Rattle.order.specs.Pair.{insert}
 use Rattle.order.specs.Counted.{counted}
 use Rattle.layout.specs.Stretch.{shape}
 use Rattle.codes.specs.BitLaws.{Bytes}
-use Rattle.codes.specs.Codes.{codeLength, codeRegion}
+use Rattle.codes.specs.Codes.{codeRegion}
 use Rattle.cells.specs.Cells.{vectorAt, noEmptyCodes, Own}
-use Rattle.approximation.specs.Vectors.{insideFrom, vectorsInside, vectorCodes}
+use Rattle.approximation.specs.Vectors.{vectorCodes}
 use Rattle.approximation.specs.VectorCauses.{packVectorsCauses}
 use Rattle.approximation.specs.OwnCodes.{own-codes, own-packed}
 use Rattle.search.specs.Search.{Index, Query, distanceFrom, distanceIn, scanned, searched}
@@ -33,10 +32,11 @@ use Rattle.updating.specs.declared.Lengths.{Lengths}
 use Rattle.updating.specs.Updated.{CodedLibrary, codeBits, added, without, removed, removedCodes}
 use Rattle.updating.specs.UpdateCauses.{lengthsOf, addCauses, removeCauses}
 use Rattle.updating.specs.Accepted.{Addable, addable, Removable, removable}
-use Rattle.updated.specs.ListRows.{row-front, row-one, without-before, without-behind, length-without, without-last, test-without}
-use Rattle.updated.specs.CodeRows.{codeAt, region-same, added-spare, added-length, added-bytes, earlier-bits, earlier-code, taken-back}
-use Rattle.updated.specs.CodeRows.{code-before, code-behind, removed-length, removed-bytes}
-use Rattle.updated.specs.Fresh.{components-rowwise, inside-rowwise, added-packed, removed-packed, packs, removes, added-not-empty}
+use Rattle.updated.specs.ListRows.{row-front, row-one, without-before, without-behind, without-last}
+use Rattle.updated.specs.CodeRows.{codeAt, region-same, added-bytes, earlier-bits, earlier-code, taken-back}
+use Rattle.updated.specs.CodeRows.{removed-bytes, code-before, code-behind}
+use Rattle.updated.specs.Fresh.{added-packed, removed-packed}
+use Rattle.updated.specs.After.{packs, removes, added-measured, added-sound, removed-measured, removed-sound}
 use Rattle.updated.specs.Renumbered.{scan-more, withoutNumber, movedUp, scan-without}
 use Rattle.updated.specs.OuterMarks.{EndsOfScale, made-ends, never-outside}
 
@@ -97,31 +97,8 @@ module _ (l : CodedLibrary) (vector : List ℤ) (room : Lengths) (accepted : fir
       (earlier-code (l .d) (l .b) (l .n) some (l .marks) (l .codes) vector (facts .library .exact .of-codes) (facts .size) i row) t among
 
   -- 3. "where the codes were the patterns' own, the library after it has those that packing afresh would give": packing is not refused, ..
-  new-rows : length (new .vectors) ≡ suc (l .n) * l .d
-  new-rows =
-      length-append (l .vectors) vector
-      ∙ rw (facts .library .exact .of-vectors, facts .size) (sym (suc-mul (l .n) (l .d)))
-
-  new-counted : isVectorCount (suc (l .n)) ≡ true
-  new-counted = rw (le-leb 1 (suc (l .n)) (omega arith)) (le-leb (suc (l .n)) maxVectors (facts .not-full))
-
-  new-components : areComponents (new .vectors) ≡ true
-  new-components =
-      components-rowwise (l .d) .joins (l .n) (l .vectors) vector (facts .library .exact .of-vectors)
-      ∙ rw (facts .contents .components) (facts .contents .more-components)
-
-  new-inside : vectorsInside (l .d) (l .b) (l .marks) (new .vectors) ≡ true
-  new-inside =
-      inside-rowwise (l .d) (l .b) some (l .marks) .joins (l .n) (l .vectors) vector (facts .library .exact .of-vectors)
-      ∙ rw (facts .contents .inside) (facts .contents .more-inside)
-
-  new-bytes : length (new .codes) ≡ codeLength (l .b) (suc (l .n))
-  new-bytes = added-length (l .d) (l .b) (l .n) some (l .marks) (l .codes) vector (facts .library .exact .of-codes) (facts .size)
-
   pub adding-packs : first (freshCauses new) ≡ Accepted
-  adding-packs =
-      packs (l .d) (l .b) (suc (l .n)) (new .vectors) (l .marks) (length (new .codes)) (facts .library .shaped) new-counted new-rows
-      (facts .library .of-marks) new-bytes new-components (facts .contents .good) new-inside
+  adding-packs = packs new (added-measured l vector room accepted setting) (added-sound l vector room accepted setting)
 
   -- .. gives the codes after the addition, ..
   pub adding-is-fresh : OwnLibrary l → new .codes ≡ freshCodes new
@@ -134,7 +111,9 @@ module _ (l : CodedLibrary) (vector : List ℤ) (room : Lengths) (accepted : fir
   pub adding-keeps-own : OwnLibrary l → OwnLibrary new
   adding-keeps-own is = record {
     bytes = added-bytes (l .d) (l .b) (l .n) some (l .marks) (l .codes) vector (facts .library .exact .of-codes) (facts .size);
-    own = rw (adding-is-fresh is) (own-codes (l .d) (l .b) (suc (l .n)) some (l .marks) (new .vectors) new-rows new-inside);
+    own = rw (adding-is-fresh is)
+        (own-codes (l .d) (l .b) (suc (l .n)) some (l .marks) (new .vectors)
+        (added-measured l vector room accepted setting .exact .of-vectors) (added-sound l vector room accepted setting .inside));
   }
 
   -- 4. What is removed after it was added is the old library, ..
@@ -160,34 +139,10 @@ module _ (l : CodedLibrary) (vector : List ℤ) (room : Lengths) (accepted : fir
 
   -- .. and this removal is not refused.
   pub added-removable : first (removeCauses new (l .n) (lengthsOf l)) ≡ Accepted
-  unfolding areComponents insideFrom
   added-removable =
       let one : suc (l .n) - 1 ≡ l .n = omega arith in
-      let full = facts .library .exact .of-codes in
       let counted = between 1 (l .n) maxVectors (facts .library .counted) in
-      let named = and-eq-true-iff (noEmptyCodes (l .d) (l .b) (l .marks) (l .codes) (l .n)) _ .0 (facts .contents .named) .0 in
-      removes new (l .n) (lengthsOf l)
-      (record {
-        shaped = facts .library .shaped;
-        counted = new-counted;
-        of-marks = facts .library .of-marks;
-        exact = record {
-          of-vectors = new-rows;
-          of-settings = length-append (l .settings) (setting ∷ []) ∙ rw (facts .library .exact .of-settings) (omega arith);
-          of-codes = new-bytes;
-        };
-      })
-      (record {
-        components = new-components;
-        more-components = refl;
-        good = facts .contents .good;
-        inside = new-inside;
-        more-inside = refl;
-        named = and-eq-true-iff _ _ .1 (
-          added-not-empty (l .d) (l .b) (l .n) some (l .marks) (l .codes) vector full (facts .size) named (facts .contents .more-inside),
-          added-spare (l .d) (l .b) (l .n) some (l .marks) (l .codes) vector full (facts .size),
-        );
-      })
+      removes new (l .n) (lengthsOf l) (added-measured l vector room accepted setting) (added-sound l vector room accepted setting)
       (rw one (facts .library .exact)) (omega arith) (omega (arith, counted .above))
 
   -- 6. A scan of the new library gives what a scan of the old one gives, with the new vector's pair put in, cut to k, ..
@@ -261,20 +216,8 @@ module _ (l : CodedLibrary) (i : ℕ) (room : Lengths) (accepted : first (remove
       region-same (l .d) (l .b) positive (left .codes) (l .codes) j (suc j) (removing-moves-bits j later row) t among
 
   -- 3. "where the codes were the patterns' own, the library after it has those that packing afresh would give": packing is not refused, ..
-  left-rows : length (left .vectors) ≡ (l .n - 1) * l .d
-  left-rows = length-without (l .d) (l .n) (l .vectors) i (given .library .exact .of-vectors) (given .stored)
-
-  left-inside : vectorsInside (l .d) (l .b) (l .marks) (left .vectors) ≡ true
-  left-inside = test-without (inside-rowwise (l .d) (l .b) positive (l .marks)) (l .vectors) i whole (given .contents .inside)
-
   pub removing-packs : first (freshCauses left) ≡ Accepted
-  removing-packs =
-      let counted = between 1 (l .n) maxVectors (given .library .counted) in
-      packs (l .d) (l .b) (l .n - 1) (left .vectors) (l .marks) (length (left .codes)) (given .library .shaped)
-      (rw (le-leb 1 (l .n - 1) (omega (arith, given .others))) (le-leb (l .n - 1) maxVectors (omega (arith, counted .below))))
-      left-rows (given .library .of-marks) (removed-length (l .b) (l .n) (l .codes) (given .library .exact .of-codes) i (given .stored))
-      (test-without (components-rowwise (l .d)) (l .vectors) i whole (given .contents .components))
-      (given .contents .good) left-inside
+  removing-packs = packs left (removed-measured l i room accepted) (removed-sound l i room accepted)
 
   -- .. gives the codes after the removal, ..
   pub removing-is-fresh : OwnLibrary l → left .codes ≡ freshCodes left
@@ -287,7 +230,9 @@ module _ (l : CodedLibrary) (i : ℕ) (room : Lengths) (accepted : first (remove
   pub removing-keeps-own : OwnLibrary l → OwnLibrary left
   removing-keeps-own is = record {
     bytes = removed-bytes (l .b) (l .n) (l .codes) (given .library .exact .of-codes) i (given .stored);
-    own = rw (removing-is-fresh is) (own-codes (l .d) (l .b) (l .n - 1) positive (l .marks) (left .vectors) left-rows left-inside);
+    own = rw (removing-is-fresh is)
+        (own-codes (l .d) (l .b) (l .n - 1) positive (l .marks) (left .vectors)
+        (removed-measured l i room accepted .exact .of-vectors) (removed-sound l i room accepted .inside));
   }
 
   -- 6. A scan for k of the library after it gives what a scan for k + 1 of the old one gives, without number i, numbers above i less one,
