@@ -203,43 +203,43 @@ module _ (l : CodedLibrary) (vector : List ℤ) (room : Lengths) (accepted : fir
 -- ---- the library after a removal
 
 module _ (l : CodedLibrary) (i : ℕ) (room : Lengths) (accepted : first (removeCauses l i room) ≡ Accepted) where
-  told : Removable l i room
-  told = removable l i room accepted
+  known : Removable l i room
+  known = removable l i room accepted
 
   positive : 0 < l .d
-  positive = shape (l .d) (l .b) (told .library .shaped) .some
+  positive = shape (l .d) (l .b) (known .library .shaped) .some
 
   pub removed-measured : MeasuredLibrary (removed l i)
   removed-measured =
-      let counted = between 1 (l .n) maxVectors (told .library .counted) in
+      let counted = between 1 (l .n) maxVectors (known .library .counted) in
       record {
-        shaped = told .library .shaped;
+        shaped = known .library .shaped;
         counted =
-            rw (le-leb 1 (l .n - 1) (omega (arith, told .others))) (le-leb (l .n - 1) maxVectors (omega (arith, counted .below)));
-        of-marks = told .library .of-marks;
+            rw (le-leb 1 (l .n - 1) (omega (arith, known .others))) (le-leb (l .n - 1) maxVectors (omega (arith, counted .below)));
+        of-marks = known .library .of-marks;
         exact = record {
-          of-vectors = length-without (l .d) (l .n) (l .vectors) i (told .library .exact .of-vectors) (told .stored);
+          of-vectors = length-without (l .d) (l .n) (l .vectors) i (known .library .exact .of-vectors) (known .stored);
           of-settings =
-              length-without 1 (l .n) (l .settings) i (told .library .exact .of-settings ∙ sym (mul-one (l .n))) (told .stored)
+              length-without 1 (l .n) (l .settings) i (known .library .exact .of-settings ∙ sym (mul-one (l .n))) (known .stored)
               ∙ mul-one (l .n - 1);
-          of-codes = removed-length (l .b) (l .n) (l .codes) (told .library .exact .of-codes) i (told .stored);
+          of-codes = removed-length (l .b) (l .n) (l .codes) (known .library .exact .of-codes) i (known .stored);
         };
       }
 
   pub removed-sound : SoundLibrary (removed l i) []
   removed-sound =
-      let full = told .library .exact .of-codes in
+      let full = known .library .exact .of-codes in
       let whole : suc i * l .d ≤ length (l .vectors) =
-      rw (told .library .exact .of-vectors) (mul-le-mul-right (l .d) (told .stored)) in
-      let named = and-eq-true-iff (noEmptyCodes (l .d) (l .b) (l .marks) (l .codes) (l .n)) _ .0 (told .contents .named) .0 in
+      rw (known .library .exact .of-vectors) (mul-le-mul-right (l .d) (known .stored)) in
+      let named = and-eq-true-iff (noEmptyCodes (l .d) (l .b) (l .marks) (l .codes) (l .n)) _ .0 (known .contents .named) .0 in
       record {
-        components = test-without (components-rowwise (l .d)) (l .vectors) i whole (told .contents .components);
-        more-components = told .contents .more-components;
-        good = told .contents .good;
-        inside = test-without (inside-rowwise (l .d) (l .b) positive (l .marks)) (l .vectors) i whole (told .contents .inside);
-        more-inside = told .contents .more-inside;
+        components = test-without (components-rowwise (l .d)) (l .vectors) i whole (known .contents .components);
+        more-components = known .contents .more-components;
+        good = known .contents .good;
+        inside = test-without (inside-rowwise (l .d) (l .b) positive (l .marks)) (l .vectors) i whole (known .contents .inside);
+        more-inside = known .contents .more-inside;
         named = and-eq-true-iff _ _ .1 (
-          removed-not-empty (l .d) (l .b) (l .n) positive (l .marks) (l .codes) full i (told .stored) named (l .n - 1) (omega arith),
-          removed-spare (l .b) (l .n) (l .codes) full i (told .stored),
+          removed-not-empty (l .d) (l .b) (l .n) positive (l .marks) (l .codes) full i (known .stored) named (l .n - 1) (omega arith),
+          removed-spare (l .b) (l .n) (l .codes) full i (known .stored),
         );
       }

@@ -9,9 +9,10 @@ use native.Mathlib.Omega.{arith}
 use borrow.Author.Tests.{ltb-true, ltb-false, lt-ltb, le-ltb, eq-eqb, ne-eqb}
 use lib.Dec.{ltb, eqb}
 use lib.ListN.{take}
-use lib.Seq.{take-take}
+use lib.Seq.{take-take, take-all}
 use Rattle.order.specs.Pair.{Pair, below, insert, sort, pairOf, keyed, ranked, countFrom}
-use Rattle.order.specs.Insertion.{ranked-insert, insert-cut}
+use Rattle.order.specs.Insertion.{length-ranked, ranked-insert, insert-cut}
+use Rattle.order.specs.Counted.{counted-length}
 use Rattle.selection.specs.Reading.{scan}
 use Rattle.selection.specs.Settles.{Agree}
 use Rattle.scan.specs.Ranked.{ranked-agree}
@@ -138,9 +139,24 @@ module _ (i : ℕ) where
   all-down (suc k) [] = refl
   all-down (suc k) (p ∷ ps) = down-up p (take k (map up ps)) ∙ ap {B = List Pair} (λ rest. p ∷ rest) (all-down k ps)
 
+  whole-down : (ps : List Pair) → withoutNumber i (map up ps) ≡ ps
+  unfolding withoutNumber
+  whole-down [] = refl
+  whole-down (p ∷ ps) = down-up p (map up ps) ∙ ap {B = List Pair} (λ rest. p ∷ rest) (whole-down ps)
+
   left-out : (p : Pair) → p .number ≡ i → (ps : List Pair) → withoutNumber i (p ∷ ps) ≡ withoutNumber i ps
   unfolding withoutNumber
   left-out p is ps = rw (eq-eqb (p .number) i is)
+
+  taken-out-of-all : (p : Pair) → p .number ≡ i → (ps : List Pair) → withoutNumber i (insert p (map up ps)) ≡ ps
+  unfolding insert withoutNumber
+  taken-out-of-all p is [] = left-out p is []
+  taken-out-of-all p is (q ∷ ps) = go (below (up q) p) (taken-out-of-all p is ps)
+    where
+      go : (t : Bool) → withoutNumber i (insert p (map up ps)) ≡ ps
+          → withoutNumber i (cond t (up q ∷ insert p (map up ps)) (p ∷ up q ∷ map up ps)) ≡ q ∷ ps
+      go true later = down-up q (insert p (map up ps)) ∙ ap {B = List Pair} (λ rest. q ∷ rest) later
+      go false later = left-out p is (map up (q ∷ ps)) ∙ whole-down (q ∷ ps)
 
   taken-out : (p : Pair) → p .number ≡ i → (k : ℕ) (ps : List Pair)
       → take k (withoutNumber i (take (suc k) (insert p (map up ps)))) ≡ take k ps
@@ -175,15 +191,25 @@ module _ (i : ℕ) where
         ∙ ap sort (keyed-up (countFrom 0 (i + m)))
         ∙ sort-up (keyed other (countFrom 0 (i + m))))
 
-    scan-others : (k m : ℕ)
-        → scan k other (countFrom 0 (i + m)) ≡ take k (withoutNumber i (scan (suc k) distance (countFrom 0 (i + suc m))))
-    unfolding scan
-    scan-others k m = rw (ranked-others m) (sym (taken-out (pairOf distance i) refl k (ranked other (countFrom 0 (i + m)))))
+    -- the same for n numbers, of which i is one
+    module _ (n : ℕ) (among : i < n) where
+      others-ranked : ranked distance (countFrom 0 n) ≡ insert (pairOf distance i) (map up (ranked other (countFrom 0 (n - 1))))
+      others-ranked =
+          let before : i + suc (n - 1 - i) ≡ n = omega arith in
+          let after : i + (n - 1 - i) ≡ n - 1 = omega arith in
+          rw (before, after) at (ranked-others (n - 1 - i))
 
-    -- the k least of the others are among the k + 1 least of all
-    pub scan-without : (k n : ℕ) → i < n
-        → scan k other (countFrom 0 (n - 1)) ≡ take k (withoutNumber i (scan (suc k) distance (countFrom 0 n)))
-    scan-without k n among =
-        let before : i + suc (n - 1 - i) ≡ n = omega arith in
-        let after : i + (n - 1 - i) ≡ n - 1 = omega arith in
-        rw (before, after) at (scan-others k (n - 1 - i))
+      -- a scan over all gives all without number i
+      pub scan-all-without : scan (n - 1) other (countFrom 0 (n - 1)) ≡ withoutNumber i (scan n distance (countFrom 0 n))
+      unfolding scan
+      scan-all-without =
+          let size : (key : ℕ → ℕ) (m : ℕ) → take m (ranked key (countFrom 0 m)) ≡ ranked key (countFrom 0 m) =
+          λ key m. take-all m (ranked key (countFrom 0 m)) (omega (arith, length-ranked key (countFrom 0 m), counted-length 0 m)) in
+          size other (n - 1)
+          ∙ sym (taken-out-of-all (pairOf distance i) refl (ranked other (countFrom 0 (n - 1))))
+          ∙ ap (withoutNumber i) (sym others-ranked ∙ sym (size distance n))
+
+      -- the k least of the others are among the k + 1 least of all
+      pub scan-without : (k : ℕ) → scan k other (countFrom 0 (n - 1)) ≡ take k (withoutNumber i (scan (suc k) distance (countFrom 0 n)))
+      unfolding scan
+      scan-without k = rw others-ranked (sym (taken-out (pairOf distance i) refl k (ranked other (countFrom 0 (n - 1)))))

@@ -37,14 +37,14 @@ use Rattle.updated.specs.CodeRows.{codeAt, region-same, added-bytes, ear
 use Rattle.updated.specs.CodeRows.{removed-bytes, code-before, code-behind}
 use Rattle.updated.specs.Fresh.{added-packed, removed-packed}
 use Rattle.updated.specs.After.{packs, removes, added-measured, added-sound, removed-measured, removed-sound}
-use Rattle.updated.specs.Renumbered.{scan-more, withoutNumber, movedUp, scan-without}
+use Rattle.updated.specs.Renumbered.{scan-more, withoutNumber, movedUp, scan-without, scan-all-without}
 use Rattle.updated.specs.OuterMarks.{EndsOfScale, made-ends, never-outside}
 
 -- the region that code i of a library names for dimension t + 1
 abbrev pub regionIn : CodedLibrary → ℕ → ℕ → ℕ
 regionIn l i t = codeRegion (l .d) (l .b) (l .codes) i t
 
--- "the codes were the patterns' own"; a code is bytes
+-- a library whose codes, in bytes, "were the patterns' own"
 pub record OwnLibrary (l : CodedLibrary) : Type 0 where
   pub bytes : Bytes (l .codes)
   pub own : Own (l .d) (l .b) (l .n) (l .marks) (l .codes) (l .vectors)
@@ -57,8 +57,8 @@ abbrev pub freshCauses : CodedLibrary → List Row
 freshCauses l = packVectorsCauses (l .d) (l .b) (l .n) (l .vectors) (l .marks) (length (l .codes))
 
 -- what the search and the scan see of a library
-abbrev pub indexOf : CodedLibrary → Index
-indexOf l = record { d = l .d; b = l .b; n = l .n; marks = l .marks; codes = l .codes; vectors = l .vectors }
+abbrev pub indexIn : CodedLibrary → Index
+indexIn l = record { d = l .d; b = l .b; n = l .n; marks = l .marks; codes = l .codes; vectors = l .vectors }
 
 -- ---- an addition that is not refused
 
@@ -146,35 +146,35 @@ module _ (l : CodedLibrary) (vector : List ℤ) (room : Lengths) (accepted : fir
       (rw one (facts .library .exact)) (omega arith) (omega (arith, counted .above))
 
   -- 6. A scan of the new library gives what a scan of the old one gives, with the new vector's pair put in, cut to k, ..
-  pub adding-scan : (query : Query) (k : ℕ) → scanned (indexOf new) query k
-      ≡ take k (insert (record { key = distanceFrom (indexOf l) query vector; number = l .n }) (scanned (indexOf l) query k))
+  pub adding-scan : (query : Query) (k : ℕ) → scanned (indexIn new) query k
+      ≡ take k (insert (record { key = distanceFrom (indexIn l) query vector; number = l .n }) (scanned (indexIn l) query k))
   adding-scan query k =
-      scan-more k (distanceIn (indexOf l) query) (distanceIn (indexOf new) query) (l .n)
-      (λ j m. ap (distanceFrom (indexOf l) query) (adding-keeps-vectors j (omega (arith, counted 0 (l .n) m .below))))
+      scan-more k (distanceIn (indexIn l) query) (distanceIn (indexIn new) query) (l .n)
+      (λ j m. ap (distanceFrom (indexIn l) query) (adding-keeps-vectors j (omega (arith, counted 0 (l .n) m .below))))
       ∙ rw adding-puts-last
 
   -- .. and so does the search, where the codes were the vectors' own.
-  pub adding-search : OwnLibrary l → (query : Query) (k : ℕ) → (searched (indexOf new) query k) .best
-      ≡ take k (insert (record { key = distanceFrom (indexOf l) query vector; number = l .n }) ((searched (indexOf l) query k) .best))
+  pub adding-search : OwnLibrary l → (query : Query) (k : ℕ) → (searched (indexIn new) query k) .best
+      ≡ take k (insert (record { key = distanceFrom (indexIn l) query vector; number = l .n }) ((searched (indexIn l) query k) .best))
   adding-search is query k =
-      search-is-scan (indexOf new) query k (adding-keeps-own is .own)
+      search-is-scan (indexIn new) query k (adding-keeps-own is .own)
       ∙ adding-scan query k
-      ∙ rw (search-is-scan (indexOf l) query k (is .own))
+      ∙ rw (search-is-scan (indexIn l) query k (is .own))
 
 -- ---- a removal that is not refused
 
 module _ (l : CodedLibrary) (i : ℕ) (room : Lengths) (accepted : first (removeCauses l i room) ≡ Accepted) where
-  given : Removable l i room
-  given = removable l i room accepted
+  known : Removable l i room
+  known = removable l i room accepted
 
   positive : 0 < l .d
-  positive = shape (l .d) (l .b) (given .library .shaped) .some
+  positive = shape (l .d) (l .b) (known .library .shaped) .some
 
   abbrev left : CodedLibrary
   left = removed l i
 
   whole : suc i * l .d ≤ length (l .vectors)
-  whole = rw (given .library .exact .of-vectors) (mul-le-mul-right (l .d) (given .stored))
+  whole = rw (known .library .exact .of-vectors) (mul-le-mul-right (l .d) (known .stored))
 
   -- 2. "removing moves later patterns, settings and codes down by one", and leaves the earlier ones: vector by vector, ..
   pub removing-keeps-vectors : (j : ℕ) → j < i → vectorAt (l .d) (left .vectors) j ≡ vectorAt (l .d) (l .vectors) j
@@ -185,7 +185,7 @@ module _ (l : CodedLibrary) (i : ℕ) (room : Lengths) (accepted : first (remove
 
   -- .. settings number by settings number, ..
   one-setting : suc i * 1 ≤ length (l .settings)
-  one-setting = rw (given .library .exact .of-settings, mul-one (suc i)) (given .stored)
+  one-setting = rw (known .library .exact .of-settings, mul-one (suc i)) (known .stored)
 
   pub removing-keeps-settings : (j : ℕ) → j < i → getD (left .settings) j 0 ≡ getD (l .settings) j 0
   removing-keeps-settings j earlier =
@@ -201,10 +201,10 @@ module _ (l : CodedLibrary) (i : ℕ) (room : Lengths) (accepted : first (remove
 
   -- .. code by code, bit for bit, ..
   pub removing-keeps-bits : (j : ℕ) → j < i → codeAt (l .b) (left .codes) j ≡ codeAt (l .b) (l .codes) j
-  removing-keeps-bits = code-before (l .b) (l .n) (l .codes) (given .library .exact .of-codes) i (given .stored)
+  removing-keeps-bits = code-before (l .b) (l .n) (l .codes) (known .library .exact .of-codes) i (known .stored)
 
   pub removing-moves-bits : (j : ℕ) → i ≤ j → j < left .n → codeAt (l .b) (left .codes) j ≡ codeAt (l .b) (l .codes) (suc j)
-  removing-moves-bits = code-behind (l .b) (l .n) (l .codes) (given .library .exact .of-codes) i (given .stored)
+  removing-moves-bits = code-behind (l .b) (l .n) (l .codes) (known .library .exact .of-codes) i (known .stored)
 
   -- .. and region by region.
   pub removing-keeps-regions : (j t : ℕ) → j < i → t < l .d → regionIn left j t ≡ regionIn l j t
@@ -222,21 +222,21 @@ module _ (l : CodedLibrary) (i : ℕ) (room : Lengths) (accepted : first (remove
   -- .. gives the codes after the removal, ..
   pub removing-is-fresh : OwnLibrary l → left .codes ≡ freshCodes left
   removing-is-fresh is =
-      removed-packed (l .d) (l .b) positive (l .marks) (l .n) (l .codes) (l .vectors) (given .library .exact .of-vectors)
-      (own-packed positive (given .library .of-marks) (given .contents .good) (given .library .exact .of-vectors) (is .own) (is .bytes)
-      (given .library .exact .of-codes)) i (given .stored)
+      removed-packed (l .d) (l .b) positive (l .marks) (l .n) (l .codes) (l .vectors) (known .library .exact .of-vectors)
+      (own-packed positive (known .library .of-marks) (known .contents .good) (known .library .exact .of-vectors) (is .own) (is .bytes)
+      (known .library .exact .of-codes)) i (known .stored)
 
   -- .. and these are the vectors' own.
   pub removing-keeps-own : OwnLibrary l → OwnLibrary left
   removing-keeps-own is = record {
-    bytes = removed-bytes (l .b) (l .n) (l .codes) (given .library .exact .of-codes) i (given .stored);
+    bytes = removed-bytes (l .b) (l .n) (l .codes) (known .library .exact .of-codes) i (known .stored);
     own = rw (removing-is-fresh is)
         (own-codes (l .d) (l .b) (l .n - 1) positive (l .marks) (left .vectors)
         (removed-measured l i room accepted .exact .of-vectors) (removed-sound l i room accepted .inside));
   }
 
-  -- 6. A scan for k of the library after it gives what a scan for k + 1 of the old one gives, without number i, numbers above i less one,
-  -- cut to k: over all, k is n - 1 and nothing is cut, ..
+  -- 6. A scan over all of the library after it gives what a scan over all of the old one gives, without number i, numbers above i less one.
+  -- A scan for any k gives what one for k + 1 gives so, cut to k, ..
   moved-vector : (j : ℕ) → vectorAt (l .d) (left .vectors) j ≡ vectorAt (l .d) (l .vectors) (movedUp i j)
   moved-vector j = go (ltb j i) refl
     where
@@ -244,19 +244,24 @@ module _ (l : CodedLibrary) (i : ℕ) (room : Lengths) (accepted : first (remove
       go true e = removing-keeps-vectors j (ltb-true j i e)
       go false e = removing-moves-vectors j (ltb-false j i e)
 
+  pub removing-scan-all : (query : Query) → scanned (indexIn left) query (left .n) ≡ withoutNumber i (scanned (indexIn l) query (l .n))
+  removing-scan-all query =
+      scan-all-without i (distanceIn (indexIn l) query) (distanceIn (indexIn left) query)
+      (λ j. ap (distanceFrom (indexIn l) query) (moved-vector j)) (l .n) (known .stored)
+
   pub removing-scan : (query : Query) (k : ℕ)
-      → scanned (indexOf left) query k ≡ take k (withoutNumber i (scanned (indexOf l) query (suc k)))
+      → scanned (indexIn left) query k ≡ take k (withoutNumber i (scanned (indexIn l) query (suc k)))
   removing-scan query k =
-      scan-without i (distanceIn (indexOf l) query) (distanceIn (indexOf left) query)
-      (λ j. ap (distanceFrom (indexOf l) query) (moved-vector j)) k (l .n) (given .stored)
+      scan-without i (distanceIn (indexIn l) query) (distanceIn (indexIn left) query)
+      (λ j. ap (distanceFrom (indexIn l) query) (moved-vector j)) (l .n) (known .stored) k
 
   -- .. and so does the search, where the codes were the vectors' own.
   pub removing-search : OwnLibrary l → (query : Query) (k : ℕ)
-      → (searched (indexOf left) query k) .best ≡ take k (withoutNumber i ((searched (indexOf l) query (suc k)) .best))
+      → (searched (indexIn left) query k) .best ≡ take k (withoutNumber i ((searched (indexIn l) query (suc k)) .best))
   removing-search is query k =
-      search-is-scan (indexOf left) query k (removing-keeps-own is .own)
+      search-is-scan (indexIn left) query k (removing-keeps-own is .own)
       ∙ removing-scan query k
-      ∙ rw (search-is-scan (indexOf l) query (suc k) (is .own))
+      ∙ rw (search-is-scan (indexIn l) query (suc k) (is .own))
 
 -- ---- outer marks at the ends of the scale
 
