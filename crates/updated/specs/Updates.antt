@@ -235,8 +235,7 @@ module _ (l : CodedLibrary) (i : ℕ) (room : Lengths) (accepted : first (remove
         (removed-measured l i room accepted .exact .of-vectors) (removed-sound l i room accepted .inside));
   }
 
-  -- 6. A scan over all of the library after it gives what a scan over all of the old one gives, without number i, numbers above i less one.
-  -- A scan for any k gives what one for k + 1 gives so, cut to k, ..
+  -- a number's vector is that of the number as it was before
   moved-vector : (j : ℕ) → vectorAt (l .d) (left .vectors) j ≡ vectorAt (l .d) (l .vectors) (movedUp i j)
   moved-vector j = go (ltb j i) refl
     where
@@ -244,6 +243,8 @@ module _ (l : CodedLibrary) (i : ℕ) (room : Lengths) (accepted : first (remove
       go true e = removing-keeps-vectors j (ltb-true j i e)
       go false e = removing-moves-vectors j (ltb-false j i e)
 
+  -- 6. A scan over all of the library after it gives what a scan over all of the old one gives, without number i, numbers above i less one.
+  -- A scan for any k gives what one for k + 1 gives so, cut to k, ..
   pub removing-scan-all : (query : Query) → scanned (indexIn left) query (left .n) ≡ withoutNumber i (scanned (indexIn l) query (l .n))
   removing-scan-all query =
       scan-all-without i (distanceIn (indexIn l) query) (distanceIn (indexIn left) query)
