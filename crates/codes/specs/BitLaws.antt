@@ -26,6 +26,11 @@ binary-drop zero h = h
 binary-drop (suc n) none = none
 binary-drop (suc n) (more x h) = binary-drop n h
 
+pub binary-take : (n : ℕ) {bits : List ℕ} → Binary bits → Binary (take n bits)
+binary-take zero h = none
+binary-take (suc n) none = none
+binary-take (suc n) (more x h) = more x (binary-take n h)
+
 pub binary-append : {one other : List ℕ} → Binary one → Binary other → Binary (one ++ other)
 binary-append none h = h
 binary-append (more x g) h = more x (binary-append g h)
@@ -162,6 +167,13 @@ padded-long zero (x ∷ bits) h = absurd (omega arith)
 padded-long (suc w) [] h = rw (padded-long w [] zero-le, sub-zero, sub-zero)
 padded-long (suc w) (x ∷ bits) h = rw (padded-long w bits (le-of-suc-le-suc h), suc-sub-suc)
 
+-- of a list that has so many
+pub padded-take : (w : ℕ) (bits : List ℕ) → w ≤ length bits → padded w bits ≡ take w bits
+unfolding padded
+padded-take zero bits h = refl
+padded-take (suc w) [] h = absurd (omega arith)
+padded-take (suc w) (x ∷ bits) h = ap (λ (r : List ℕ). x ∷ r) (padded-take w bits (le-of-suc-le-suc h))
+
 zero-at : (bits : List ℕ) → allZero bits ≡ true → Same [] bits
 unfolding allZero
 zero-at [] zeros i = refl
@@ -221,6 +233,11 @@ unfolding byteBits bytesOf padded
 bits-bytes zero h = refl
 bits-bytes (suc count) {bits} h =
     rw (low-from 8 h, bits-bytes count (binary-drop 8 h), suc-mul count 8, add-comm (count * 8) 8) (sym (padded-add 8 (count * 8) bits))
+
+-- where there is room for all they are the bits, and then zeros
+pub bits-then-zeros : (count : ℕ) {bits : List ℕ} → Binary bits → length bits ≤ count * 8
+    → byteBits (bytesOf count bits) ≡ bits ++ replicate (count * 8 - length bits) 0
+bits-then-zeros count {bits} h room = bits-bytes count h ∙ padded-long (count * 8) bits room
 
 -- and bytes as bits
 pub bytes-bits : (bytes : List ℕ) → Bytes bytes → bytesOf (length bytes) (byteBits bytes) ≡ bytes

@@ -23,7 +23,7 @@ use Rattle.codes.specs.Codes.{nextColumn, joined, regionsFit, codeLength
 -- ---- region numbers joined, and split again
 
 module _ (d b : ℕ) where
-  binary-joined : (t : ℕ) (regions : List ℕ) → Binary (joined d b t regions)
+  pub binary-joined : (t : ℕ) (regions : List ℕ) → Binary (joined d b t regions)
   unfolding joined
   binary-joined t [] = none
   binary-joined t (r ∷ rs) = binary-append (binary-low (bitsOf d b (suc t)) r) (binary-joined (nextColumn d t) rs)
@@ -141,6 +141,21 @@ module _ (d b : ℕ) (some : 0 < d) where
         before-place n 0 some,
       ) at (length-from 0 regions) in
       all ∙ add-zero (n * b)
+
+  -- numbers behind others go on in the column where these end
+  joined-append : (p : ℕ) (front back : List ℕ)
+      → joined d b (p % d) (front ++ back) ≡ joined d b (p % d) front ++ joined d b ((p + length front) % d) back
+  unfolding joined
+  joined-append p [] back = rw add-zero
+  joined-append p (r ∷ rs) back =
+      rw (next-column p, joined-append (suc p) rs back, add-suc p (length rs), ← suc-add p (length rs))
+      (sym (append-assoc (lowBits (bitsOf d b (suc (p % d))) r) (joined d b (suc p % d) rs) (joined d b ((suc p + length rs) % d) back)))
+
+  -- behind whole rows they are joined from the first column on
+  pub joined-rows : (n : ℕ) (front back : List ℕ) → length front ≡ n * d
+      → joined d b 0 (front ++ back) ≡ joined d b 0 front ++ joined d b 0 back
+  joined-rows n front back rows =
+      rw (zero-mod d, zero-add (length front), rows, mul-mod-left n d) at (joined-append 0 front back)
 
 -- ---- packed and unpacked
 

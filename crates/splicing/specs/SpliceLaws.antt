@@ -28,7 +28,7 @@ from-append (suc u) v (x ∷ front) rest size =
     rw (suc-add u v, from-append u v front rest tail, pow-add 2 u v) (omega (arith, mul-assoc x (2 ^ u) (2 ^ v)))
 
 -- bits behind the first do not count
-from-take : (w : ℕ) (bits : List ℕ) → fromBits w (take w bits) ≡ fromBits w bits
+pub from-take : (w : ℕ) (bits : List ℕ) → fromBits w (take w bits) ≡ fromBits w bits
 unfolding fromBits
 from-take zero bits = refl
 from-take (suc w) [] = refl
