@@ -1,5 +1,5 @@
 // What can still be read once the first k have been read.
-use best_pairs::comes_before;
+use best_pairs::is_candidate;
 ghost use mathlib.Core.Path.{_≡_};
 ghost use mathlib.Core.List.{_++_, map};
 ghost use Prim.Native.Nat.{_+_, _-_, _≤_};
@@ -107,21 +107,4 @@ fn gather(
         }
     }
     count
-}
-
-// Whether a pair is below the bound and behind the last.
-fn is_candidate(
-    last: u64,
-    last_number: u32,
-    bound: u64,
-    bound_number: u32,
-    low: u64,
-    number: u32,
-) -> bool
-    ensures { λ r. ⌜ r ≡ isCandidate (pair last «last_number») (pair bound «bound_number») (pair low number) ⌝ }
-{
-    if !comes_before(low, number, bound, bound_number) {
-        return false;
-    }
-    comes_before(last, last_number, low, number)
 }
