@@ -1,5 +1,5 @@
 -- Laws of bits of bytes that are spliced: bytes of the front as they are, one byte at the seam, and the rest shifted. Assumes nothing.
-use mathlib.Core.Path.{_≡_, refl, sym, ap, ap₂, _∙_}
+use mathlib.Core.Path.{_≡_, refl, sym, ap, _∙_}
 use mathlib.Core.Bool.{Bool, true, false, cond}
 use mathlib.Core.List.{List, [], _∷_, _++_, append-assoc, append-nil}
 use Prim.Native.Nat.{ℕ, zero, suc, _+_, _-_, _*_, _/_, _%_, _^_, _≤_, _<_}
@@ -14,7 +14,7 @@ use lib.Pow.{pow-add}
 use lib.Seq.{drop-at, drop-drop, take-add, take-at, take-take, take-all, length-take-le, take-nil, take-suc-set, append-snoc}
 use Rattle.codes.specs.Bits.{lowBits, fromBits, bytesOf, byteBits}
 use Rattle.codes.specs.BitLaws.{Bytes, length-low, from-low, from-lt, length-byte-bits, binary-drop, binary-bytes}
-use Rattle.splicing.specs.Splice.{spliced, splicedBytes}
+use Rattle.splicing.specs.Splice.{splicedBytes}
 
 -- the number of the bits of one list and then of another
 from-append : (u v : ℕ) (front rest : List ℕ) → length front ≡ u

@@ -6,9 +6,9 @@ ghost use mathlib.Core.Bool.{cond};
 ghost use mathlib.Core.List.{_++_};
 ghost use Prim.Native.Nat.{_+_, _-_, _*_, _/_, _%_, _^_, _≤_, _<_};
 ghost use lib.Dec.{ltb};
-ghost use lib.ListN.{length, getD, take, drop};
+ghost use lib.ListN.{length, take, drop};
 ghost use Rattle.codes.specs.Bits.{fromBits, bytesOf, byteBits};
-ghost use Rattle.splicing.specs.Splice.{spliced, splicedBytes};
+ghost use Rattle.splicing.specs.Splice.{splicedBytes};
 
 // Fills a buffer with the first p bits of one slice, then with those of another from bit q on, then with zeros.
 pub fn splice(front: &[u8], p: usize, back: &[u8], q: usize, out: &mut [u8])

@@ -1,22 +1,22 @@
 // A vector added to a library, or one removed from it, with the marks kept (document 02, Slip 3). The old library is only read; the new
 // one's vectors, settings and codes fill buffers of their own.
 mod copying;
+mod place;
 
 use crate::copying::append_components;
 use crate::copying::append_setting;
 use crate::copying::cut_components;
 use crate::copying::cut_settings;
+use crate::place::check_place;
+use approximation::pack_vectors;
 use limits::MAX_DIMENSION_BITS;
 use limits::MAX_DIMENSIONS;
-use limits::MAX_VECTORS;
-use approximation::pack_vectors;
 use refusal::Refusal;
 use refusal::Verdict;
 use signed::components::are_components;
 use splicing::splice;
 ghost use mathlib.Core.Path.{_≡_};
 ghost use mathlib.Core.Bool.{true, _&&_};
-ghost use mathlib.Core.List.{[]};
 ghost use Prim.Native.Nat.{suc, _≤_, _<_};
 ghost use lib.Dec.{ltb};
 ghost use lib.ListN.{length};
@@ -79,7 +79,11 @@ pub fn add(
         × (now («new_settings» .exit) ≡ outcome v (after .settings) (λ _. now («new_settings» .entry)))
         × (now («new_codes» .exit) ≡ outcome v (after .codes) (λ _. now («new_codes» .entry))) ⌝ }
 {
-    let room = Lengths { vectors: new_vectors.len(), settings: new_settings.len(), codes: new_codes.len() };
+    let room = Lengths {
+        vectors: new_vectors.len(),
+        settings: new_settings.len(),
+        codes: new_codes.len(),
+    };
     match check_add(terms, marks, codes, settings, vectors, vector, room) {
         Verdict::Accepted => {
             append_components(vectors, vector, new_vectors);
@@ -113,7 +117,11 @@ pub fn remove(
         × (now («new_settings» .exit) ≡ outcome v (after .settings) (λ _. now («new_settings» .entry)))
         × (now («new_codes» .exit) ≡ outcome v (after .codes) (λ _. now («new_codes» .entry))) ⌝ }
 {
-    let room = Lengths { vectors: new_vectors.len(), settings: new_settings.len(), codes: new_codes.len() };
+    let room = Lengths {
+        vectors: new_vectors.len(),
+        settings: new_settings.len(),
+        codes: new_codes.len(),
+    };
     match check_remove(terms, marks, codes, settings, vectors, room) {
         Verdict::Accepted => {
             cut_components(vectors, terms.d, terms.number, new_vectors);
@@ -141,19 +149,21 @@ fn check_add(
     let d = terms.d;
     let b = terms.b;
     let n = terms.n;
-    let own = Lengths { vectors: vectors.len(), settings: settings.len(), codes: codes.len() };
+    let own = Lengths {
+        vectors: vectors.len(),
+        settings: settings.len(),
+        codes: codes.len(),
+    };
     match check_library(d, b, n, marks.len(), own) {
         Verdict::Accepted => {
             if vector.len() != d {
                 return Verdict::Refused(Refusal::Length);
             }
-            if !are_exact(d, b, n + 1, room.vectors, room.settings, room.codes) {
-                return Verdict::Refused(Refusal::Length);
+            let exact = are_exact(d, b, n + 1, room.vectors, room.settings, room.codes);
+            match check_place(exact, n) {
+                Verdict::Accepted => check_contents(d, b, n, marks, codes, vectors, vector),
+                Verdict::Refused(cause) => Verdict::Refused(cause),
             }
-            if n == MAX_VECTORS {
-                return Verdict::Refused(Refusal::Full);
-            }
-            check_contents(d, b, n, marks, codes, vectors, vector)
         }
         Verdict::Refused(cause) => Verdict::Refused(cause),
     }
@@ -174,7 +184,11 @@ fn check_remove(
     let d = terms.d;
     let b = terms.b;
     let n = terms.n;
-    let own = Lengths { vectors: vectors.len(), settings: settings.len(), codes: codes.len() };
+    let own = Lengths {
+        vectors: vectors.len(),
+        settings: settings.len(),
+        codes: codes.len(),
+    };
     match check_library(d, b, n, marks.len(), own) {
         Verdict::Accepted => {
             if !are_exact(d, b, n - 1, room.vectors, room.settings, room.codes) {
@@ -277,7 +291,6 @@ fn cut_code(terms: Removal, codes: &[u8], new_codes: &mut [u8])
     requires { ⌜ Cuts (terms .d) (terms .b) (terms .n) (now codes) (terms .number) (length (now «new_codes»)) ⌝ }
     ensures { λ _. ⌜ now («new_codes» .exit) ≡ removedCodes (terms .b) (terms .n) (now (codes .entry)) (terms .number) ⌝ }
 {
-    let b = terms.b;
-    let number = terms.number;
-    splice(codes, number * b, codes, (number + 1) * b, new_codes);
+    let start = terms.number * terms.b;
+    splice(codes, start, codes, start + terms.b, new_codes);
 }

@@ -6,7 +6,7 @@ use native.Mathlib.Nat.{zero-add}
 use native.Mathlib.Numerals.{add-one}
 use native.Mathlib.Omega.{arith}
 use lib.ListN.{length, getD, take, drop, set, length-set}
-use lib.Seq.{paste-suc, length-paste}
+use lib.Seq.{paste-suc}
 use Rattle.splicing.proofs.copy.Statement.{statement}
 use Rattle.splicing.proofs.copy.Tie as tie
 

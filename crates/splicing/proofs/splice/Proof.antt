@@ -1,16 +1,11 @@
 -- `splice` meets its contract: bytes of the front, the byte at the seam, and the rest shifted. Assumes nothing.
-use mathlib.Core.Path.{_≡_, refl, sym, ap, _∙_}
-use mathlib.Core.List.{List, [], _∷_, _++_, append-assoc, append-nil}
-use Prim.Native.Nat.{ℕ, suc, _+_, _-_, _*_, _/_, _%_, _^_, _≤_, _<_}
-use native.Mathlib.Numerals.{add-one}
+use mathlib.Core.Path.{_≡_, _∙_}
+use Prim.Native.Nat.{ℕ, _+_, _-_, _*_, _/_, _%_, _<_}
 use native.Mathlib.Omega.{arith}
 use borrow.Author.Needs.{needs}
-use lib.ListN.{length, take, drop, set, length-set, length-append, length-drop, drop-of-length-le}
-use lib.Seq.{take-suc-set, take-at, length-take-le}
-use Rattle.codes.specs.Bits.{bytesOf, byteBits}
+use lib.ListN.{length, length-set}
 use Rattle.codes.specs.BitLaws.{Bytes}
 use Rattle.splicing.specs.SpliceLaws.{Cut, cut, seam-small, filled-short, filled-long}
-use Rattle.splicing.specs.Splice.{splicedBytes}
 use Rattle.splicing.proofs.splice.Statement.{statement}
 use Rattle.splicing.proofs.splice.Tie as tie
 

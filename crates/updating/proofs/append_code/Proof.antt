@@ -1,13 +1,10 @@
 -- `append_code` meets its contract: the vector's code is made by itself, and its bits are put behind the others'. Assumes nothing.
-use mathlib.Core.Path.{_≡_, sym, ap, _∙_}
-use Prim.Native.Nat.{ℕ, suc, _*_, _≤_}
+use mathlib.Core.Path.{_≡_, sym, _∙_}
 use native.Mathlib.Nat.{one-mul}
 use native.Mathlib.Omega.{arith}
 use borrow.Author.Needs.{needs}
-use lib.ListN.{length, take}
 use lib.Seq.{length-take-le}
 use Rattle.refusal.specs.First.{outcome-accepted}
-use Rattle.limits.specs.Limits.{maxDimensions, maxDimensionBits, maxVectors}
 use Rattle.layout.specs.Layout.{codeLength}
 use Rattle.layout.specs.Stretch.{shape, codes-bits-le, codes-length-is}
 use Rattle.order.proofs.Prefix.{back-within, shared-is}

@@ -1,7 +1,7 @@
 -- `check_add` meets its contract: the tests in their order. Assumes nothing.
 use mathlib.Core.Path.{_≡_, sym, ap, _∙_}
 use mathlib.Core.Bool.{Bool, not, _&&_}
-use mathlib.Core.List.{List, _∷_, _++_}
+use mathlib.Core.List.{List, [], _∷_, _++_}
 use Prim.Native.Nat.{suc, _+_}
 use native.Mathlib.Numerals.{add-one}
 use native.Mathlib.Omega.{arith}
@@ -11,7 +11,7 @@ use lib.Dec.{eqb}
 use lib.ListN.{length}
 use Rattle.refusal.specs.declared.Refusal.the-variants.{Length, Full}
 use Rattle.refusal.specs.declared.Verdict.the-variants.{Accepted}
-use Rattle.refusal.specs.First.{Row, first, outcome-accepted, outcome-refused, first-append, first-here, first-next, told}
+use Rattle.refusal.specs.First.{Row, _⇒_, first, outcome-accepted, outcome-refused, first-append, first-here, told}
 use Rattle.limits.specs.Limits.{maxVectors}
 use Rattle.limits.specs.Tests.{between}
 use Rattle.layout.specs.Stretch.{shape}
@@ -66,30 +66,39 @@ returns c =
     sym (left (c .before) _ ∙ first-here Length _
     (ap (λ (t : Bool). not (t && room-is start)) (ne-eqb (length (start .args .vector .now)) (library start .d) (c .if1 .taken))))
 
+-- The rows of the lengths and of the limit are those that are tested together.
+abbrev places : tie.Start → List Row
+places c =
+    (not (eqb (length (c .args .vector .now)) (library c .d) && room-is c) ⇒ Length) ∷ (eqb (library c .n) maxVectors ⇒ Full) ∷ []
+
+placed : (c : tie.After-check-place) → c .check-place .result ≡ first (places (start-of (c .before .before .before)))
+placed c =
+    let n = library (start-of (c .before .before .before)) .n in
+    c .check-place .ensures ∙ ap (λ (t : Bool). first ((not t ⇒ Length) ∷ (eqb n maxVectors ⇒ Full) ∷ [])) (exact (c .before))
+
 returns-2 : tie.Need-returns-2
-returns-2 c = sym (left (c .before .before .before) _ ∙ first-here Length _ (told (exact (c .before)) (c .if2 .taken)))
+returns-2 c =
+    let place = c .before .before .before in
+    let here = place .before .before .before in
+    c .check-contents .ensures
+    ∙ sym (left here _ ∙ first-append (places (start-of here)) _
+    ∙ outcome-accepted _ _ (sym (placed place) ∙ c .before .enum-told2 .given .1))
 
 returns-3 : tie.Need-returns-3
 returns-3 c =
-    let made = c .before .before in
-    sym (left (made .before .before) _ ∙ first-next Length _ (told (exact made) (c .before .if2 .left))
-    ∙ first-here Full _ (eq-eqb _ maxVectors (c .if3 .taken)))
+    let place = c .before .before .before in
+    let here = place .before .before .before in
+    sym (left here _ ∙ first-append (places (start-of here)) _
+    ∙ outcome-refused _ _ (sym (placed place) ∙ c .before .cause .given .1))
 
 returns-4 : tie.Need-returns-4
 returns-4 c =
-    let made = c .before .before .before in
-    c .check-contents .ensures
-    ∙ sym (left (made .before .before) _ ∙ first-next Length _ (told (exact made) (c .before .before .if2 .left))
-    ∙ first-next Full _ (ne-eqb _ maxVectors (c .before .if3 .left)))
-
-returns-5 : tie.Need-returns-5
-returns-5 c =
     sym (first-append (front (c .before .before .before .before .before .before)) _
-    ∙ outcome-refused _ _ (sym (c .before .before .before .check-library .ensures) ∙ c .before .cause .given .1))
+    ∙ outcome-refused _ _ (sym (c .before .before .before .check-library .ensures) ∙ c .before .cause2 .given .1))
 
 check-contents-requires : tie.Need-check-contents-requires
 check-contents-requires c κs =
-    let is = sizes (c .before .before .before .before) in
+    let is = sizes (c .before .before .before .before .before) in
     (is .shaped, is .counted, is .of-marks, is .exact .of-codes)
 
 pub check-add-spec : {M : Type 1} → statement M
@@ -103,9 +112,11 @@ check-add-spec =
     let is = sizes (c .before) in
     omega (arith, between 1 (library (start-of (c .before)) .n) maxVectors (is .counted) .below))
     are-exact-requires
-    returns-2
-    returns-3
+    (λ c κs. search needs)
+    (λ c. search needs)
     check-contents-requires
     (λ c. search needs)
-    returns-4
-    returns-5)
+    (λ c. search needs)
+    returns-2
+    returns-3
+    returns-4)

@@ -1,8 +1,7 @@
 -- `copying::append_setting` meets its contract: the settings and the one behind them fill the buffer. Assumes nothing.
-use mathlib.Core.Path.{_≡_}
 use native.Mathlib.Omega.{arith}
 use borrow.Author.Needs.{needs}
-use lib.ListN.{length, length-set}
+use lib.ListN.{length-set}
 use Rattle.updating.proofs.Pasting.{paste-one}
 use Rattle.updating.proofs.copying.append_setting.Statement.{statement}
 use Rattle.updating.proofs.copying.append_setting.Tie as tie

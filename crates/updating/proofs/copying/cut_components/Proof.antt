@@ -4,7 +4,7 @@ use Prim.Native.Nat.{suc, _+_, _-_, _*_, _≤_}
 use native.Mathlib.Nat.{suc-mul}
 use native.Mathlib.Omega.{arith}
 use borrow.Author.Needs.{needs}
-use lib.ListN.{length, take, drop}
+use lib.ListN.{length, take}
 use lib.Seq.{length-take-le}
 use Rattle.updating.proofs.Pasting.{rest-length, paste-cut}
 use Rattle.updating.proofs.copying.cut_components.Statement.{statement}

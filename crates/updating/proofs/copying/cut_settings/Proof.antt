@@ -5,7 +5,7 @@ use native.Mathlib.Nat.{mul-one}
 use native.Mathlib.Numerals.{add-one}
 use native.Mathlib.Omega.{arith}
 use borrow.Author.Needs.{needs}
-use lib.ListN.{length, take, drop}
+use lib.ListN.{length, take}
 use lib.Seq.{length-take-le}
 use Rattle.updating.proofs.Pasting.{rest-length, paste-cut}
 use Rattle.updating.proofs.copying.cut_settings.Statement.{statement}
