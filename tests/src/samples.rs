@@ -28,6 +28,8 @@ pub fn input(d: usize, b: usize, marks: &[i32], vectors: &[i32], query: &[i32], 
     let codes = reference::packed(d, b, &regions);
     let one = One {
         vector: vectors[..d].to_vec(),
+        setting: 100,
+        number: 0,
         marks: marks[parts[0].clone()].to_vec(),
         regions: parts[0].len() - 1,
         value: vectors[0],
@@ -41,6 +43,9 @@ pub fn input(d: usize, b: usize, marks: &[i32], vectors: &[i32], query: &[i32], 
         lowers: n,
         uppers: n,
         bytes: reference::bytes_length(d, b, n),
+        new_vectors: 0,
+        new_settings: 0,
+        new_codes: 0,
     };
     Input {
         origin: String::new(),
@@ -88,8 +93,30 @@ impl Input {
             regions: part.len() - 1,
             marks: self.marks[part].to_vec(),
             value: self.vectors[i * self.d + j - 1],
+            ..self.one
         };
         self.j = j;
+        self
+    }
+
+    /// The same with a vector to add, its settings number, and the room for it.
+    pub fn to_add(mut self, vector: &[i32], setting: u32) -> Input {
+        (self.one.vector, self.one.setting) = (vector.to_vec(), setting);
+        let count = self.n + 1;
+        self.with_new_room(count)
+    }
+
+    /// The same with the number of a vector to remove, and the room for the others.
+    pub fn to_remove(mut self, number: usize) -> Input {
+        self.one.number = number;
+        let count = self.n - 1;
+        self.with_new_room(count)
+    }
+
+    /// The same with room for a library of so many vectors.
+    fn with_new_room(mut self, count: usize) -> Input {
+        let codes = reference::codes_length(count, self.b);
+        (self.room.new_vectors, self.room.new_settings, self.room.new_codes) = (count * self.d, count, codes);
         self
     }
 

@@ -46,7 +46,7 @@ fn no_refusal_has_another_number() {
     let rows =
         source.lines().filter_map(|line| line.trim().strip_prefix("Refusal::")?.strip_suffix(',')?.split_once(" => "));
     let numbers: Vec<String> = rows.map(|(name, number)| format!("`{name}` {number}")).collect();
-    assert_eq!(numbers.len(), 19);
+    assert_eq!(numbers.len(), 21);
     assert_eq!(numbered(told), numbers, "docs/FORMAT.md, and crates/refusal");
 }
 
