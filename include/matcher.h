@@ -93,7 +93,10 @@ enum matcher_refusal {
 
 #define MATCHER_FULL_WORD(d) ((uint32_t)0xFFFFFFFF >> (MATCHER_MAX_DIMENSIONS - (d)))
 
-/* ---- lengths, in elements. Counts are within the limits; an argument is evaluated more than once. */
+/*
+ * ---- lengths, in elements. Counts are within the limits, and n may be one off them, 0 or 513, as it is where a vector
+ * is added or removed; an argument is evaluated more than once.
+ */
 
 #define MATCHER_MARKS(d, b) ((d) + ((d) + (b) % (d)) * ((size_t)1 << (b) / (d)))
 #define MATCHER_CODES(b, n) (((size_t)(n) * (b) + 7) / 8)
