@@ -49,6 +49,9 @@ static struct stock {
 /* A file, with room for one byte too many. */
 static uint8_t bytes[MATCHER_MAX_LIBRARY + 1];
 
+/* The old file, as the system has it: what it is, and who may read and write it. */
+static struct stat old_file;
+
 /* The new file: its name, and whether it is there. */
 static char new_name[FILENAME_MAX];
 static FILE *new_file;
@@ -98,9 +101,13 @@ static void check(uint32_t number, const char *name)
     end(1);
 }
 
-/* Makes the new file, which must not be there. */
+/* Makes the new file, which must not be there. The old one is no link: the new one would take the link's place alone. */
 static void begin(const char *library)
 {
+    if (lstat(library, &old_file) != 0)
+        fail(library, strerror(errno));
+    if (!S_ISREG(old_file.st_mode))
+        fail(library, "no plain file");
     int length = snprintf(new_name, sizeof new_name, "%s.new", library);
     if (length < 0 || (size_t)length >= sizeof new_name)
         fail(library, "the name is too long");
@@ -164,15 +171,12 @@ static void take_out(const char *library, size_t number)
 /* Writes the new file, with the permissions of the old one, sees it on the disk, and renames it over the old one. */
 static void replace(const char *library)
 {
-    struct stat status;
     size_t length = MATCHER_LIBRARY(d, b, after.n);
     check(matcher_write(d, b, after.n, marks, MATCHER_MARKS(d, b), after.settings, after.n, after.vectors,
                         after.n * d, bytes, length),
           library);
-    if (stat(library, &status) != 0)
-        fail(library, strerror(errno));
     if (fwrite(bytes, 1, length, new_file) != length || fflush(new_file) != 0
-        || fchmod(fileno(new_file), status.st_mode & (S_IRWXU | S_IRWXG | S_IRWXO)) != 0
+        || fchmod(fileno(new_file), old_file.st_mode & (S_IRWXU | S_IRWXG | S_IRWXO)) != 0
         || fsync(fileno(new_file)) != 0 || fclose(new_file) != 0 || rename(new_name, library) != 0)
         fail(new_name, strerror(errno));
     begun = 0;

@@ -3,9 +3,12 @@
 
 use std::{
     fs,
-    os::unix::{fs::PermissionsExt, process::ExitStatusExt},
+    os::unix::{
+        fs::{symlink, PermissionsExt},
+        process::ExitStatusExt,
+    },
     path::{Path, PathBuf},
-    process::{Command, Output, Stdio},
+    process::{Command, Output},
     sync::LazyLock,
 };
 use tests::{
@@ -273,6 +276,8 @@ fn no_other_fault_passes() {
     yard.assert_kept(&["add", "library", "nowhere", "7"], 2, "");
     yard.assert_kept(&["add", "library", ".", "7"], 2, "");
     yard.assert_kept(&["remove", ".", "0"], 2, "");
+    symlink("library", yard.path("link")).expect("a link can be made");
+    yard.assert_kept(&["remove", "link", "0"], 2, "");
 
     let trailing = Yard::new("fault", &[&library[..], &[0]].concat(), &query);
     trailing.assert_kept(&ADD, 2, "");
@@ -290,18 +295,13 @@ fn no_run_comes_between_another() {
     assert_eq!(fs::read(yard.path("library.new")).expect("it is there"), b"another's");
 }
 
-/// No file can be made beside an open one in /proc, by whomever.
+/// Beside a plain file in /proc nobody can make another.
 #[test]
 fn no_folder_that_cannot_be_written_is_passed_over() {
-    let Match { library, query, .. } = Match::of(&sample("a.match"));
-    let yard = Yard::new("folder", &library, &query);
-    let file = fs::File::open(yard.path("library")).expect("the library can be read");
-    let mut command = Command::new(&*YARD);
-    command.args(["remove", "/proc/self/fd/0", "0"]).stdin(Stdio::from(file));
-    let output = command.output().expect("the example runs");
+    let yard = Yard::new("folder", &[], &[]);
+    let output = yard.run(&["remove", "/proc/self/environ", "0"]);
     assert_eq!((output.status.code(), &c::text(&output)[..]), (Some(2), ""), "{output:?}");
-    assert!(String::from_utf8_lossy(&output.stderr).contains("/proc/self/fd/0.new"), "{output:?}");
-    assert_eq!((yard.library(), yard.files().len()), (library, 2));
+    assert!(String::from_utf8_lossy(&output.stderr).contains("/proc/self/environ.new"), "{output:?}");
 }
 
 /// A file may be no longer than one block: the new library does not fit. The write fails, or ends the run, if the shell
