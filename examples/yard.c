@@ -101,7 +101,7 @@ static void check(uint32_t number, const char *name)
     end(1);
 }
 
-/* Makes the new file, which must not be there. The old one is no link: the new one would take the link's place alone. */
+/* Makes the new file, which must not be there. The old one is no link: the new one would only take the link's place. */
 static void begin(const char *library)
 {
     if (lstat(library, &old_file) != 0)

@@ -151,9 +151,6 @@ impl Faults {
     }
 }
 
-/// Not seen in a count's low 32 bits.
-const WIDE: usize = 1 << 32;
-
 /// Numbers that are no components.
 const NO_COMPONENTS: [i32; 4] = [LEAST - 1, GREATEST + 1, i32::MIN, i32::MAX];
 
@@ -166,6 +163,8 @@ fn ends(count: usize) -> Vec<usize> {
 
 /// Faults of an input that is right: each has its cause, whatever faults of later causes there are besides.
 fn faults(input: &Input) -> Vec<Fault> {
+    // not seen in a count's low 32 bits
+    const WIDE: usize = 1 << 32;
     let mut faults = Faults(vec![]);
     let Input { d, b, n, k, j, .. } = *input;
 
