@@ -1,7 +1,7 @@
 //! Inputs that no call refuses: document 01's own, and random ones.
 
 use crate::{
-    input::{Input, One, Room},
+    input::{Input, Loaded, One, Room},
     random::Random,
     reference,
 };
@@ -321,6 +321,33 @@ pub fn small_marks_of_more_dimensions(random: &mut Random) -> (usize, usize, Vec
 pub fn vector_inside(random: &mut Random, d: usize, b: usize, marks: &[i32]) -> Vec<i32> {
     let mut component = |part: Range<usize>| random.between(marks[part.start], marks[part.end - 1] - 1);
     reference::parts(d, b).into_iter().map(&mut component).collect()
+}
+
+/// The same vector with a component or more outside the marks, just so or anywhere: marks that end before the ends of the
+/// scale.
+pub fn vector_outside(random: &mut Random, d: usize, b: usize, marks: &[i32], inside: &[i32]) -> Vec<i32> {
+    let mut vector = inside.to_vec();
+    for _ in 0..random.one_of(&[1, 1, d]) {
+        let dimension = random.below(d);
+        let part = reference::parts(d, b)[dimension].clone();
+        let (first, last) = (marks[part.start], marks[part.end - 1]);
+        let (below, above) = (random.between(LEAST, first - 1), random.between(last, GREATEST));
+        vector[dimension] = random.one_of(&[first - 1, last, below, above]);
+    }
+    vector
+}
+
+/// What loading gives of a library that was written.
+pub fn library_of(input: &Input) -> Loaded {
+    Loaded {
+        d: input.d,
+        b: input.b,
+        n: input.n,
+        marks: input.marks.clone(),
+        settings: input.settings.clone(),
+        components: input.vectors.clone(),
+        used: input.room.bytes,
+    }
 }
 
 /// The bytes of an input's library.

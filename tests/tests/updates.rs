@@ -9,8 +9,8 @@ use tests::{
     random::Random,
     reference,
     samples::{
-        self, component, file, library_a, random_input, random_of_shape, random_query, random_vectors, random_word,
-        shapes, small_inputs, vector_inside, GREATEST, LEAST,
+        self, component, file, library_a, library_of, random_input, random_of_shape, random_query, random_vectors,
+        random_word, shapes, small_inputs, vector_inside, vector_outside, GREATEST, LEAST,
     },
 };
 
@@ -75,20 +75,12 @@ fn changed(random: &mut Random, library: &Input, adds: bool) -> Input {
 
 /// A library is written, loads to the same with the marks that it had, and is searched to the scan's answer.
 fn assert_serves(random: &mut Random, library: &Input) {
-    let &Input { d, b, n, ref marks, ref settings, ref vectors, .. } = library;
+    let &Input { d, b, n, ref marks, ref vectors, .. } = library;
     WRITE.gives(0, library);
     let bytes = interface::write(library).expect("the library is right");
-    let loaded = Loaded {
-        d,
-        b,
-        n,
-        marks: marks.clone(),
-        settings: settings.clone(),
-        components: vectors.clone(),
-        used: bytes.len(),
-    };
     let _told = library.told();
-    assert_eq!(interface::load(&bytes, LoadRoom::LARGEST), Ok(loaded), "what was written is on the right");
+    let loaded = interface::load(&bytes, LoadRoom::LARGEST);
+    assert_eq!(loaded, Ok(library_of(library)), "what was written is on the right");
     let (k, word) = (1 + random.below(n.min(10)), random_word(random, d));
     let query = random_query(random, d, b, vectors, marks);
     let input = library.clone().with_k(k).with_word(word).with_query(&query);
@@ -308,7 +300,7 @@ fn no_byte_of_the_codes_is_misread() {
 // ---- inside and outside the marks
 
 /// "Show that 8 never occurs in adding to a library whose outer marks are those of Slip 2": every component there is, in
-/// marks made from one vector or more.
+/// marks made from three vectors.
 #[test]
 fn no_component_lies_outside_made_marks() {
     let mut random = Random::new(203);
@@ -327,10 +319,10 @@ fn no_component_lies_outside_made_marks() {
 
 /// Marks from end to end of the scale, drawn anyhow between, with equal ones.
 fn marks_of_the_scale(random: &mut Random, d: usize, b: usize) -> Vec<i32> {
-    let values: Vec<i32> = (0..4).map(|_| component(random)).collect();
+    let [x, y] = [component(random), component(random)];
     let mut mark = |_| {
         let any = random.between(LEAST, GREATEST + 1);
-        random.one_of(&[any, any, values[0], values[1], LEAST, GREATEST + 1])
+        random.one_of(&[any, any, x, y, LEAST, GREATEST + 1])
     };
     let mut dimension = |regions: usize| {
         let mut marks: Vec<i32> = (1..regions).map(&mut mark).collect();
@@ -373,21 +365,14 @@ fn no_vector_outside_former_marks_is_added() {
         let (d, n) = (1 + random.below(8), 1 + random.below(20));
         let b = random.below(6 * d + 1);
         let small: Vec<i32> = (0..n * d).map(|_| random.between(-400, 400)).collect();
-        let former = samples::input(d, b, &reference::former_marks(d, b, &small), &small, &vec![0; d], 1);
-        let loaded = interface::load(&file(&former), LoadRoom::LARGEST).expect("the file is right");
-        assert_eq!(loaded.marks, former.marks, "case {case}");
-        let library = former.from(format!("case {case}"));
+        let written = samples::input(d, b, &reference::former_marks(d, b, &small), &small, &vec![0; d], 1);
+        let Loaded { marks, .. } = interface::load(&file(&written), LoadRoom::LARGEST).expect("the file is right");
+        let library = Input { marks, ..written }.from(format!("case {case}"));
 
-        let mut vector = vector_inside(&mut random, d, b, &loaded.marks);
-        added(&library, &vector, 7);
-        for _ in 0..random.one_of(&[1, 1, d]) {
-            let dimension = random.below(d);
-            let part = reference::parts(d, b)[dimension].clone();
-            let (first, last) = (loaded.marks[part.start], loaded.marks[part.end - 1]);
-            let (below, above) = (random.between(LEAST, first - 1), random.between(last, GREATEST));
-            vector[dimension] = random.one_of(&[first - 1, last, below, above]);
-        }
-        ADD.gives(8, &library.to_add(&vector, 7));
+        let inside = vector_inside(&mut random, d, b, &library.marks);
+        added(&library, &inside, 7);
+        let outside = vector_outside(&mut random, d, b, &library.marks, &inside);
+        ADD.gives(8, &library.to_add(&outside, 7));
     }
 }
 
