@@ -1,10 +1,10 @@
 -- The codes of vectors are the vectors' own, own codes name no empty region, and there are no other own codes. Assumes nothing.
 use mathlib.Core.Path.{_≡_, refl, sym, ap, _∙_}
-use mathlib.Core.Bool.{true, and-eq-true-iff}
-use mathlib.Core.List.{List, [], _∷_}
+use mathlib.Core.Bool.{true, _&&_, and-assoc, and-eq-true-iff}
+use mathlib.Core.List.{List, [], _∷_, _++_}
 use Prim.Native.Nat.{ℕ, zero, suc, _+_, _*_, _/_, _%_, _≤_, _<_}
 use native.Mathlib.Nat.{zero-add, add-zero, add-suc, suc-add, zero-mod, suc-mul, mul-le-mul-right, le-of-suc-le-suc}
-use native.Mathlib.Nat.{mod-lt, div-lt-iff-lt-mul, div-add-mod'}
+use native.Mathlib.Nat.{mod-lt, mul-mod-left, div-lt-iff-lt-mul, div-add-mod'}
 use native.Mathlib.Omega.{arith}
 use borrow.Author.Tests.{lt-ltb}
 use lib.Arith.{digits-lt, digits-mod}
@@ -69,6 +69,35 @@ located : (d b : ℕ) → 0 < d → (marks vectors : List ℤ) (i t : ℕ) → i
     → getD (vectorRegions d b marks vectors) (i * d + t) 0 ≡ regionOf (dimensionMarks d b marks (suc t)) (getD vectors (i * d + t) (pos 0))
 located d b some marks vectors i t here column =
     rw (zero-mod d, zero-add (i * d + t), digits-mod i column) at (region-at d b some marks 0 (i * d + t) vectors here)
+
+-- Components behind others go on in the column where these end, ..
+regions-append : (d b : ℕ) → 0 < d → (marks : List ℤ) (p : ℕ) (front back : List ℤ)
+    → regionsFrom d b marks (p % d) (front ++ back)
+    ≡ regionsFrom d b marks (p % d) front ++ regionsFrom d b marks ((p + length front) % d) back
+unfolding regionsFrom
+regions-append d b some marks p [] back = rw add-zero
+regions-append d b some marks p (z ∷ zs) back =
+    rw (next-column d b some p, regions-append d b some marks (suc p) zs back, add-suc p (length zs), ← suc-add p (length zs))
+
+inside-append : (d b : ℕ) → 0 < d → (marks : List ℤ) (p : ℕ) (front back : List ℤ)
+    → insideFrom d b marks (p % d) (front ++ back)
+    ≡ insideFrom d b marks (p % d) front && insideFrom d b marks ((p + length front) % d) back
+unfolding insideFrom
+inside-append d b some marks p [] back = rw add-zero
+inside-append d b some marks p (z ∷ zs) back =
+    rw (next-column d b some p, inside-append d b some marks (suc p) zs back, add-suc p (length zs), ← suc-add p (length zs))
+    (sym (and-assoc (inMarks (dimensionMarks d b marks (suc (p % d))) z) _ _))
+
+-- .. and so vectors behind others have the region numbers they have alone, and lie inside the marks if they do alone.
+pub regions-rows : (d b : ℕ) → 0 < d → (marks : List ℤ) (n : ℕ) (front back : List ℤ) → length front ≡ n * d
+    → vectorRegions d b marks (front ++ back) ≡ vectorRegions d b marks front ++ vectorRegions d b marks back
+regions-rows d b some marks n front back rows =
+    rw (zero-mod d, zero-add (length front), rows, mul-mod-left n d) at (regions-append d b some marks 0 front back)
+
+pub inside-rows : (d b : ℕ) → 0 < d → (marks : List ℤ) (n : ℕ) (front back : List ℤ) → length front ≡ n * d
+    → vectorsInside d b marks (front ++ back) ≡ vectorsInside d b marks front && vectorsInside d b marks back
+inside-rows d b some marks n front back rows =
+    rw (zero-mod d, zero-add (length front), rows, mul-mod-left n d) at (inside-append d b some marks 0 front back)
 
 -- A region that holds a value is one of its dimension's.
 holds-fit : (d b : ℕ) (marks : List ℤ) (t r : ℕ) (z : ℤ) → RegionHolds (dimensionMarks d b marks (suc t)) r z → r < regionCount d b (suc t)

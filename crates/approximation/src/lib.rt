@@ -20,7 +20,7 @@ ghost use Rattle.layout.specs.Stretch.{shapeCauses, Shape};
 ghost use Rattle.codes.specs.Codes.{nextColumn};
 ghost use Rattle.codes.specs.Pack.{sizeCauses};
 ghost use Rattle.approximation.specs.Vectors.{vectorRegions, vectorsInside, vectorCodes};
-ghost use Rattle.approximation.specs.VectorCauses.{rowCauses, locateCauses, regionsCauses, packVectorsCauses, Inside};
+ghost use Rattle.approximation.specs.VectorCauses.{rowCauses, locateCauses, insideCauses, regionsCauses, packVectorsCauses, Inside};
 
 // The region numbers of n vectors of d components that stand in a row. Refused are numbers of dimensions, bits or vectors out of their
 // limits, buffers of other lengths, components or marks out of range, marks that fall, and a component outside its dimension's marks.
@@ -71,6 +71,17 @@ pub fn pack_vectors(
             }
             Verdict::Refused(cause) => Verdict::Refused(cause),
         },
+        Verdict::Refused(cause) => Verdict::Refused(cause),
+    }
+}
+
+// Whether vectors, however many, lie inside the marks. Refused are numbers of dimensions or bits out of their limits, marks of another
+// length, components or marks out of range, marks that fall, and a component outside its dimension's marks.
+pub fn check_vectors(d: usize, b: usize, vectors: &[i32], marks: &[i32]) -> Verdict
+    ensures { λ r. ⌜ r ≡ first (insideCauses d b (now (vectors .entry)) (now (marks .entry))) ⌝ }
+{
+    match layout::check_shape(d, b) {
+        Verdict::Accepted => check_located(d, b, vectors, marks),
         Verdict::Refused(cause) => Verdict::Refused(cause),
     }
 }

@@ -1,9 +1,9 @@
 -- Laws of numbers as lists of bits. Assumes nothing.
 use mathlib.Core.Path.{_≡_, refl, sym, ap, _∙_}
 use mathlib.Core.Bool.{Bool, true, false, _&&_, and-eq-true-iff}
-use mathlib.Core.List.{List, [], _∷_, _++_, append-assoc}
+use mathlib.Core.List.{List, [], _∷_, _++_, append-assoc, append-nil}
 use Prim.Native.Nat.{ℕ, zero, suc, _+_, _-_, _*_, _/_, _%_, _^_, _≤_, _<_, zero-le}
-use native.Mathlib.Nat.{suc-add, add-comm, zero-add, sub-zero, suc-sub-suc, suc-mul, zero-mul, zero-div, mul-assoc, mul-comm}
+use native.Mathlib.Nat.{suc-add, add-comm, zero-add, sub-zero, suc-sub-suc, suc-mul, zero-mul, zero-div, mul-assoc, mul-comm, add-zero}
 use native.Mathlib.Nat.{mul-le-mul-right, mul-add-div-right, mul-add-mod-self-right, mod-lt, mod-eq-of-lt, pow-suc, pow-succ'}
 use native.Mathlib.Nat.{le-of-suc-le-suc}
 use native.Mathlib.Numerals.{one-add}
@@ -11,7 +11,7 @@ use native.Mathlib.Omega.{arith}
 use borrow.Author.Tests.{eqb-true, eqb-false, le-leb, ne-eqb}
 use lib.Arith.{digits-lt}
 use lib.Dec.{eqb}
-use lib.ListN.{length, getD, drop, replicate, length-append}
+use lib.ListN.{length, getD, take, drop, replicate, length-append}
 use lib.Seq.{drop-at, drop-nil, getD-drop, drop-drop}
 use lib.Pow.{pow-pos, pow-mono, shr-shr, high, mod-pow-add, split}
 use Rattle.codes.specs.Bits.{lowBits, fromBits, bytesOf, byteBits, bitsAt, allZero}
@@ -25,6 +25,11 @@ pub binary-drop : (n : ℕ) {bits : List ℕ} → Binary bits → Binary (drop n
 binary-drop zero h = h
 binary-drop (suc n) none = none
 binary-drop (suc n) (more x h) = binary-drop n h
+
+pub binary-take : (n : ℕ) {bits : List ℕ} → Binary bits → Binary (take n bits)
+binary-take zero h = none
+binary-take (suc n) none = none
+binary-take (suc n) (more x h) = more x (binary-take n h)
 
 pub binary-append : {one other : List ℕ} → Binary one → Binary other → Binary (one ++ other)
 binary-append none h = h
@@ -162,6 +167,13 @@ padded-long zero (x ∷ bits) h = absurd (omega arith)
 padded-long (suc w) [] h = rw (padded-long w [] zero-le, sub-zero, sub-zero)
 padded-long (suc w) (x ∷ bits) h = rw (padded-long w bits (le-of-suc-le-suc h), suc-sub-suc)
 
+-- of a list that has so many
+pub padded-take : (w : ℕ) (bits : List ℕ) → w ≤ length bits → padded w bits ≡ take w bits
+unfolding padded
+padded-take zero bits h = refl
+padded-take (suc w) [] h = absurd (omega arith)
+padded-take (suc w) (x ∷ bits) h = ap (λ (r : List ℕ). x ∷ r) (padded-take w bits (le-of-suc-le-suc h))
+
 zero-at : (bits : List ℕ) → allZero bits ≡ true → Same [] bits
 unfolding allZero
 zero-at [] zeros i = refl
@@ -180,6 +192,18 @@ padded-same zero bits zeros i = zero-at bits zeros i
 padded-same (suc w) bits zeros zero = refl
 padded-same (suc w) [] zeros (suc i) = padded-same w [] (rw drop-nil zeros) i
 padded-same (suc w) (x ∷ bits) zeros (suc i) = padded-same w bits zeros i
+
+-- nor is it where the bits are cut there
+pub take-same : (w : ℕ) (bits : List ℕ) → allZero (drop w bits) ≡ true → Same (take w bits) bits
+take-same zero bits zeros i = zero-at bits zeros i
+take-same (suc w) [] zeros i = refl
+take-same (suc w) (x ∷ bits) zeros zero = refl
+take-same (suc w) (x ∷ bits) zeros (suc i) = take-same w bits zeros i
+
+pub same-behind : (front one other : List ℕ) → Same one other → Same (front ++ one) (front ++ other)
+same-behind [] one other same i = same i
+same-behind (x ∷ front) one other same zero = refl
+same-behind (x ∷ front) one other same (suc i) = same-behind front one other same i
 
 pub low-from : (w : ℕ) {bits : List ℕ} → Binary bits → lowBits w (fromBits w bits) ≡ padded w bits
 unfolding lowBits fromBits padded
@@ -210,6 +234,11 @@ bits-bytes zero h = refl
 bits-bytes (suc count) {bits} h =
     rw (low-from 8 h, bits-bytes count (binary-drop 8 h), suc-mul count 8, add-comm (count * 8) 8) (sym (padded-add 8 (count * 8) bits))
 
+-- where there is room for all they are the bits, and then zeros
+pub bits-then-zeros : (count : ℕ) {bits : List ℕ} → Binary bits → length bits ≤ count * 8
+    → byteBits (bytesOf count bits) ≡ bits ++ replicate (count * 8 - length bits) 0
+bits-then-zeros count {bits} h room = bits-bytes count h ∙ padded-long (count * 8) bits room
+
 -- and bytes as bits
 pub bytes-bits : (bytes : List ℕ) → Bytes bytes → bytesOf (length bytes) (byteBits bytes) ≡ bytes
 unfolding byteBits bytesOf
@@ -237,6 +266,45 @@ pub binary-bytes : (bytes : List ℕ) → Binary (byteBits bytes)
 unfolding byteBits
 binary-bytes [] = none
 binary-bytes (x ∷ bytes) = binary-append (binary-low 8 x) (binary-bytes bytes)
+
+-- the bits behind those of the first bytes are those of the other bytes
+pub drop-bytes : (q : ℕ) (bytes : List ℕ) → drop (q * 8) (byteBits bytes) ≡ byteBits (drop q bytes)
+unfolding byteBits
+drop-bytes zero bytes = refl
+drop-bytes (suc q) [] = drop-nil (suc q * 8)
+drop-bytes (suc q) (x ∷ bytes) =
+    rw (
+      suc-mul q 8,
+      add-comm (q * 8) 8,
+      ← drop-drop (q * 8) 8 (lowBits 8 x ++ byteBits bytes),
+      drop-at (lowBits 8 x) (byteBits bytes) 8 (length-low 8 x),
+    )
+    (drop-bytes q bytes)
+
+-- the bits of the first two bytes, as those of one number, in front of the rest
+two-bytes : (bytes : List ℕ) → Bytes bytes
+    → Same (byteBits bytes) (lowBits 16 (getD bytes 0 0 * 256 + getD bytes 1 0) ++ byteBits (drop 2 bytes))
+unfolding byteBits
+two-bytes [] small = rw append-nil (same-zeros 16 [])
+two-bytes (x ∷ []) small = rw (append-nil (lowBits 8 x), append-nil, ← low-join 8 8 x 0 (small 1)) (same-zeros 8 (lowBits 8 x))
+two-bytes (x ∷ y ∷ bytes) small = rw (← append-assoc, low-join 8 8 x y (small 1)) (λ i. refl)
+
+in-two : (bytes : List ℕ) → Bytes bytes → (r w : ℕ) → r < 8 → w ≤ 8
+    → fromBits w (drop r (byteBits bytes)) ≡ (getD bytes 0 0 * 256 + getD bytes 1 0) / 2 ^ (16 - r - w) % 2 ^ w
+in-two bytes small r w place few =
+    let two = getD bytes 0 0 * 256 + getD bytes 1 0 in
+    let all : r + (w + (16 - r - w)) ≡ 16 = omega arith in
+    let wide = lowBits 16 two ++ byteBits (drop 2 bytes) in
+    from-same w (drop r (byteBits bytes)) (drop r wide) (same-drop r (byteBits bytes) wide (two-bytes bytes small))
+    ∙ rw all at (from-field r w (16 - r - w) two (byteBits (drop 2 bytes)))
+
+-- w bits from bit r of byte i on stand in that byte and the next
+pub bits-in-two : (bytes : List ℕ) → Bytes bytes → (i r w : ℕ) → r < 8 → w ≤ 8
+    → fromBits w (drop (i * 8 + r) (byteBits bytes)) ≡ (getD bytes i 0 * 256 + getD bytes (i + 1) 0) / 2 ^ (16 - r - w) % 2 ^ w
+bits-in-two bytes small i r w place few =
+    let rest : Bytes (drop i bytes) = λ j. rw (getD-drop i bytes j 0) (small (i + j)) in
+    rw (← drop-drop r (i * 8) (byteBits bytes), drop-bytes i bytes)
+    (rw (getD-drop i bytes 0 0, getD-drop i bytes 1 0, add-zero i) at (in-two (drop i bytes) rest r w place few))
 
 -- up to 8 bits are read as they stand, and make a byte
 pub bits-at : (bytes : List ℕ) (from w : ℕ) → w ≤ 8 → bitsAt bytes from w ≡ fromBits w (drop from (byteBits bytes))

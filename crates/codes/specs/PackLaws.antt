@@ -9,21 +9,21 @@ use native.Mathlib.Omega.{arith}
 use borrow.Author.Tests.{ltb-true, lt-ltb, eqb-true, eqb-false}
 use lib.Arith.{digits-lt, digits-div, digits-mod}
 use lib.Dec.{eqb, lit≤}
-use lib.ListN.{length, getD, drop, replicate, length-append, length-drop}
+use lib.ListN.{length, getD, drop, replicate, length-append, length-drop, drop-of-length-le}
 use lib.Seq.{drop-at, drop-drop}
 use Rattle.layout.specs.Layout.{bitsOf, regionCount, firstBits}
 use Rattle.layout.specs.Laws.{all-bits}
 use Rattle.layout.specs.Runs.{Run, run-bits}
-use Rattle.codes.specs.Bits.{lowBits, fromBits, byteBits, bitsAt}
+use Rattle.codes.specs.Bits.{lowBits, fromBits, byteBits, bitsAt, allZero}
 use Rattle.codes.specs.BitLaws.{Binary, none, binary-drop, binary-append, binary-low, binary-bytes, Bytes, padded, length-low}
 use Rattle.codes.specs.BitLaws.{length-bytes, length-byte-bits, low-from, from-low, from-lt, from-zero, padded-add, padded-long}
-use Rattle.codes.specs.BitLaws.{padded-same, zeros, bytes-same, bytes-of, bits-bytes, bytes-bits, bits-at}
+use Rattle.codes.specs.BitLaws.{padded-same, zeros, bytes-same, bytes-of, bits-bytes, bytes-bits, bits-at, Same}
 use Rattle.codes.specs.Codes.{nextColumn, joined, regionsFit, codeLength, packed, split, unpacked, codeRegion, spareZero}
 
 -- ---- region numbers joined, and split again
 
 module _ (d b : ℕ) where
-  binary-joined : (t : ℕ) (regions : List ℕ) → Binary (joined d b t regions)
+  pub binary-joined : (t : ℕ) (regions : List ℕ) → Binary (joined d b t regions)
   unfolding joined
   binary-joined t [] = none
   binary-joined t (r ∷ rs) = binary-append (binary-low (bitsOf d b (suc t)) r) (binary-joined (nextColumn d t) rs)
@@ -142,6 +142,21 @@ module _ (d b : ℕ) (some : 0 < d) where
       ) at (length-from 0 regions) in
       all ∙ add-zero (n * b)
 
+  -- numbers behind others go on in the column where these end
+  joined-append : (p : ℕ) (front back : List ℕ)
+      → joined d b (p % d) (front ++ back) ≡ joined d b (p % d) front ++ joined d b ((p + length front) % d) back
+  unfolding joined
+  joined-append p [] back = rw add-zero
+  joined-append p (r ∷ rs) back =
+      rw (next-column p, joined-append (suc p) rs back, add-suc p (length rs), ← suc-add p (length rs))
+      (sym (append-assoc (lowBits (bitsOf d b (suc (p % d))) r) (joined d b (suc p % d) rs) (joined d b ((suc p + length rs) % d) back)))
+
+  -- behind whole rows they are joined from the first column on
+  pub joined-rows : (n : ℕ) (front back : List ℕ) → length front ≡ n * d
+      → joined d b 0 (front ++ back) ≡ joined d b 0 front ++ joined d b 0 back
+  joined-rows n front back rows =
+      rw (zero-mod d, zero-add (length front), rows, mul-mod-left n d) at (joined-append 0 front back)
+
 -- ---- packed and unpacked
 
 pub length-packed : (d b n : ℕ) (regions : List ℕ) → length (packed d b n regions) ≡ codeLength b n
@@ -189,6 +204,15 @@ module _ (d b n : ℕ) (some : 0 < d) where
       let room : n * b ≤ codeLength b n * 8 = omega arith in
       bits-bytes (codeLength b n) (binary-joined d b 0 regions)
       ∙ rw bits at (padded-long (codeLength b n * 8) (joined d b 0 regions) (rw bits room))
+
+  -- with zeros behind them they are those of the numbers alone
+  pub packed-same : (regions : List ℕ) → length regions ≡ n * d → Same (byteBits (packed d b n regions)) (joined d b 0 regions)
+  unfolding packed allZero
+  packed-same regions rows =
+      let bits = length-joined d b some n regions rows in
+      let none : drop (codeLength b n * 8) (joined d b 0 regions) ≡ [] =
+      drop-of-length-le (joined d b 0 regions) {i = codeLength b n * 8} (omega (arith, bits)) in
+      rw (bits-bytes (codeLength b n) (binary-joined d b 0 regions)) (padded-same (codeLength b n * 8) (joined d b 0 regions) (rw none refl))
 
   -- no spare bit is set
   pub packed-spare : (regions : List ℕ) → length regions ≡ n * d → spareZero b n (packed d b n regions) ≡ true

@@ -26,7 +26,7 @@ fn two_bytes(bytes: &[u8], i: usize) -> usize
 }
 
 // The byte at an index, 0 past the end.
-fn byte_at(bytes: &[u8], i: usize) -> usize
+pub fn byte_at(bytes: &[u8], i: usize) -> usize
     ensures { λ r. ⌜ r ≡ getD (now (bytes .entry)) i 0 ⌝ }
 {
     if i < bytes.len() {

@@ -85,10 +85,10 @@ module _ (outer : Outer) (n w : ℕ) (ordered : List ℤ) where
   unfolding markAt
   mark-last i past = rw (ne-eqb i 0 (omega (arith, pow-pos w)), le-ltb i (2 ^ w) past)
 
-  between-first : firstMark (marksBetween outer n w ordered) ≡ outer .first
+  pub between-first : firstMark (marksBetween outer n w ordered) ≡ outer .first
   between-first = between-at 0 (omega arith) ∙ mark-first
 
-  between-last : lastMark (marksBetween outer n w ordered) ≡ outer .last
+  pub between-last : lastMark (marksBetween outer n w ordered) ≡ outer .last
   between-last =
       last-mark (marksBetween outer n w ordered) (2 ^ w) (omega (arith, between-length))
       ∙ between-at (2 ^ w) (omega arith)

@@ -5,6 +5,7 @@ pub mod files;
 pub mod marks;
 pub mod neighbours;
 pub mod program;
+pub mod updates;
 
 use reading::Reading;
 ghost use lib.Ieee.{binary32, ofBits};

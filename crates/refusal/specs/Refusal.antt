@@ -2,7 +2,7 @@
 -- nothing.
 use Prim.Native.Nat.{ℕ}
 use Rattle.refusal.specs.declared.Refusal.{Refusal}
-use Rattle.refusal.specs.declared.Refusal.the-variants.{Dimension, Bits, Count, Neighbours, Length, Component, Mark, Outside, Code, Cell, Kind, Truncated, Stale, NotANumber, OutOfRange, Trailing, Misplaced, TooFewPresent, PresenceBit}
+use Rattle.refusal.specs.declared.Refusal.the-variants.{Dimension, Bits, Count, Neighbours, Length, Component, Mark, Outside, Code, Cell, Kind, Truncated, Stale, NotANumber, OutOfRange, Trailing, Misplaced, TooFewPresent, PresenceBit, Full, NotRemovable}
 use Rattle.refusal.specs.declared.Verdict.{Verdict}
 use Rattle.refusal.specs.declared.Verdict.the-variants.{Accepted, Refused}
 
@@ -45,6 +45,10 @@ numberOf Misplaced = 17
 numberOf TooFewPresent = 18
 -- a bit of the presence word at or above d (Slip 1)
 numberOf PresenceBit = 19
+-- adding a vector to a library of 512, the limit (Slip 3)
+numberOf Full = 20
+-- removing a number that is not stored, or the only vector (Slip 3)
+numberOf NotRemovable = 21
 
 abbrev pub verdictNumber : Verdict → ℕ
 verdictNumber Accepted = 0

@@ -23,6 +23,8 @@ pub enum Refusal {
     Misplaced,
     TooFewPresent,
     PresenceBit,
+    Full,
+    NotRemovable,
 }
 
 // What a call's tests come to: nothing speaks against it, or the first cause that does.
@@ -32,7 +34,7 @@ pub enum Verdict {
 }
 
 impl Refusal {
-    // The row's number, 1 to 19.
+    // The row's number, 1 to 21.
     pub fn number(self) -> u32
         ensures { λ r. ⌜ r ≡ numberOf self ⌝ }
     {
@@ -56,6 +58,8 @@ impl Refusal {
             Refusal::Misplaced => 17,
             Refusal::TooFewPresent => 18,
             Refusal::PresenceBit => 19,
+            Refusal::Full => 20,
+            Refusal::NotRemovable => 21,
         }
     }
 }

@@ -1,0 +1,5 @@
+pub mod Updated
+pub mod UpdateCauses
+pub mod Accepted
+pub mod ContentLaws
+pub mod CodeMoves
