@@ -69,7 +69,9 @@ enum matcher_refusal {
     MATCHER_TRAILING = 16,        /* bytes after a query */
     MATCHER_MISPLACED = 17,       /* a record of a known kind in a wrong place */
     MATCHER_TOO_FEW_PRESENT = 18, /* fewer than four dimensions present, or fewer than d where d is below four */
-    MATCHER_PRESENCE_BIT = 19     /* a bit of the presence word at or above d */
+    MATCHER_PRESENCE_BIT = 19,    /* a bit of the presence word at or above d */
+    MATCHER_FULL = 20,            /* adding to a library of 512 vectors */
+    MATCHER_NOT_REMOVABLE = 21    /* removing a number that is not stored, or the only vector */
 };
 
 /* ---- limits */
@@ -91,7 +93,10 @@ enum matcher_refusal {
 
 #define MATCHER_FULL_WORD(d) ((uint32_t)0xFFFFFFFF >> (MATCHER_MAX_DIMENSIONS - (d)))
 
-/* ---- lengths, in elements. Counts are within the limits; an argument is evaluated more than once. */
+/*
+ * ---- lengths, in elements. Counts are within the limits, and n may be one off them, 0 or 513, as it is where a vector
+ * is added or removed; an argument is evaluated more than once.
+ */
 
 #define MATCHER_MARKS(d, b) ((d) + ((d) + (b) % (d)) * ((size_t)1 << (b) / (d)))
 #define MATCHER_CODES(b, n) (((size_t)(n) * (b) + 7) / 8)
@@ -278,6 +283,41 @@ uint32_t matcher_unpack(size_t d, size_t b, size_t n, const uint8_t *codes, size
  */
 uint32_t matcher_check_codes(size_t d, size_t b, size_t n, const int32_t *marks, size_t marks_len, const uint8_t *codes,
                              size_t codes_len);
+
+/*
+ * ---- a vector added to a library, or removed from it
+ *
+ * The marks are kept, and stand for the new library too. The old library is only read; the new one's vectors, settings
+ * and codes fill buffers of their own, whose lengths are exact for its n + 1 or n - 1 vectors. Codes are moved bit by
+ * bit and not looked up again: where the old ones are the vectors' own, as matcher_pack_vectors makes them, so are the
+ * new ones, and where they are not, they stay what they are.
+ */
+
+/*
+ * The library with one vector more, which comes last and has the number n, with its settings and its code. With marks
+ * that begin and end at the ends of the scale in every dimension, as matcher_make_marks makes them, no vector lies
+ * outside, and adding is never refused with 8.
+ * Lengths: marks MATCHER_MARKS(d, b); codes MATCHER_CODES(b, n); settings n; vectors n d; vector d; new_vectors
+ * (n + 1) d; new_settings n + 1; new_codes MATCHER_CODES(b, n + 1). They are exact for 513 too, where n is 512.
+ * Refusals: 1, 2, 3, 5, 20, 6 (the old vectors and the new one), 7, 8 (the old vectors and the new one), 9 (an empty
+ * region named, a spare bit set).
+ */
+uint32_t matcher_add(size_t d, size_t b, size_t n, const int32_t *marks, size_t marks_len, const uint8_t *codes,
+                     size_t codes_len, const uint32_t *settings, size_t settings_len, const int32_t *vectors,
+                     size_t vectors_len, const int32_t *vector, size_t vector_len, uint32_t setting,
+                     int32_t *new_vectors, size_t new_vectors_len, uint32_t *new_settings, size_t new_settings_len,
+                     uint8_t *new_codes, size_t new_codes_len);
+
+/*
+ * The library without the vector of this number, from 0: later vectors move down by one, with their settings and codes.
+ * Lengths: marks MATCHER_MARKS(d, b); codes MATCHER_CODES(b, n); settings n; vectors n d; new_vectors (n - 1) d;
+ * new_settings n - 1; new_codes MATCHER_CODES(b, n - 1). They are exact where n is 1 too: 0, 0 and 0.
+ * Refusals: 1, 2, 3, 5, 21, 6, 7, 8, 9 (an empty region named, a spare bit set).
+ */
+uint32_t matcher_remove(size_t d, size_t b, size_t n, const int32_t *marks, size_t marks_len, const uint8_t *codes,
+                        size_t codes_len, const uint32_t *settings, size_t settings_len, const int32_t *vectors,
+                        size_t vectors_len, size_t number, int32_t *new_vectors, size_t new_vectors_len,
+                        uint32_t *new_settings, size_t new_settings_len, uint8_t *new_codes, size_t new_codes_len);
 
 /* ---- distances */
 

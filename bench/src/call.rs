@@ -4,6 +4,7 @@ use crate::data::Data;
 use crate::matcher;
 use crate::matcher::Entry;
 use crate::peer::file::{self, Loaded};
+use crate::peer::updates::{self, Stock};
 use crate::peer::{codes, marks, program, scan, search::Library};
 use std::hint::black_box;
 
@@ -14,6 +15,8 @@ pub enum Call {
     Marks,
     Pack,
     Codes,
+    Add,
+    Remove,
     Load,
     Write,
     Match,
@@ -33,6 +36,8 @@ pub struct Answer {
     pub count: usize,
     marks: Vec<i32>,
     codes: Vec<u8>,
+    more: Stock,
+    less: Stock,
     bytes: Vec<u8>,
     loaded: Loaded,
     text: Vec<u8>,
@@ -49,6 +54,8 @@ impl Answer {
             count: 0,
             marks: vec![0; data.marks.len()],
             codes: vec![0; data.codes.len()],
+            more: Stock::room(data, data.n + 1),
+            less: Stock::room(data, data.n - 1),
             bytes: vec![0; data.bytes.len()],
             loaded: Loaded::room(),
             text: vec![0; Answer::TEXT_ROOM],
@@ -68,8 +75,18 @@ impl Side {
 }
 
 impl Call {
-    pub const ALL: &[Call] =
-        &[Call::Search, Call::Scan, Call::Marks, Call::Pack, Call::Codes, Call::Load, Call::Write, Call::Match];
+    pub const ALL: &[Call] = &[
+        Call::Search,
+        Call::Scan,
+        Call::Marks,
+        Call::Pack,
+        Call::Codes,
+        Call::Add,
+        Call::Remove,
+        Call::Load,
+        Call::Write,
+        Call::Match,
+    ];
 
     pub fn name(self) -> &'static str {
         match self {
@@ -78,6 +95,8 @@ impl Call {
             Call::Marks => "marks",
             Call::Pack => "pack",
             Call::Codes => "codes",
+            Call::Add => "add",
+            Call::Remove => "remove",
             Call::Load => "load",
             Call::Write => "write",
             Call::Match => "match",
@@ -89,7 +108,16 @@ impl Call {
         match self {
             Call::Search | Call::Scan => Some(1.2),
             Call::Marks | Call::Pack | Call::Codes | Call::Match => None,
+            Call::Add | Call::Remove => Some(0.5),
             Call::Load | Call::Write => Some(2.0),
+        }
+    }
+
+    /// On how many vectors it is measured: none can be added to 512.
+    pub fn count(self) -> usize {
+        match self {
+            Call::Add | Call::Remove => 511,
+            _ => 512,
         }
     }
 
@@ -121,6 +149,8 @@ impl Call {
             Call::Marks => matcher::make_marks(data, &data.others[i], &mut answer.marks),
             Call::Pack => matcher::pack(data, &mut answer.codes),
             Call::Codes => matcher::pack_vectors(data, &mut answer.codes),
+            Call::Add => matcher::updates::add(data, query, i as u32, &mut answer.more),
+            Call::Remove => matcher::updates::remove(data, data.spread_out(i), &mut answer.less),
             Call::Load => matcher::files::load(&data.bytes, &mut answer.loaded),
             Call::Write => matcher::files::write(data, &mut answer.bytes),
             Call::Match => answer.count = matcher::files::run(&data.matches[i], &mut answer.text),
@@ -144,6 +174,8 @@ impl Call {
                 codes::regions(d, b, vectors, &data.marks, &mut regions);
                 codes::pack(d, b, &regions, &mut answer.codes);
             }
+            Call::Add => updates::add(data, query, i as u32, &mut answer.more),
+            Call::Remove => updates::remove(data, data.spread_out(i), &mut answer.less),
             Call::Load => file::load(&data.bytes, &mut answer.loaded).expect("a library"),
             Call::Write => file::write(data, &mut answer.bytes),
             Call::Match => answer.count = program::run(&data.matches[i], &mut answer.text).expect("a match"),

@@ -48,6 +48,11 @@ impl Data {
     const CENTRES: usize = 16;
     const REACH: i32 = 1024;
 
+    /// Numbers of vectors from the first on, one for each query, at equal distances.
+    pub fn spread_out(&self, i: usize) -> usize {
+        i * self.n / Self::QUERIES
+    }
+
     pub fn new(d: usize, bits: usize, n: usize, spread: Spread, k: usize) -> Data {
         let b = bits * d;
         let mut random = Random::new((d * 1000 + n) as u64);

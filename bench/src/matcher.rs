@@ -1,6 +1,7 @@
 //! The matcher's C interface. Safe for each call: a pointer leads to as many elements as are named with it, or to one.
 
 pub mod files;
+pub mod updates;
 
 use crate::data::Data;
 

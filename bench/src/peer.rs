@@ -6,6 +6,7 @@ pub mod marks;
 pub mod program;
 pub mod scan;
 pub mod search;
+pub mod updates;
 
 /// The bits of each dimension.
 pub fn bits(d: usize, b: usize) -> impl Iterator<Item = usize> {

@@ -16,13 +16,13 @@ pub struct Row {
 impl Row {
     pub const BITS: usize = 5;
 
-    /// Each call on 512 vectors of 8 and of 32 dimensions.
+    /// Each call on 512 vectors of 8 and of 32 dimensions, or on as many as it can be.
     pub fn all(calls: &[Call]) -> Vec<Row> {
         let mut rows = Vec::new();
         for &call in calls {
             for d in [8, 32] {
                 for spread in Spread::ALL {
-                    rows.extend(call.neighbours().iter().map(|&k| Row { call, d, n: 512, spread, k }));
+                    rows.extend(call.neighbours().iter().map(|&k| Row { call, d, n: call.count(), spread, k }));
                 }
             }
         }

@@ -25,10 +25,14 @@ static uint32_t settings[MATCHER_MAX_VECTORS], reads[MATCHER_MAX_VECTORS];
 static struct matcher_entry entries[MATCHER_MAX_VECTORS];
 static uint64_t distance, lowers[MATCHER_MAX_VECTORS], uppers[MATCHER_MAX_VECTORS];
 static uint8_t codes[MATCHER_MAX_CODES], regions[MATCHER_MAX_COMPONENTS];
+static int32_t new_vectors[MATCHER_MAX_COMPONENTS];
+static uint32_t new_settings[MATCHER_MAX_VECTORS];
+static uint8_t new_codes[MATCHER_MAX_CODES];
 
 #define MARKS marks, MATCHER_MARKS(d, b)
 #define VECTORS vectors, n * d
 #define CODES codes, MATCHER_CODES(b, n)
+#define NEW(count) new_vectors, (count) * d, new_settings, (count), new_codes, MATCHER_CODES(b, count)
 
 /* A thread that makes one call and keeps what it gives. */
 static size_t given;
@@ -69,6 +73,10 @@ CALL(pack_vectors, d, b, n, VECTORS, MARKS, CODES)
 CALL(pack, d, b, n, regions, n * d, CODES)
 CALL(unpack, d, b, n, CODES, regions, n * d)
 CALL(check_codes, d, b, n, MARKS, CODES)
+/* the last vector is added to the others, whose codes are whole bytes; the first is removed */
+CALL(add, d, b, n - 1, MARKS, codes, MATCHER_CODES(b, n - 1), settings, n - 1, vectors, (n - 1) * d,
+     vectors + (n - 1) * d, d, settings[n - 1], NEW(n))
+CALL(remove, d, b, n, MARKS, CODES, settings, n, VECTORS, 0, NEW(n - 1))
 CALL(distance, query, d, vectors, d, &distance)
 CALL(bounds, d, b, n, word, query, d, MARKS, CODES, lowers, n, uppers, n)
 CALL(scan, d, n, n, word, query, d, VECTORS, entries, n)
@@ -144,6 +152,8 @@ int main(void)
     MEASURE(pack);
     MEASURE(unpack);
     MEASURE(check_codes);
+    MEASURE(add);
+    MEASURE(remove);
     MEASURE(distance);
     MEASURE(bounds);
     MEASURE(scan);

@@ -30,6 +30,10 @@ pub enum Given {
     /// vectors whose components the call tests
     Components,
     Settings,
+    /// a vector to add, whose components the call tests
+    NewVector,
+    /// the number of a vector to remove
+    Number,
     /// vectors that the call reads if the reading order does
     Cells,
     RoomMarks,
@@ -40,6 +44,9 @@ pub enum Given {
     RoomLowers,
     RoomUppers,
     RoomBytes,
+    RoomNewVectors,
+    RoomNewSettings,
+    RoomNewCodes,
 }
 
 /// A call, in the interface and in the reference.
@@ -102,6 +109,16 @@ pub const PACK_VECTORS: Call =
     call!(pack_vectors, [D, B, N, Vectors, Components, Marks, RoomCodes], [1, 2, 3, 5, 6, 7, 8]);
 pub const UNPACK: Call = call!(unpack, [D, B, N, Codes, RoomRegions], [1, 2, 3, 5, 9]);
 pub const CHECK_CODES: Call = call!(check_codes, [D, B, N, Marks, Codes], [1, 2, 3, 5, 7, 9]);
+pub const ADD: Call = call!(
+    add,
+    [D, B, N, Marks, Codes, Settings, Vectors, Components, NewVector, RoomNewVectors, RoomNewSettings, RoomNewCodes],
+    [1, 2, 3, 5, 20, 6, 7, 8, 9]
+);
+pub const REMOVE: Call = call!(
+    remove,
+    [D, B, N, Marks, Codes, Settings, Vectors, Components, Number, RoomNewVectors, RoomNewSettings, RoomNewCodes],
+    [1, 2, 3, 5, 21, 6, 7, 8, 9]
+);
 pub const DISTANCE: Call = call!(distance, [Pair], [1, 5, 6]);
 pub const BOUNDS: Call =
     call!(bounds, [D, B, N, Word, Query, Marks, Codes, RoomLowers, RoomUppers], [1, 2, 3, 19, 18, 5, 6, 7, 9]);
@@ -115,7 +132,7 @@ pub const WRITE: Call = call!(write, [D, B, N, Marks, Settings, Vectors, Compone
 pub const LIBRARY_LENGTH: Call = call!(library_length, [D, B, N], [1, 2, 3]);
 
 /// All of them.
-pub const ALL: [&Call; 17] = [
+pub const ALL: [&Call; 19] = [
     &STRETCH,
     &CHECK_MARKS,
     &PART,
@@ -127,6 +144,8 @@ pub const ALL: [&Call; 17] = [
     &PACK_VECTORS,
     &UNPACK,
     &CHECK_CODES,
+    &ADD,
+    &REMOVE,
     &DISTANCE,
     &BOUNDS,
     &SCAN,

@@ -9,8 +9,8 @@ use crate::{
 use Given::*;
 
 /// The causes of calls on numbers, in the order in which they are tested: that of document 01's table, with "18 .. after 19
-/// in search and scan" and "19 .. after 4" (document 02, Slip 1).
-const ORDER: [u32; 12] = [1, 2, 3, 4, 19, 18, 5, 6, 7, 8, 9, 10];
+/// in search and scan" and "19 .. after 4" (document 02, Slip 1), and with 20 and 21, "both straight after 5" (Slip 3).
+const ORDER: [u32; 14] = [1, 2, 3, 4, 19, 18, 5, 20, 21, 6, 7, 8, 9, 10];
 
 /// A cause's place in the order.
 fn place_of(cause: u32) -> usize {
@@ -33,7 +33,7 @@ impl Fault {
 }
 
 /// Buffers whose length is fixed by the other numbers.
-const BUFFERS: [Given; 15] = [
+const BUFFERS: [Given; 19] = [
     Query,
     Marks,
     DimensionMarks,
@@ -41,6 +41,7 @@ const BUFFERS: [Given; 15] = [
     Regions,
     Vectors,
     Settings,
+    NewVector,
     RoomMarks,
     RoomRegions,
     RoomCodes,
@@ -49,6 +50,9 @@ const BUFFERS: [Given; 15] = [
     RoomLowers,
     RoomUppers,
     RoomBytes,
+    RoomNewVectors,
+    RoomNewSettings,
+    RoomNewCodes,
 ];
 
 fn length(input: &Input, buffer: Given) -> usize {
@@ -68,7 +72,10 @@ fn length(input: &Input, buffer: Given) -> usize {
         RoomLowers => input.room.lowers,
         RoomUppers => input.room.uppers,
         RoomBytes => input.room.bytes,
-        Pair => input.one.vector.len(),
+        RoomNewVectors => input.room.new_vectors,
+        RoomNewSettings => input.room.new_settings,
+        RoomNewCodes => input.room.new_codes,
+        Pair | NewVector => input.one.vector.len(),
         other => panic!("{other:?} is no buffer"),
     }
 }
@@ -92,7 +99,10 @@ fn resize(input: &mut Input, buffer: Given, length: usize) {
         RoomLowers => input.room.lowers = length,
         RoomUppers => input.room.uppers = length,
         RoomBytes => input.room.bytes = length,
-        Pair => input.one.vector.resize(length, 0),
+        RoomNewVectors => input.room.new_vectors = length,
+        RoomNewSettings => input.room.new_settings = length,
+        RoomNewCodes => input.room.new_codes = length,
+        Pair | NewVector => input.one.vector.resize(length, 0),
         other => panic!("{other:?} is no buffer"),
     }
 }
@@ -180,8 +190,11 @@ fn faults(input: &Input) -> Vec<Fault> {
     for length in [0, d - 1, d + 1, 2 * d].into_iter().filter(|&l| l != d) {
         faults.add(5, &[Pair], format!("vector of {length} for {d}"), move |input| resize(input, Pair, length));
     }
+    let not_stored = [n, n + 1, 512, input.one.number + WIDE, usize::MAX];
+    faults.counts(21, &[Number], &not_stored, |input| &mut input.one.number);
 
     for at in ends(d) {
+        faults.numbers(6, &[NewVector], at, &NO_COMPONENTS, |input| &mut input.one.vector);
         faults.numbers(6, &[Query], at, &NO_COMPONENTS, |input| &mut input.query);
         faults.numbers(6, &[Pair], at, &NO_COMPONENTS, |input| &mut input.query);
         faults.numbers(6, &[Pair], at, &NO_COMPONENTS, |input| &mut input.one.vector);
@@ -197,19 +210,7 @@ fn faults(input: &Input) -> Vec<Fault> {
     }
     faults.marks(&[DimensionMarks], 0, &input.one.marks, |input| &mut input.one.marks);
 
-    for at in ends(n * d) {
-        let marks = &input.marks[parts[at % d].clone()];
-        let outside: Vec<i32> =
-            [marks[0] - 1, marks[marks.len() - 1]].into_iter().filter(|v| (LEAST..=GREATEST).contains(v)).collect();
-        faults.numbers(8, &[Components, Marks], at, &outside, |input| &mut input.vectors);
-    }
-    let marks = &input.one.marks;
-    for value in [marks[0] - 1, marks[marks.len() - 1], LEAST - 1, GREATEST + 1, i32::MIN, i32::MAX] {
-        let make = move |input: &mut Input| input.one.value = value;
-        faults.add(8, &[DimensionMarks, Value], format!("value {value}"), make);
-        faults.add(8, &[J, Marks, Value], format!("value {value}"), make);
-    }
-
+    outside_faults(input, &mut faults);
     code_faults(input, &mut faults);
     cell_faults(input, &mut faults);
     faults.0
@@ -228,6 +229,28 @@ fn word_faults(input: &Input, faults: &mut Faults) {
         for word in [reference::full_word(count), full & !reference::full_word(d - count)] {
             faults.add(18, &[Word], format!("word {word:x}"), move |input| input.word = word);
         }
+    }
+}
+
+/// 8: components and values just outside the marks.
+fn outside_faults(input: &Input, faults: &mut Faults) {
+    let Input { d, b, n, .. } = *input;
+    let parts = reference::parts(d, b);
+    let outside = |at: usize| -> Vec<i32> {
+        let marks = &input.marks[parts[at % d].clone()];
+        [marks[0] - 1, marks[marks.len() - 1]].into_iter().filter(|v| (LEAST..=GREATEST).contains(v)).collect()
+    };
+    for at in ends(n * d) {
+        faults.numbers(8, &[Components, Marks], at, &outside(at), |input| &mut input.vectors);
+    }
+    for at in ends(d) {
+        faults.numbers(8, &[NewVector, Marks], at, &outside(at), |input| &mut input.one.vector);
+    }
+    let marks = &input.one.marks;
+    for value in [marks[0] - 1, marks[marks.len() - 1], LEAST - 1, GREATEST + 1, i32::MIN, i32::MAX] {
+        let make = move |input: &mut Input| input.one.value = value;
+        faults.add(8, &[DimensionMarks, Value], format!("value {value}"), make);
+        faults.add(8, &[J, Marks, Value], format!("value {value}"), make);
     }
 }
 
@@ -290,13 +313,33 @@ pub fn assert_each_refusal(call: &Call, input: &Input) {
 /// Each fault is refused with its number, and of any two faults the one whose cause is tested first decides. Each cause of
 /// the call is there.
 pub fn assert_refusals(call: &Call, inputs: &[Input]) {
+    assert_tried(call, tried_in_order(call, inputs), call.causes);
+}
+
+/// The same, where some inputs are right but for a cause that lies in how large the library is. It decides unless a fault
+/// is there whose cause is tested before it.
+pub fn assert_refusals_of_size(call: &Call, inputs: &[Input], cause: u32, refused: &[Input]) {
+    let mut causes = tried_in_order(call, inputs);
+    for input in refused {
+        call.gives(cause, input);
+        for fault in faults(input).iter().filter(|fault| fault.concerns(call)) {
+            let first = if place_of(fault.cause) < place_of(cause) { fault.cause } else { cause };
+            call.gives(first, &spoilt(input, &[fault]));
+        }
+        causes.push(cause);
+    }
+    assert_tried(call, causes, call.causes);
+}
+
+/// Tries each fault of each input, and any two of them; the causes that were there.
+fn tried_in_order(call: &Call, inputs: &[Input]) -> Vec<u32> {
     let mut causes = vec![];
     for input in inputs {
         let faults = faults_for(call, input);
         assert_in_order(call, input, &faults);
         causes.extend(faults.iter().map(|fault| fault.cause));
     }
-    assert_tried(call, causes, call.causes);
+    causes
 }
 
 /// Two inputs that differ in their marks alone are refused with the same numbers, for all faults but those in the
@@ -326,15 +369,19 @@ fn assert_tried(call: &Call, mut causes: Vec<u32>, due: &[u32]) {
     assert_eq!(causes, due, "the causes of {} that were tried", call.name);
 }
 
-/// The faults stand with the later cause first, so that a length is changed after the contents.
 fn assert_refused(call: &Call, input: &Input, faults: &[&Fault]) {
+    let cause = faults.iter().map(|fault| fault.cause).min_by_key(|&cause| place_of(cause));
+    call.gives(cause.expect("there is a fault"), &spoilt(input, faults));
+}
+
+/// The input with these faults. They stand with the later cause first, so that a length is changed after the contents.
+fn spoilt(input: &Input, faults: &[&Fault]) -> Input {
     let mut faulty = input.clone();
     for fault in faults {
         (fault.make)(&mut faulty);
         faulty.origin += &format!("; {}", fault.name);
     }
-    let cause = faults.iter().map(|fault| fault.cause).min_by_key(|&cause| place_of(cause));
-    call.gives(cause.expect("there is a fault"), &faulty);
+    faulty
 }
 
 /// Each buffer that the call takes is refused with 5 at every other length.

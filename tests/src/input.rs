@@ -52,7 +52,11 @@ impl<T: Debug + ?Sized> Drop for Told<'_, T> {
 /// What calls on one vector or one dimension are given.
 #[derive(Clone, PartialEq, Eq, Debug)]
 pub struct One {
+    /// the vector to add is this one, with this settings number
     pub vector: Vec<i32>,
+    pub setting: u32,
+    /// the number of the vector to remove
+    pub number: usize,
     pub marks: Vec<i32>,
     pub regions: usize,
     pub value: i32,
@@ -69,6 +73,10 @@ pub struct Room {
     pub lowers: usize,
     pub uppers: usize,
     pub bytes: usize,
+    /// for the library with a vector more or less
+    pub new_vectors: usize,
+    pub new_settings: usize,
+    pub new_codes: usize,
 }
 
 /// The lengths of the buffers that loading fills.
@@ -118,6 +126,14 @@ pub struct Found {
 pub struct Query {
     pub components: Vec<i32>,
     pub word: u32,
+}
+
+/// What a library has, but for its marks, once a vector was added or removed.
+#[derive(Clone, PartialEq, Eq, Debug)]
+pub struct Updated {
+    pub vectors: Vec<i32>,
+    pub settings: Vec<u32>,
+    pub codes: Vec<u8>,
 }
 
 /// A library that was loaded, and how many bytes it is.

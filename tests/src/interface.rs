@@ -10,6 +10,7 @@ mod library;
 mod partition;
 mod program;
 mod search;
+mod updates;
 
 pub use approximation::{check_codes, pack, pack_vectors, unpack};
 pub use distance::{bounds, distance};
@@ -22,3 +23,4 @@ pub use library::{library_length, load, query, query_present, write};
 pub use partition::{check_marks, dimension_region, make_marks, part, region, regions, stretch};
 pub use program::program;
 pub use search::{scan, search};
+pub use updates::{add, remove};

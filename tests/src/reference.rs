@@ -1,4 +1,4 @@
-//! Document 01 in Rust, with the change requests of document 02 that have landed (the first two), written from the
+//! Document 01 in Rust, with the change requests of document 02 that have landed (the first three), written from the
 //! documents alone: what the matcher's answers are held to. Where there is an obvious method, this is another one. A
 //! call's outcome is what it answers, or the number of the refusal.
 
@@ -11,6 +11,7 @@ mod presence;
 mod program;
 mod reading;
 mod search;
+mod updates;
 
 pub use approximation::{check_codes, codes_length, pack, pack_vectors, packed, regions_of, unpack};
 pub use distance::{bounds, cell_vectors, distance, distance_between};
@@ -23,3 +24,4 @@ pub use presence::{full_word, kept, present, word_of};
 pub use program::program;
 pub use reading::{intake, intake_present, is_nan, Reading};
 pub use search::{best, scan, search};
+pub use updates::{add, remove};

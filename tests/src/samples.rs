@@ -1,7 +1,7 @@
 //! Inputs that no call refuses: document 01's own, and random ones.
 
 use crate::{
-    input::{Input, One, Room},
+    input::{Input, Loaded, One, Room},
     random::Random,
     reference,
 };
@@ -28,6 +28,8 @@ pub fn input(d: usize, b: usize, marks: &[i32], vectors: &[i32], query: &[i32], 
     let codes = reference::packed(d, b, &regions);
     let one = One {
         vector: vectors[..d].to_vec(),
+        setting: 100,
+        number: 0,
         marks: marks[parts[0].clone()].to_vec(),
         regions: parts[0].len() - 1,
         value: vectors[0],
@@ -41,6 +43,9 @@ pub fn input(d: usize, b: usize, marks: &[i32], vectors: &[i32], query: &[i32], 
         lowers: n,
         uppers: n,
         bytes: reference::bytes_length(d, b, n),
+        new_vectors: 0,
+        new_settings: 0,
+        new_codes: 0,
     };
     Input {
         origin: String::new(),
@@ -88,8 +93,30 @@ impl Input {
             regions: part.len() - 1,
             marks: self.marks[part].to_vec(),
             value: self.vectors[i * self.d + j - 1],
+            ..self.one
         };
         self.j = j;
+        self
+    }
+
+    /// The same with a vector to add, its settings number, and the room for it.
+    pub fn to_add(mut self, vector: &[i32], setting: u32) -> Input {
+        (self.one.vector, self.one.setting) = (vector.to_vec(), setting);
+        let count = self.n + 1;
+        self.with_new_room(count)
+    }
+
+    /// The same with the number of a vector to remove, and the room for the others.
+    pub fn to_remove(mut self, number: usize) -> Input {
+        self.one.number = number;
+        let count = self.n - 1;
+        self.with_new_room(count)
+    }
+
+    /// The same with room for a library of so many vectors.
+    fn with_new_room(mut self, count: usize) -> Input {
+        let codes = reference::codes_length(count, self.b);
+        (self.room.new_vectors, self.room.new_settings, self.room.new_codes) = (count * self.d, count, codes);
         self
     }
 
@@ -294,6 +321,33 @@ pub fn small_marks_of_more_dimensions(random: &mut Random) -> (usize, usize, Vec
 pub fn vector_inside(random: &mut Random, d: usize, b: usize, marks: &[i32]) -> Vec<i32> {
     let mut component = |part: Range<usize>| random.between(marks[part.start], marks[part.end - 1] - 1);
     reference::parts(d, b).into_iter().map(&mut component).collect()
+}
+
+/// The same vector with a component or more outside the marks, just so or anywhere: marks that end before the ends of the
+/// scale.
+pub fn vector_outside(random: &mut Random, d: usize, b: usize, marks: &[i32], inside: &[i32]) -> Vec<i32> {
+    let mut vector = inside.to_vec();
+    for _ in 0..random.one_of(&[1, 1, d]) {
+        let dimension = random.below(d);
+        let part = reference::parts(d, b)[dimension].clone();
+        let (first, last) = (marks[part.start], marks[part.end - 1]);
+        let (below, above) = (random.between(LEAST, first - 1), random.between(last, GREATEST));
+        vector[dimension] = random.one_of(&[first - 1, last, below, above]);
+    }
+    vector
+}
+
+/// What loading gives of a library that was written.
+pub fn library_of(input: &Input) -> Loaded {
+    Loaded {
+        d: input.d,
+        b: input.b,
+        n: input.n,
+        marks: input.marks.clone(),
+        settings: input.settings.clone(),
+        components: input.vectors.clone(),
+        used: input.room.bytes,
+    }
 }
 
 /// The bytes of an input's library.

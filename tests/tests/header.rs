@@ -60,7 +60,7 @@ fn no_refusal_has_another_number() {
     let (_, rest) = header.split_once("enum matcher_refusal {").expect("the header has the refusals");
     let (listed, _) = rest.split_once('}').expect("the list ends");
     let listed: Vec<&str> = listed.split(',').map(str::trim).collect();
-    assert_eq!(listed.len(), 20);
+    assert_eq!(listed.len(), 22);
     assert_eq!(listed, numbers, "the header, and crates/refusal");
 }
 
@@ -190,15 +190,15 @@ fn no_call_reaches_past_what_it_is_given() {
     assert!(functions > 20, "{functions} functions");
 }
 
-/// Every number of dimensions with every number of bits.
+/// Every number of dimensions with every number of bits, and n from one below its limits to one above.
 #[test]
 fn no_length_is_another() {
     let mut lines = printed(
         "lengths.c",
-        "    static const size_t counts[] = {1, 2, 3, 7, 8, 511, 512};
+        "    static const size_t counts[] = {0, 1, 2, 3, 7, 8, 511, 512, 513};
     for (size_t d = 1; d <= MATCHER_MAX_DIMENSIONS; d++)
         for (size_t b = 0; b <= MATCHER_MAX_DIMENSION_BITS * d; b++)
-            for (size_t i = 0; i < 7; i++) {
+            for (size_t i = 0; i < sizeof counts / sizeof counts[0]; i++) {
                 size_t n = counts[i];
                 printf(\"%zu %zu %zu: \", d, b, n);
                 printf(\"%zu %zu %zu\\n\", MATCHER_MARKS(d, b), MATCHER_CODES(b, n), MATCHER_LIBRARY(d, b, n));
@@ -218,7 +218,7 @@ fn no_length_is_another() {
     ];
     let expected = largest.map(|length| length.to_string()).join(" ");
     assert_eq!(lines.pop(), Some(expected), "the largest, and on the right by the reference");
-    let counts = [1, 2, 3, 7, 8, 511, 512];
+    let counts = [0, 1, 2, 3, 7, 8, 511, 512, 513];
     let of_shape = |(d, b): (usize, usize)| {
         counts.map(|n| {
             let (marks, codes) = (reference::marks_length(d, b), reference::codes_length(n, b));

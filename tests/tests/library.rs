@@ -8,8 +8,8 @@ use tests::{
     random::Random,
     reference,
     samples::{
-        self, component, file, largest_input, library_a, random_input, random_of_shape, readings, shapes, small_inputs,
-        GREATEST, LEAST,
+        self, component, file, largest_input, library_a, library_of, random_input, random_of_shape, readings, shapes,
+        small_inputs, GREATEST, LEAST,
     },
 };
 
@@ -36,19 +36,6 @@ fn input_of(library: &Loaded) -> Input {
     let other = library_a([0, 0], 1);
     let room = Room { bytes: used, ..other.room };
     Input { d, b, n, marks, settings, vectors: library.components.clone(), room, ..other }
-}
-
-/// What loading gives of a library that was written.
-fn library_of(input: &Input) -> Loaded {
-    Loaded {
-        d: input.d,
-        b: input.b,
-        n: input.n,
-        marks: input.marks.clone(),
-        settings: input.settings.clone(),
-        components: input.vectors.clone(),
-        used: input.room.bytes,
-    }
 }
 
 /// Where the records of a library begin.

@@ -1,6 +1,11 @@
 //! README.md and docs/FORMAT.md say what the crates are.
 
-use std::fs;
+use std::{
+    fs,
+    os::unix::fs::symlink,
+    path::{Path, PathBuf},
+    process::Command,
+};
 use tests::{
     c, map,
     matches::{sample, SAMPLES},
@@ -11,12 +16,26 @@ fn read(path: &str) -> String {
     fs::read_to_string(c::root().join(path)).unwrap_or_else(|error| panic!("{path}: {error}"))
 }
 
+/// A text's section of the second level.
+fn section<'a>(text: &'a str, title: &str) -> &'a str {
+    let (_, rest) = text.split_once(&format!("\n## {title}\n")).unwrap_or_else(|| panic!("there is no {title}"));
+    rest.split_once("\n## ").map_or(rest, |(section, _)| section)
+}
+
+/// The blocks of a section that are indented by four: commands, and what they print.
+fn blocks(section: &str) -> Vec<String> {
+    let block = |paragraph: &str| {
+        let lines: Option<Vec<&str>> = paragraph.lines().map(|line| line.strip_prefix("    ")).collect();
+        Some(lines?.join("\n") + "\n")
+    };
+    section.split("\n\n").filter_map(block).collect()
+}
+
 /// Tables and picture have every crate, in the same groups, and an arrow for each dependency that follows from no others.
 #[test]
 fn no_crate_is_left_out_of_the_map() {
     let readme = read("README.md");
-    let (_, map) = readme.split_once("\n## The map\n").expect("README.md has a map");
-    let faults = map::faults(map, &read("crates.txt"));
+    let faults = map::faults(section(&readme, "The map"), &read("crates.txt"));
     assert!(faults.is_empty(), "README.md, the map:\n{}", faults.join("\n"));
 }
 
@@ -30,6 +49,32 @@ fn no_sample_is_answered_otherwise_than_the_readme_shows() {
     }
 }
 
+/// A folder from which the repository's folders are seen, for commands that leave files where they run.
+fn beside_the_repository(name: &str) -> PathBuf {
+    let folder = Path::new(env!("CARGO_TARGET_TMPDIR")).join(name);
+    if folder.exists() {
+        fs::remove_dir_all(&folder).expect("the folder can be made anew");
+    }
+    fs::create_dir_all(&folder).expect("there is room for files");
+    for seen in ["include", "examples", "samples", "target"] {
+        symlink(c::root().join(seen), folder.join(seen)).expect("a link can be made");
+    }
+    folder
+}
+
+/// README.md's commands for C and for the yard, one after the other.
+#[test]
+fn no_command_in_the_yard_prints_otherwise_than_the_readme_shows() {
+    let readme = read("README.md");
+    let [from_c, in_the_yard] = ["From C", "In the yard"].map(|title| blocks(section(&readme, title)));
+    let ([compile_match], [compile_yard, commands, shown]) = (&from_c[..], &in_the_yard[..]) else {
+        panic!("other blocks: {from_c:?}, {in_the_yard:?}");
+    };
+    let mut shell = Command::new("/bin/sh");
+    shell.args(["-e", "-c", &[&compile_match[..], compile_yard, commands].concat()]);
+    assert_eq!(c::output(shell.current_dir(beside_the_repository("readme"))), *shown, "README.md is on the right");
+}
+
 /// The rows `| cell | cell | ..` of a text that begin with a number, by their first two cells.
 fn numbered(text: &str) -> Vec<String> {
     let cells = text.lines().filter_map(|line| line.strip_prefix("| ")).map(|row| row.split(" | "));
@@ -40,20 +85,19 @@ fn numbered(text: &str) -> Vec<String> {
 #[test]
 fn no_refusal_has_another_number() {
     let text = read("docs/FORMAT.md");
-    let (_, rest) = text.split_once("\n## Refusals\n").expect("docs/FORMAT.md has the refusals");
-    let (told, _) = rest.split_once("\n## ").expect("the section ends");
+    let told = section(&text, "Refusals");
     let source = read("crates/refusal/src/lib.rt");
     let rows =
         source.lines().filter_map(|line| line.trim().strip_prefix("Refusal::")?.strip_suffix(',')?.split_once(" => "));
     let numbers: Vec<String> = rows.map(|(name, number)| format!("`{name}` {number}")).collect();
-    assert_eq!(numbers.len(), 19);
+    assert_eq!(numbers.len(), 21);
     assert_eq!(numbered(told), numbers, "docs/FORMAT.md, and crates/refusal");
 }
 
 #[test]
 fn no_record_has_another_kind() {
     let text = read("docs/FORMAT.md");
-    let (_, told) = text.split_once("\n## Files\n").expect("docs/FORMAT.md has the files");
+    let told = section(&text, "Files");
     let source = read("crates/records/src/lib.rt");
     let kinds = source.lines().filter_map(|line| line.strip_prefix("pub const ")?.split_once(": u32 = "));
     let kinds: Vec<String> =

@@ -10,7 +10,10 @@ use tests::{
     matches::{with_marks, TEXT_ROOM},
     random::Random,
     reference,
-    samples::{self, component, file, random_query, random_vectors, random_word, readings_present, GREATEST, LEAST},
+    samples::{
+        self, component, file, random_query, random_vectors, random_word, readings_present, vector_outside, GREATEST,
+        LEAST,
+    },
 };
 
 /// A library with its former marks and the codes in them, and the same remade: marks and codes by the calls.
@@ -196,14 +199,7 @@ fn no_large_tractor_falls_outside_the_marks_of_small_ones() {
         let b = random.below(6 * d + 1);
         let small: Vec<i32> = (0..n * d).map(|_| random.between(-400, 400)).collect();
         let [before, after] = before_and_after(d, b, &small, &vec![0; d], 1);
-        let mut large = small[..d].to_vec();
-        for _ in 0..random.one_of(&[1, 1, d]) {
-            let dimension = random.below(d);
-            let part = reference::parts(d, b)[dimension].clone();
-            let (first, last) = (before.marks[part.start], before.marks[part.end - 1]);
-            let (below, above) = (random.between(LEAST, first - 1), random.between(last, GREATEST));
-            large[dimension] = random.one_of(&[first - 1, last, below, above]);
-        }
+        let large = vector_outside(&mut random, d, b, &before.marks, &small[..d]);
         let all = [&small[..], &large].concat();
         let taken = samples::input(d, b, &after.marks, &all, &large, 1).from(format!("case {case}"));
         let refused = Input { marks: before.marks, ..taken.clone() };

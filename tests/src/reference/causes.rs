@@ -123,3 +123,13 @@ pub fn word(d: usize, word: u32) -> Checked {
     word_within(d, word)?;
     enough_present(d, word)
 }
+
+/// 20 (document 02, Slip 3): "adding at the pattern limit".
+pub fn room_for_one_more(n: usize) -> Checked {
+    refused_unless(n < 512, 20)
+}
+
+/// 21 (document 02, Slip 3): "removing a number not stored or the only pattern".
+pub fn removable(n: usize, number: usize) -> Checked {
+    refused_unless(n > 1 && (0..n).contains(&number), 21)
+}

@@ -79,7 +79,7 @@ pub fn former_marks(d: usize, b: usize, vectors: &[i32]) -> Vec<i32> {
 }
 
 /// The region numbers of all vectors, in the vectors' order.
-fn located(d: usize, b: usize, vectors: &[i32], marks: &[i32]) -> Option<Vec<u8>> {
+pub fn located(d: usize, b: usize, vectors: &[i32], marks: &[i32]) -> Option<Vec<u8>> {
     let parts = parts(d, b);
     let region = |(place, &value): (usize, &i32)| Some(region_of(&marks[parts[place % d].clone()], value)? as u8);
     vectors.iter().enumerate().map(region).collect()
