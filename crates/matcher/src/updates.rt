@@ -21,18 +21,18 @@ pub extern "C" fn matcher_add(
     vectors: &[i32],
     vector: &[i32],
     setting: u32,
-    new_vectors: &mut [i32],
-    new_settings: &mut [u32],
-    new_codes: &mut [u8],
+    newvectors: &mut [i32],
+    newsettings: &mut [u32],
+    newcodes: &mut [u8],
 ) -> u32
     ensures { λ r. let l = codedLibrary d b n (now (marks .entry)) (now (codes .entry)) (now (settings .entry)) (now (vectors .entry)) in
-        let v = first (addCauses l (now (vector .entry)) (lengthsWith (length (now («new_vectors» .entry)))
-        (length (now («new_settings» .entry))) (length (now («new_codes» .entry))))) in
+        let v = first (addCauses l (now (vector .entry)) (lengthsWith (length (now (newvectors .entry)))
+        (length (now (newsettings .entry))) (length (now (newcodes .entry))))) in
         let after = added l (now (vector .entry)) setting in
         ⌜ (r ≡ verdictNumber v)
-        × (now («new_vectors» .exit) ≡ outcome v (after .vectors) (λ _. now («new_vectors» .entry)))
-        × (now («new_settings» .exit) ≡ outcome v (after .settings) (λ _. now («new_settings» .entry)))
-        × (now («new_codes» .exit) ≡ outcome v (after .codes) (λ _. now («new_codes» .entry))) ⌝ }
+        × (now (newvectors .exit) ≡ outcome v (after .vectors) (λ _. now (newvectors .entry)))
+        × (now (newsettings .exit) ≡ outcome v (after .settings) (λ _. now (newsettings .entry)))
+        × (now (newcodes .exit) ≡ outcome v (after .codes) (λ _. now (newcodes .entry))) ⌝ }
 {
     let terms = Addition { d, b, n, setting };
     let verdict = updating::add(
@@ -42,9 +42,9 @@ pub extern "C" fn matcher_add(
         settings,
         vectors,
         vector,
-        new_vectors,
-        new_settings,
-        new_codes,
+        newvectors,
+        newsettings,
+        newcodes,
     );
     verdict.number()
 }
@@ -60,18 +60,18 @@ pub extern "C" fn matcher_remove(
     settings: &[u32],
     vectors: &[i32],
     number: usize,
-    new_vectors: &mut [i32],
-    new_settings: &mut [u32],
-    new_codes: &mut [u8],
+    newvectors: &mut [i32],
+    newsettings: &mut [u32],
+    newcodes: &mut [u8],
 ) -> u32
     ensures { λ r. let l = codedLibrary d b n (now (marks .entry)) (now (codes .entry)) (now (settings .entry)) (now (vectors .entry)) in
-        let v = first (removeCauses l number (lengthsWith (length (now («new_vectors» .entry)))
-        (length (now («new_settings» .entry))) (length (now («new_codes» .entry))))) in
+        let v = first (removeCauses l number (lengthsWith (length (now (newvectors .entry)))
+        (length (now (newsettings .entry))) (length (now (newcodes .entry))))) in
         let after = removed l number in
         ⌜ (r ≡ verdictNumber v)
-        × (now («new_vectors» .exit) ≡ outcome v (after .vectors) (λ _. now («new_vectors» .entry)))
-        × (now («new_settings» .exit) ≡ outcome v (after .settings) (λ _. now («new_settings» .entry)))
-        × (now («new_codes» .exit) ≡ outcome v (after .codes) (λ _. now («new_codes» .entry))) ⌝ }
+        × (now (newvectors .exit) ≡ outcome v (after .vectors) (λ _. now (newvectors .entry)))
+        × (now (newsettings .exit) ≡ outcome v (after .settings) (λ _. now (newsettings .entry)))
+        × (now (newcodes .exit) ≡ outcome v (after .codes) (λ _. now (newcodes .entry))) ⌝ }
 {
     let terms = Removal { d, b, n, number };
     let verdict = updating::remove(
@@ -80,9 +80,9 @@ pub extern "C" fn matcher_remove(
         codes,
         settings,
         vectors,
-        new_vectors,
-        new_settings,
-        new_codes,
+        newvectors,
+        newsettings,
+        newcodes,
     );
     verdict.number()
 }

@@ -65,30 +65,30 @@ pub fn add(
     settings: &[u32],
     vectors: &[i32],
     vector: &[i32],
-    new_vectors: &mut [i32],
-    new_settings: &mut [u32],
-    new_codes: &mut [u8],
+    newvectors: &mut [i32],
+    newsettings: &mut [u32],
+    newcodes: &mut [u8],
 ) -> Verdict
     ensures { λ r. let l = codedLibrary (terms .d) (terms .b) (terms .n) (now (marks .entry)) (now (codes .entry))
         (now (settings .entry)) (now (vectors .entry)) in
-        let v = first (addCauses l (now (vector .entry)) (lengthsWith (length (now («new_vectors» .entry)))
-        (length (now («new_settings» .entry))) (length (now («new_codes» .entry))))) in
+        let v = first (addCauses l (now (vector .entry)) (lengthsWith (length (now (newvectors .entry)))
+        (length (now (newsettings .entry))) (length (now (newcodes .entry))))) in
         let after = added l (now (vector .entry)) (terms .setting) in
         ⌜ (r ≡ v)
-        × (now («new_vectors» .exit) ≡ outcome v (after .vectors) (λ _. now («new_vectors» .entry)))
-        × (now («new_settings» .exit) ≡ outcome v (after .settings) (λ _. now («new_settings» .entry)))
-        × (now («new_codes» .exit) ≡ outcome v (after .codes) (λ _. now («new_codes» .entry))) ⌝ }
+        × (now (newvectors .exit) ≡ outcome v (after .vectors) (λ _. now (newvectors .entry)))
+        × (now (newsettings .exit) ≡ outcome v (after .settings) (λ _. now (newsettings .entry)))
+        × (now (newcodes .exit) ≡ outcome v (after .codes) (λ _. now (newcodes .entry))) ⌝ }
 {
     let room = Lengths {
-        vectors: new_vectors.len(),
-        settings: new_settings.len(),
-        codes: new_codes.len(),
+        vectors: newvectors.len(),
+        settings: newsettings.len(),
+        codes: newcodes.len(),
     };
     match check_add(terms, marks, codes, settings, vectors, vector, room) {
         Verdict::Accepted => {
-            append_components(vectors, vector, new_vectors);
-            append_setting(settings, terms.setting, new_settings);
-            append_code(terms, marks, codes, vector, new_codes);
+            append_components(vectors, vector, newvectors);
+            append_setting(settings, terms.setting, newsettings);
+            append_code(terms, marks, codes, vector, newcodes);
             Verdict::Accepted
         }
         Verdict::Refused(cause) => Verdict::Refused(cause),
@@ -103,30 +103,30 @@ pub fn remove(
     codes: &[u8],
     settings: &[u32],
     vectors: &[i32],
-    new_vectors: &mut [i32],
-    new_settings: &mut [u32],
-    new_codes: &mut [u8],
+    newvectors: &mut [i32],
+    newsettings: &mut [u32],
+    newcodes: &mut [u8],
 ) -> Verdict
     ensures { λ r. let l = codedLibrary (terms .d) (terms .b) (terms .n) (now (marks .entry)) (now (codes .entry))
         (now (settings .entry)) (now (vectors .entry)) in
-        let v = first (removeCauses l (terms .number) (lengthsWith (length (now («new_vectors» .entry)))
-        (length (now («new_settings» .entry))) (length (now («new_codes» .entry))))) in
+        let v = first (removeCauses l (terms .number) (lengthsWith (length (now (newvectors .entry)))
+        (length (now (newsettings .entry))) (length (now (newcodes .entry))))) in
         let after = removed l (terms .number) in
         ⌜ (r ≡ v)
-        × (now («new_vectors» .exit) ≡ outcome v (after .vectors) (λ _. now («new_vectors» .entry)))
-        × (now («new_settings» .exit) ≡ outcome v (after .settings) (λ _. now («new_settings» .entry)))
-        × (now («new_codes» .exit) ≡ outcome v (after .codes) (λ _. now («new_codes» .entry))) ⌝ }
+        × (now (newvectors .exit) ≡ outcome v (after .vectors) (λ _. now (newvectors .entry)))
+        × (now (newsettings .exit) ≡ outcome v (after .settings) (λ _. now (newsettings .entry)))
+        × (now (newcodes .exit) ≡ outcome v (after .codes) (λ _. now (newcodes .entry))) ⌝ }
 {
     let room = Lengths {
-        vectors: new_vectors.len(),
-        settings: new_settings.len(),
-        codes: new_codes.len(),
+        vectors: newvectors.len(),
+        settings: newsettings.len(),
+        codes: newcodes.len(),
     };
     match check_remove(terms, marks, codes, settings, vectors, room) {
         Verdict::Accepted => {
-            cut_components(vectors, terms.d, terms.number, new_vectors);
-            cut_settings(settings, terms.number, new_settings);
-            cut_code(terms, codes, new_codes);
+            cut_components(vectors, terms.d, terms.number, newvectors);
+            cut_settings(settings, terms.number, newsettings);
+            cut_code(terms, codes, newcodes);
             Verdict::Accepted
         }
         Verdict::Refused(cause) => Verdict::Refused(cause),
@@ -272,9 +272,9 @@ fn check_contents(
 }
 
 // The codes with that of a vector behind them: its code is made by itself, and its bits are put behind the others'.
-fn append_code(terms: Addition, marks: &[i32], codes: &[u8], vector: &[i32], new_codes: &mut [u8])
-    requires { ⌜ Appends (terms .d) (terms .b) (terms .n) (now marks) (now vector) (length (now «new_codes»)) ⌝ }
-    ensures { λ _. ⌜ now («new_codes» .exit)
+fn append_code(terms: Addition, marks: &[i32], codes: &[u8], vector: &[i32], newcodes: &mut [u8])
+    requires { ⌜ Appends (terms .d) (terms .b) (terms .n) (now marks) (now vector) (length (now newcodes)) ⌝ }
+    ensures { λ _. ⌜ now (newcodes .exit)
         ≡ addedCodes (terms .d) (terms .b) (terms .n) (now (marks .entry)) (now (codes .entry)) (now (vector .entry)) ⌝ }
 {
     let d = terms.d;
@@ -283,14 +283,14 @@ fn append_code(terms: Addition, marks: &[i32], codes: &[u8], vector: &[i32], new
     let mut code = [0u8; MAX_CODE];
     let size = layout::codes_length(d, b, 1);
     pack_vectors(d, b, 1, vector, marks, &mut code[..size]);
-    splice(codes, n * b, &code[..size], 0, new_codes);
+    splice(codes, n * b, &code[..size], 0, newcodes);
 }
 
 // The codes without that of a vector: its bits are taken out.
-fn cut_code(terms: Removal, codes: &[u8], new_codes: &mut [u8])
-    requires { ⌜ Cuts (terms .d) (terms .b) (terms .n) (now codes) (terms .number) (length (now «new_codes»)) ⌝ }
-    ensures { λ _. ⌜ now («new_codes» .exit) ≡ removedCodes (terms .b) (terms .n) (now (codes .entry)) (terms .number) ⌝ }
+fn cut_code(terms: Removal, codes: &[u8], newcodes: &mut [u8])
+    requires { ⌜ Cuts (terms .d) (terms .b) (terms .n) (now codes) (terms .number) (length (now newcodes)) ⌝ }
+    ensures { λ _. ⌜ now (newcodes .exit) ≡ removedCodes (terms .b) (terms .n) (now (codes .entry)) (terms .number) ⌝ }
 {
     let start = terms.number * terms.b;
-    splice(codes, start, codes, start + terms.b, new_codes);
+    splice(codes, start, codes, start + terms.b, newcodes);
 }

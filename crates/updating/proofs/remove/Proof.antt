@@ -25,7 +25,7 @@ library c =
     (c .args .settings .now) (c .args .vectors .now)
 
 abbrev room : tie.Start → Lengths
-room c = lengthsWith (length (c .args .new-vectors .now)) (length (c .args .new-settings .now)) (length (c .args .new-codes .now))
+room c = lengthsWith (length (c .args .newvectors .now)) (length (c .args .newsettings .now)) (length (c .args .newcodes .now))
 
 abbrev start-of : tie.After-enum-told → tie.Start
 start-of c = c .before .before .before .before .before .before .before
