@@ -212,7 +212,8 @@ module _ (d b n : ℕ) (some : 0 < d) where
       let bits = length-joined d b some n regions rows in
       let none : drop (codeLength b n * 8) (joined d b 0 regions) ≡ [] =
       drop-of-length-le (joined d b 0 regions) {i = codeLength b n * 8} (omega (arith, bits)) in
-      rw (bits-bytes (codeLength b n) (binary-joined d b 0 regions)) (padded-same (codeLength b n * 8) (joined d b 0 regions) (rw none refl))
+      rw (bits-bytes (codeLength b n) (binary-joined d b 0 regions))
+      (padded-same (codeLength b n * 8) (joined d b 0 regions) (rw none refl))
 
   -- no spare bit is set
   pub packed-spare : (regions : List ℕ) → length regions ≡ n * d → spareZero b n (packed d b n regions) ≡ true

@@ -72,7 +72,7 @@ module _ (l : CodedLibrary) (vector : List ℤ) (room : Lengths) (accepted : fir
   abbrev new : CodedLibrary
   new = added l vector setting
 
-  -- 1. "Adding puts the new pattern last ..
+  -- "Adding puts the new pattern last ..
   pub adding-puts-last : vectorAt (l .d) (new .vectors) (l .n) ≡ vector
   adding-puts-last =
       rw (drop-at (l .vectors) vector (l .n * l .d) (facts .library .exact .of-vectors))
@@ -96,7 +96,7 @@ module _ (l : CodedLibrary) (vector : List ℤ) (room : Lengths) (accepted : fir
       region-same (l .d) (l .b) some (new .codes) (l .codes) i i
       (earlier-code (l .d) (l .b) (l .n) some (l .marks) (l .codes) vector (facts .library .exact .of-codes) (facts .size) i row) t among
 
-  -- 3. "where the codes were the patterns' own, the library after it has those that packing afresh would give": packing is not refused, ..
+  -- "where the codes were the patterns' own, the library after it has those that packing afresh would give": packing is not refused, ..
   pub adding-packs : first (freshCauses new) ≡ Accepted
   adding-packs = packs new (added-measured l vector room accepted setting) (added-sound l vector room accepted setting)
 
@@ -116,7 +116,7 @@ module _ (l : CodedLibrary) (vector : List ℤ) (room : Lengths) (accepted : fir
         (added-measured l vector room accepted setting .exact .of-vectors) (added-sound l vector room accepted setting .inside));
   }
 
-  -- 4. What is removed after it was added is the old library, ..
+  -- What is removed after it was added is the old library, ..
   pub added-removed : Bytes (l .codes) → removed new (l .n) ≡ l
   added-removed bytes =
       let one : suc (l .n) - 1 ≡ l .n = omega arith in
@@ -145,7 +145,7 @@ module _ (l : CodedLibrary) (vector : List ℤ) (room : Lengths) (accepted : fir
       removes new (l .n) (lengthsOf l) (added-measured l vector room accepted setting) (added-sound l vector room accepted setting)
       (rw one (facts .library .exact)) (omega arith) (omega (arith, counted .above))
 
-  -- 6. A scan of the new library gives what a scan of the old one gives, with the new vector's pair put in, cut to k, ..
+  -- A scan of the new library gives what a scan of the old one gives, with the new vector's pair put in, cut to k, ..
   pub adding-scan : (query : Query) (k : ℕ) → scanned (indexIn new) query k
       ≡ take k (insert (record { key = distanceFrom (indexIn l) query vector; number = l .n }) (scanned (indexIn l) query k))
   adding-scan query k =
@@ -176,7 +176,7 @@ module _ (l : CodedLibrary) (i : ℕ) (room : Lengths) (accepted : first (remove
   whole : suc i * l .d ≤ length (l .vectors)
   whole = rw (known .library .exact .of-vectors) (mul-le-mul-right (l .d) (known .stored))
 
-  -- 2. "removing moves later patterns, settings and codes down by one", and leaves the earlier ones: vector by vector, ..
+  -- "removing moves later patterns, settings and codes down by one", and leaves the earlier ones: vector by vector, ..
   pub removing-keeps-vectors : (j : ℕ) → j < i → vectorAt (l .d) (left .vectors) j ≡ vectorAt (l .d) (l .vectors) j
   removing-keeps-vectors = without-before (l .d) (l .vectors) i whole
 
@@ -215,7 +215,7 @@ module _ (l : CodedLibrary) (i : ℕ) (room : Lengths) (accepted : first (remove
   removing-moves-regions j t later row among =
       region-same (l .d) (l .b) positive (left .codes) (l .codes) j (suc j) (removing-moves-bits j later row) t among
 
-  -- 3. "where the codes were the patterns' own, the library after it has those that packing afresh would give": packing is not refused, ..
+  -- "where the codes were the patterns' own, the library after it has those that packing afresh would give": packing is not refused, ..
   pub removing-packs : first (freshCauses left) ≡ Accepted
   removing-packs = packs left (removed-measured l i room accepted) (removed-sound l i room accepted)
 
@@ -243,7 +243,7 @@ module _ (l : CodedLibrary) (i : ℕ) (room : Lengths) (accepted : first (remove
       go true e = removing-keeps-vectors j (ltb-true j i e)
       go false e = removing-moves-vectors j (ltb-false j i e)
 
-  -- 6. A scan over all of the library after it gives what a scan over all of the old one gives, without number i, numbers above i less one.
+  -- A scan over all of the library after it gives what a scan over all of the old one gives, without number i, numbers above i less one.
   -- A scan for any k gives what one for k + 1 gives so, cut to k, ..
   pub removing-scan-all : (query : Query) → scanned (indexIn left) query (left .n) ≡ withoutNumber i (scanned (indexIn l) query (l .n))
   removing-scan-all query =
@@ -266,7 +266,7 @@ module _ (l : CodedLibrary) (i : ℕ) (room : Lengths) (accepted : first (remove
 
 -- ---- outer marks at the ends of the scale
 
--- 5. "8 never occurs in adding to a library whose outer marks are those of Slip 2", whatever the vector, the buffers and the rest of the
+-- "8 never occurs in adding to a library whose outer marks are those of Slip 2", whatever the vector, the buffers and the rest of the
 -- library.
 pub adding-never-outside : (l : CodedLibrary) → EndsOfScale (l .d) (l .b) (l .marks) → (vector : List ℤ) (room : Lengths)
     → ¬ (first (addCauses l vector room) ≡ Refused Outside)

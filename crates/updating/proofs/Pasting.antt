@@ -18,7 +18,8 @@ module _ {A : Type 0} where
   pub starts : (from : List A) (at : ℕ) (before : List A) → Pasting from at before before 0
   starts from at before = record { within = omega arith; room = refl; so-far = paste-zero before at from }
 
-  module _ {from : List A} {at : ℕ} {before out : List A} {i : ℕ} (now : Pasting from at before out i) (fits : at + length from ≤ length before) where
+  module _ {from : List A} {at : ℕ} {before out : List A} {i : ℕ} (now : Pasting from at before out i)
+      (fits : at + length from ≤ length before) where
     pub pastes : i < length from → (default : A) → Pasting from at before (set out (at + i) (getD from i default)) (i + 1)
     pastes more default = record {
       within = omega arith;

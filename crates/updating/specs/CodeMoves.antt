@@ -69,12 +69,13 @@ module _ {d b n : ℕ} {marks vector : List ℤ} {room : ℕ} (at : Appends d b 
       → last ≡ splicedBytes room codes (n * b) code 0 → last ≡ addedCodes d b n marks codes vector
   unfolding addedCodes
   appended codes is spliced =
+      let before = codeBits b n codes in
       let regions = vectorRegions d b marks vector in
       let rows : length regions ≡ 1 * d = length-regions d b marks 0 vector ∙ at .size ∙ sym (one-mul d) in
       spliced
       ∙ rw (is, at .bytes)
-      (bytes-same (codeLength b (suc n)) (codeBits b n codes ++ byteBits (packed d b 1 regions)) (codeBits b n codes ++ joined d b 0 regions)
-      (same-behind (codeBits b n codes) (byteBits (packed d b 1 regions)) (joined d b 0 regions) (packed-same d b 1 some regions rows)))
+      (bytes-same (codeLength b (suc n)) (before ++ byteBits (packed d b 1 regions)) (before ++ joined d b 0 regions)
+      (same-behind before (byteBits (packed d b 1 regions)) (joined d b 0 regions) (packed-same d b 1 some regions rows)))
 
 -- ---- a removal
 

@@ -257,7 +257,8 @@ fn check_contents(
 ) -> Verdict
     requires { ⌜ (first (shapeCauses d b) ≡ Accepted) × (isVectorCount n ≡ true) × (length (now marks) ≡ firstMarks d b d)
         × (length (now codes) ≡ codeLength b n) ⌝ }
-    ensures { λ r. ⌜ r ≡ first (contentCauses d b n (now (marks .entry)) (now (codes .entry)) (now (vectors .entry)) (now (more .entry))) ⌝ }
+    ensures { λ r. ⌜ r ≡ first (contentCauses d b n (now (marks .entry)) (now (codes .entry)) (now (vectors .entry))
+        (now (more .entry))) ⌝ }
 {
     if !are_components(more) {
         return Verdict::Refused(Refusal::Component);

@@ -29,7 +29,8 @@ loop-again c =
       omega arith,
       simp length-set (inv .1),
       rw (inv .2)
-          (copies (args .front .now) (args .out .now) (at .loop .i) (omega (arith, at .before .pre .0)) (omega (arith, at .before .pre .1))),
+          (copies (args .front .now) (args .out .now) (at .loop .i) (omega (arith, at .before .pre .0))
+          (omega (arith, at .before .pre .1))),
     )
 
 done : tie.Need-returns Inv-loop μ-loop

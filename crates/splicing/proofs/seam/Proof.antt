@@ -19,7 +19,8 @@ upper c =
 upper-is : (c : tie.After-bits-at2) → c .before .bits-at .result ≡ upper c
 upper-is c =
     let start = c .before .before .before .before in
-    c .before .bits-at .ensures ∙ bits-at (start .args .front .now) (start .args .whole * 8) (start .args .used) (omega (arith, start .pre .1))
+    let args = start .args in
+    c .before .bits-at .ensures ∙ bits-at (args .front .now) (args .whole * 8) (args .used) (omega (arith, start .pre .1))
 
 lower-is : (c : tie.After-bits-at2) → let args = c .before .before .before .before .args in
     c .bits-at2 .result ≡ fromBits (8 - args .used) (drop (args .q) (byteBits (args .back .now)))

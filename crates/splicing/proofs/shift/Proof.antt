@@ -60,7 +60,8 @@ loop-again : tie.Need-loop-again Inv-loop μ-loop
 loop-again c =
     let at = c .before .before .before in
     rw (c .middle .ensures)
-    (shifts (at .loop .inv) (small at) (at .before .before .before .before .pre .1) (omega (arith, c .before .before .loop-test .taken, at .loop .inv .room))
+    (shifts (at .loop .inv) (small at) (at .before .before .before .before .pre .1)
+    (omega (arith, c .before .before .loop-test .taken, at .loop .inv .room))
     (c .before .byte-at2 .ensures))
 
 middle-requires : tie.Need-middle-requires Inv-loop μ-loop
@@ -80,7 +81,9 @@ shift-spec =
     μ-loop
     (λ c κs. search needs)
     (λ c. record { room = refl; within = c .before .before .before .pre .2; place = refl; known = c .byte-at .ensures; so-far = refl })
-    (λ c. omega (arith, c .before .loop .inv .place, c .before .before .before .before .before .good, c .before .before .before .before .before .pre .0))
+    (λ c.
+    let start = c .before .before .before .before .before in
+    omega (arith, c .before .loop .inv .place, start .good, start .pre .0))
     (λ c κs. search needs)
     middle-requires
     (λ c. omega (arith, c .middle .ensures))

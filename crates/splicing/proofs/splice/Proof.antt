@@ -41,7 +41,8 @@ long c =
     let used = copied .before .before .before in
     let args = used .before .before .before .before .before .args in
     filled-long (args .front .now) (small used) (args .back .now) (args .q) (at used) (args .out .now) _ _ _ _
-    (copied .before .before .if1 .left) (copied .copy2 .ensures) (kept seamed) (seamed .seam .ensures) (place (args .q) (used .used-bits .result) (at used .few))
+    (copied .before .before .if1 .left) (copied .copy2 .ensures) (kept seamed) (seamed .seam .ensures)
+    (place (args .q) (used .used-bits .result) (at used .few))
     (made .shift .ensures)
 
 byte : tie.Need-cast-out

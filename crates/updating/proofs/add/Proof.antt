@@ -26,7 +26,8 @@ room c = lengthsWith (length (c .args .newvectors .now)) (length (c .args .newse
 abbrev start-of : tie.After-enum-told → tie.Start
 start-of c = c .before .before .before .before .before .before .before
 
-accepted : (c : tie.After-enum-told) → first (addCauses (library (start-of c)) (start-of c .args .vector .now) (room (start-of c))) ≡ Accepted
+accepted : (c : tie.After-enum-told)
+    → first (addCauses (library (start-of c)) (start-of c .args .vector .now) (room (start-of c))) ≡ Accepted
 accepted c = sym (c .before .before .check-add .ensures) ∙ c .enum-told .given .1
 
 given : (c : tie.After-enum-told) → Addable (library (start-of c)) (start-of c .args .vector .now) (room (start-of c))

@@ -55,7 +55,8 @@ append-code-spec =
     (λ c.
     let start = c .before .before .before .before .before .before in
     let terms = start .args .terms in
-    omega (arith, codes-bits-le {d = terms .d} {b = terms .b} (terms .n) (shape (terms .d) (terms .b) (start .pre .shaped)) (start .pre .few)))
+    let shaped = shape (terms .d) (terms .b) (start .pre .shaped) in
+    omega (arith, codes-bits-le {d = terms .d} {b = terms .b} (terms .n) shaped (start .pre .few)))
     shared
     (λ c. sym (length-take-le _ _ (shared (c .before))))
     (λ c κs. search needs)

@@ -42,7 +42,8 @@ abbrev exact : tie.Start → Bool
 exact c = exactFor (c .args .d) (c .args .b) (c .args .n) (c .args .own)
 
 -- Where the marks' length is right, that of the others decides.
-measured : (c : tie.After-are-exact) → let start = c .before .before .before .before .before .before .before .before in let args = start .args in
+measured : (c : tie.After-are-exact)
+    → let start = c .before .before .before .before .before .before .before .before in let args = start .args in
     c .are-exact .result ≡ eqb (args .marks) (firstMarks (args .d) (args .b) (args .d)) && exact start
 measured c =
     let start = c .before .before .before .before .before .before .before .before in

@@ -10,7 +10,6 @@ use Rattle.refusal.specs.declared.Verdict.the-variants.{Accepted}
 use Rattle.refusal.specs.First.{first, outcome-accepted, outcome-refused}
 use Rattle.limits.specs.Limits.{maxVectors}
 use Rattle.limits.specs.Tests.{between}
-use Rattle.codes.specs.Codes.{spareZero}
 use Rattle.cells.specs.Cells.{noEmptyCodes}
 use Rattle.updating.specs.declared.Lengths.{Lengths}
 use Rattle.updating.specs.Updated.{CodedLibrary, codedLibrary}
@@ -30,7 +29,8 @@ room c = lengthsWith (length (c .args .newvectors .now)) (length (c .args .newse
 abbrev start-of : tie.After-enum-told → tie.Start
 start-of c = c .before .before .before .before .before .before .before
 
-accepted : (c : tie.After-enum-told) → first (removeCauses (library (start-of c)) (start-of c .args .terms .number) (room (start-of c))) ≡ Accepted
+accepted : (c : tie.After-enum-told)
+    → first (removeCauses (library (start-of c)) (start-of c .args .terms .number) (room (start-of c))) ≡ Accepted
 accepted c = sym (c .before .before .check-remove .ensures) ∙ c .enum-told .given .1
 
 given : (c : tie.After-enum-told) → Removable (library (start-of c)) (start-of c .args .terms .number) (room (start-of c))
@@ -64,7 +64,7 @@ code-requires c κs =
       few = between 1 (l .n) maxVectors (is .library .counted) .below;
       stored = is .stored;
       bytes = is .exact .of-codes;
-      spare = and-eq-true-iff (noEmptyCodes (l .d) (l .b) (l .marks) (l .codes) (l .n)) (spareZero (l .b) (l .n) (l .codes)) .0 (is .contents .named) .1;
+      spare = and-eq-true-iff (noEmptyCodes (l .d) (l .b) (l .marks) (l .codes) (l .n)) _ .0 (is .contents .named) .1;
     }
 
 returns : tie.Need-returns

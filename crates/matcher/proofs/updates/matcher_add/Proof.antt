@@ -1,4 +1,5 @@
--- `updates::matcher_add` meets its contract: the number is that of the verdict, and the buffers are as the call leaves them. Assumes nothing.
+-- `updates::matcher_add` meets its contract: the number is that of the verdict, and the buffers are as the call leaves them. Assumes
+-- nothing.
 use borrow.Author.Needs.{needs}
 use Rattle.matcher.proofs.updates.matcher_add.Statement.{statement}
 use Rattle.matcher.proofs.updates.matcher_add.Tie as tie

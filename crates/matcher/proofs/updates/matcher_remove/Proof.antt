@@ -1,4 +1,5 @@
--- `updates::matcher_remove` meets its contract: the number is that of the verdict, and the buffers are as the call leaves them. Assumes nothing.
+-- `updates::matcher_remove` meets its contract: the number is that of the verdict, and the buffers are as the call leaves them. Assumes
+-- nothing.
 use borrow.Author.Needs.{needs}
 use Rattle.matcher.proofs.updates.matcher_remove.Statement.{statement}
 use Rattle.matcher.proofs.updates.matcher_remove.Tie as tie

@@ -15,7 +15,8 @@ before-it : (c : tie.Start) → length (take (c .args .i) (c .args .settings .no
 before-it c = length-take-le (c .args .i) (c .args .settings .now) (omega (arith, c .pre .0))
 
 -- The buffer keeps its length.
-kept : (c : tie.After-put-settings) → length (c .put-settings .last .1 .1 .0) ≡ length (c .before .before .before .before .before .args .out .now)
+kept : (c : tie.After-put-settings)
+    → length (c .put-settings .last .1 .1 .0) ≡ length (c .before .before .before .before .before .args .out .now)
 kept c = c .put-settings .kept .1 .1 .0
 
 put-requires : tie.Need-put-settings-requires-2
