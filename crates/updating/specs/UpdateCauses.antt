@@ -27,7 +27,7 @@ lengthsWith vectors settings codes = record { vectors = vectors; settings = sett
 abbrev pub lengthsOf : CodedLibrary → Lengths
 lengthsOf l = lengthsWith (length (l .vectors)) (length (l .settings)) (length (l .codes))
 
--- 1, 2, 3, and 5 for the buffers of a library, of which so many hold marks
+-- 1, 2, 3, and 5 for a library of so many marks and buffers of these lengths
 abbrev pub libraryCauses : ℕ → ℕ → ℕ → ℕ → Lengths → List Row
 libraryCauses d b n marks lengths =
     shapeCauses d b
@@ -45,7 +45,8 @@ contentCauses d b n marks codes vectors more =
 abbrev pub contentsOf : CodedLibrary → List ℤ → List Row
 contentsOf l more = contentCauses (l .d) (l .b) (l .n) (l .marks) (l .codes) (l .vectors) more
 
--- 5 for the new vector and the buffers of n + 1, 20, and then the contents, the new vector's too
+-- "20, adding at the pattern limit", "straight after 5" for the new vector and the buffers of n + 1, and then the contents, the new
+-- vector's too
 abbrev pub addCauses : CodedLibrary → List ℤ → Lengths → List Row
 addCauses l vector room =
     libraryCauses (l .d) (l .b) (l .n) (length (l .marks)) (lengthsOf l)
@@ -53,7 +54,7 @@ addCauses l vector room =
     ∷ (eqb (l .n) maxVectors ⇒ Full)
     ∷ contentsOf l vector)
 
--- 5 for the buffers of n - 1, 21, and then the contents
+-- "21, removing a number not stored or the only pattern", "straight after 5" for the buffers of n - 1, and then the contents
 abbrev pub removeCauses : CodedLibrary → ℕ → Lengths → List Row
 removeCauses l i room =
     libraryCauses (l .d) (l .b) (l .n) (length (l .marks)) (lengthsOf l)
