@@ -297,27 +297,27 @@ uint32_t matcher_check_codes(size_t d, size_t b, size_t n, const int32_t *marks,
  * The library with one vector more, which comes last and has the number n, with its settings and its code. With marks
  * that begin and end at the ends of the scale in every dimension, as matcher_make_marks makes them, no vector lies
  * outside, and adding is never refused with 8.
- * Lengths: marks MATCHER_MARKS(d, b); codes MATCHER_CODES(b, n); settings n; vectors n d; vector d; new_vectors
- * (n + 1) d; new_settings n + 1; new_codes MATCHER_CODES(b, n + 1). They are exact for 513 too, where n is 512.
+ * Lengths: marks MATCHER_MARKS(d, b); codes MATCHER_CODES(b, n); settings n; vectors n d; vector d; newvectors
+ * (n + 1) d; newsettings n + 1; newcodes MATCHER_CODES(b, n + 1). They are exact for 513 too, where n is 512.
  * Refusals: 1, 2, 3, 5, 20, 6 (the old vectors and the new one), 7, 8 (the old vectors and the new one), 9 (an empty
  * region named, a spare bit set).
  */
 uint32_t matcher_add(size_t d, size_t b, size_t n, const int32_t *marks, size_t marks_len, const uint8_t *codes,
                      size_t codes_len, const uint32_t *settings, size_t settings_len, const int32_t *vectors,
                      size_t vectors_len, const int32_t *vector, size_t vector_len, uint32_t setting,
-                     int32_t *new_vectors, size_t new_vectors_len, uint32_t *new_settings, size_t new_settings_len,
-                     uint8_t *new_codes, size_t new_codes_len);
+                     int32_t *newvectors, size_t newvectors_len, uint32_t *newsettings, size_t newsettings_len,
+                     uint8_t *newcodes, size_t newcodes_len);
 
 /*
  * The library without the vector of this number, from 0: later vectors move down by one, with their settings and codes.
- * Lengths: marks MATCHER_MARKS(d, b); codes MATCHER_CODES(b, n); settings n; vectors n d; new_vectors (n - 1) d;
- * new_settings n - 1; new_codes MATCHER_CODES(b, n - 1). They are exact where n is 1 too: 0, 0 and 0.
+ * Lengths: marks MATCHER_MARKS(d, b); codes MATCHER_CODES(b, n); settings n; vectors n d; newvectors (n - 1) d;
+ * newsettings n - 1; newcodes MATCHER_CODES(b, n - 1). They are exact where n is 1 too: 0, 0 and 0.
  * Refusals: 1, 2, 3, 5, 21, 6, 7, 8, 9 (an empty region named, a spare bit set).
  */
 uint32_t matcher_remove(size_t d, size_t b, size_t n, const int32_t *marks, size_t marks_len, const uint8_t *codes,
                         size_t codes_len, const uint32_t *settings, size_t settings_len, const int32_t *vectors,
-                        size_t vectors_len, size_t number, int32_t *new_vectors, size_t new_vectors_len,
-                        uint32_t *new_settings, size_t new_settings_len, uint8_t *new_codes, size_t new_codes_len);
+                        size_t vectors_len, size_t number, int32_t *newvectors, size_t newvectors_len,
+                        uint32_t *newsettings, size_t newsettings_len, uint8_t *newcodes, size_t newcodes_len);
 
 /* ---- distances */
 

@@ -20,12 +20,12 @@ extern "C" {
         vector: *const i32,
         vector_len: usize,
         setting: u32,
-        new_vectors: *mut i32,
-        new_vectors_len: usize,
-        new_settings: *mut u32,
-        new_settings_len: usize,
-        new_codes: *mut u8,
-        new_codes_len: usize,
+        newvectors: *mut i32,
+        newvectors_len: usize,
+        newsettings: *mut u32,
+        newsettings_len: usize,
+        newcodes: *mut u8,
+        newcodes_len: usize,
     ) -> u32;
     fn matcher_remove(
         d: usize,
@@ -40,12 +40,12 @@ extern "C" {
         vectors: *const i32,
         vectors_len: usize,
         number: usize,
-        new_vectors: *mut i32,
-        new_vectors_len: usize,
-        new_settings: *mut u32,
-        new_settings_len: usize,
-        new_codes: *mut u8,
-        new_codes_len: usize,
+        newvectors: *mut i32,
+        newvectors_len: usize,
+        newsettings: *mut u32,
+        newsettings_len: usize,
+        newcodes: *mut u8,
+        newcodes_len: usize,
     ) -> u32;
 }
 

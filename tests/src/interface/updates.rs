@@ -20,12 +20,12 @@ extern "C" {
         vector: *const i32,
         vector_len: usize,
         setting: u32,
-        new_vectors: *mut i32,
-        new_vectors_len: usize,
-        new_settings: *mut u32,
-        new_settings_len: usize,
-        new_codes: *mut u8,
-        new_codes_len: usize,
+        newvectors: *mut i32,
+        newvectors_len: usize,
+        newsettings: *mut u32,
+        newsettings_len: usize,
+        newcodes: *mut u8,
+        newcodes_len: usize,
     ) -> u32;
     fn matcher_remove(
         d: usize,
@@ -40,12 +40,12 @@ extern "C" {
         vectors: *const i32,
         vectors_len: usize,
         number: usize,
-        new_vectors: *mut i32,
-        new_vectors_len: usize,
-        new_settings: *mut u32,
-        new_settings_len: usize,
-        new_codes: *mut u8,
-        new_codes_len: usize,
+        newvectors: *mut i32,
+        newvectors_len: usize,
+        newsettings: *mut u32,
+        newsettings_len: usize,
+        newcodes: *mut u8,
+        newcodes_len: usize,
     ) -> u32;
 }
 
@@ -55,9 +55,9 @@ struct Buffers {
     codes: Lent<u8>,
     settings: Lent<u32>,
     vectors: Lent<i32>,
-    new_vectors: Lent<i32>,
-    new_settings: Lent<u32>,
-    new_codes: Lent<u8>,
+    newvectors: Lent<i32>,
+    newsettings: Lent<u32>,
+    newcodes: Lent<u8>,
 }
 
 impl Buffers {
@@ -67,9 +67,9 @@ impl Buffers {
             codes: Lent::given(&input.codes),
             settings: Lent::given(&input.settings),
             vectors: Lent::given(&input.vectors),
-            new_vectors: Lent::room(input.room.new_vectors),
-            new_settings: Lent::room(input.room.new_settings),
-            new_codes: Lent::room(input.room.new_codes),
+            newvectors: Lent::room(input.room.newvectors),
+            newsettings: Lent::room(input.room.newsettings),
+            newcodes: Lent::room(input.room.newcodes),
         }
     }
 
@@ -79,15 +79,15 @@ impl Buffers {
         self.codes.kept();
         self.settings.kept();
         self.vectors.kept();
-        let (vectors, settings) = (self.new_vectors.filled(number), self.new_settings.filled(number));
-        let codes = self.new_codes.filled(number);
+        let (vectors, settings) = (self.newvectors.filled(number), self.newsettings.filled(number));
+        let codes = self.newcodes.filled(number);
         Ok(Updated { vectors: vectors?, settings: settings?, codes: codes? })
     }
 }
 
 pub fn add(input: &Input) -> Result<Updated, u32> {
     let (mut buffers, mut vector) = (Buffers::of(input), Lent::given(&input.one.vector));
-    let Buffers { marks, codes, settings, vectors, new_vectors, new_settings, new_codes } = &mut buffers;
+    let Buffers { marks, codes, settings, vectors, newvectors, newsettings, newcodes } = &mut buffers;
     let number = unsafe {
         matcher_add(
             input.d,
@@ -104,12 +104,12 @@ pub fn add(input: &Input) -> Result<Updated, u32> {
             vector.pointer(),
             vector.len(),
             input.one.setting,
-            new_vectors.pointer(),
-            new_vectors.len(),
-            new_settings.pointer(),
-            new_settings.len(),
-            new_codes.pointer(),
-            new_codes.len(),
+            newvectors.pointer(),
+            newvectors.len(),
+            newsettings.pointer(),
+            newsettings.len(),
+            newcodes.pointer(),
+            newcodes.len(),
         )
     };
     vector.kept();
@@ -118,7 +118,7 @@ pub fn add(input: &Input) -> Result<Updated, u32> {
 
 pub fn remove(input: &Input) -> Result<Updated, u32> {
     let mut buffers = Buffers::of(input);
-    let Buffers { marks, codes, settings, vectors, new_vectors, new_settings, new_codes } = &mut buffers;
+    let Buffers { marks, codes, settings, vectors, newvectors, newsettings, newcodes } = &mut buffers;
     let number = unsafe {
         matcher_remove(
             input.d,
@@ -133,12 +133,12 @@ pub fn remove(input: &Input) -> Result<Updated, u32> {
             vectors.pointer(),
             vectors.len(),
             input.one.number,
-            new_vectors.pointer(),
-            new_vectors.len(),
-            new_settings.pointer(),
-            new_settings.len(),
-            new_codes.pointer(),
-            new_codes.len(),
+            newvectors.pointer(),
+            newvectors.len(),
+            newsettings.pointer(),
+            newsettings.len(),
+            newcodes.pointer(),
+            newcodes.len(),
         )
     };
     buffers.updated(number)
