@@ -67,9 +67,9 @@ impl Buffers {
             codes: Lent::given(&input.codes),
             settings: Lent::given(&input.settings),
             vectors: Lent::given(&input.vectors),
-            newvectors: Lent::room(input.room.newvectors),
-            newsettings: Lent::room(input.room.newsettings),
-            newcodes: Lent::room(input.room.newcodes),
+            newvectors: Lent::room(input.room.new_vectors),
+            newsettings: Lent::room(input.room.new_settings),
+            newcodes: Lent::room(input.room.new_codes),
         }
     }
 
