@@ -25,7 +25,7 @@ use Rattle.approximation.specs.OwnCodes.{own-codes, own-not-empty}
 use Rattle.updating.specs.declared.Lengths.{Lengths}
 use Rattle.updating.specs.Updated.{CodedLibrary, vectorBits, addedCodes, added, removedCodes, removed}
 use Rattle.updating.specs.UpdateCauses.{addCauses, removeCauses}
-use Rattle.updating.specs.Accepted.{Exact, MeasuredLibrary, SoundLibrary, Addable, addable, Removable, removable}
+use Rattle.updating.specs.Accepted.{Exact, Measured, Sound, Addable, addable, Removable, removable}
 use Rattle.updated.specs.ListRows.{length-without, test-without}
 use Rattle.updated.specs.CodeRows.{codeAt, region-same, added-spare, added-length, earlier-code, last-code}
 use Rattle.updated.specs.CodeRows.{removed-spare, removed-length, code-before, code-behind}
@@ -34,7 +34,7 @@ use Rattle.updated.specs.Fresh.{components-rowwise, inside-rowwise, fres
 -- ---- what is not refused of a library that passes
 
 -- its vectors are packed afresh
-pub packs : (l : CodedLibrary) → MeasuredLibrary l → SoundLibrary l []
+pub packs : (l : CodedLibrary) → Measured l → Sound l []
     → first (packVectorsCauses (l .d) (l .b) (l .n) (l .vectors) (l .marks) (length (l .codes))) ≡ Accepted
 unfolding any
 packs l library contents =
@@ -54,7 +54,7 @@ packs l library contents =
     ))
 
 -- and one of more is removed
-pub removes : (l : CodedLibrary) (i : ℕ) (room : Lengths) → MeasuredLibrary l → SoundLibrary l []
+pub removes : (l : CodedLibrary) (i : ℕ) (room : Lengths) → Measured l → Sound l []
     → Exact (l .d) (l .b) (l .n - 1) room
     → i < l .n
     → 1 < l .n
@@ -166,7 +166,7 @@ module _ (l : CodedLibrary) (vector : List ℤ) (room : Lengths) (accepted : fir
   some : 0 < l .d
   some = shape (l .d) (l .b) (facts .library .shaped) .some
 
-  pub added-measured : MeasuredLibrary (added l vector setting)
+  pub added-measured : Measured (added l vector setting)
   added-measured = record {
     shaped = facts .library .shaped;
     counted = rw (le-leb 1 (suc (l .n)) (omega arith)) (le-leb (suc (l .n)) maxVectors (facts .not-full));
@@ -180,7 +180,7 @@ module _ (l : CodedLibrary) (vector : List ℤ) (room : Lengths) (accepted : fir
     };
   }
 
-  pub added-sound : SoundLibrary (added l vector setting) []
+  pub added-sound : Sound (added l vector setting) []
   unfolding areComponents insideFrom
   added-sound =
       let full = facts .library .exact .of-codes in
@@ -209,7 +209,7 @@ module _ (l : CodedLibrary) (i : ℕ) (room : Lengths) (accepted : first (remove
   positive : 0 < l .d
   positive = shape (l .d) (l .b) (known .library .shaped) .some
 
-  pub removed-measured : MeasuredLibrary (removed l i)
+  pub removed-measured : Measured (removed l i)
   removed-measured =
       let counted = between 1 (l .n) maxVectors (known .library .counted) in
       record {
@@ -226,7 +226,7 @@ module _ (l : CodedLibrary) (i : ℕ) (room : Lengths) (accepted : first (remove
         };
       }
 
-  pub removed-sound : SoundLibrary (removed l i) []
+  pub removed-sound : Sound (removed l i) []
   removed-sound =
       let full = known .library .exact .of-codes in
       let whole : suc i * l .d ≤ length (l .vectors) =

@@ -21,7 +21,7 @@ use Rattle.cells.specs.Cells.{goodCodes}
 use Rattle.approximation.specs.Vectors.{vectorsInside}
 use Rattle.updating.specs.declared.Lengths.{Lengths}
 use Rattle.updating.specs.Updated.{CodedLibrary}
-use Rattle.updating.specs.UpdateCauses.{exactFor, lengthsOf, libraryCauses, contentCauses, addCauses, removeCauses}
+use Rattle.updating.specs.UpdateCauses.{exactFor, lengthsOf, sizesOf, contentsOf, addCauses, removeCauses}
 
 -- the lengths of buffers of n vectors
 pub record Exact (d b n : ℕ) (lengths : Lengths) : Type 0 where
@@ -40,81 +40,76 @@ exact-told d b n lengths holds =
       of-codes = eqb-true (lengths .codes) (codeLength b n) (all .1);
     }
 
--- the numbers and the buffers of a library
-pub record Measured (d b n marks : ℕ) (lengths : Lengths) : Type 0 where
-  pub shaped : first (shapeCauses d b) ≡ Accepted
-  pub counted : isVectorCount n ≡ true
-  pub of-marks : marks ≡ firstMarks d b d
-  pub exact : Exact d b n lengths
+-- the numbers of a library, and the lengths of its buffers
+pub record Measured (l : CodedLibrary) : Type 0 where
+  pub shaped : first (shapeCauses (l .d) (l .b)) ≡ Accepted
+  pub counted : isVectorCount (l .n) ≡ true
+  pub of-marks : length (l .marks) ≡ firstMarks (l .d) (l .b) (l .d)
+  pub exact : Exact (l .d) (l .b) (l .n) (lengthsOf l)
 
-pub measured : (d b n marks : ℕ) (lengths : Lengths) → first (libraryCauses d b n marks lengths) ≡ Accepted
-    → Measured d b n marks lengths
-measured d b n marks lengths accepted =
-    let sizes = eqb marks (firstMarks d b d) && exactFor d b n lengths in
-    let count = passed (not (isVectorCount n)) Count _ (accepted-behind (shapeCauses d b) _ accepted) in
-    let all = passed (not sizes) Length [] (count .rest) in
-    let both = and-eq-true-iff (eqb marks (firstMarks d b d)) (exactFor d b n lengths) .0 (not-false sizes (all .fails)) in
+pub measured : (l : CodedLibrary) → first (sizesOf l) ≡ Accepted → Measured l
+measured l accepted =
+    let shapes = shapeCauses (l .d) (l .b) in
+    let marks = eqb (length (l .marks)) (firstMarks (l .d) (l .b) (l .d)) in
+    let buffers = exactFor (l .d) (l .b) (l .n) (lengthsOf l) in
+    let count = passed (not (isVectorCount (l .n))) Count _ (accepted-behind shapes _ accepted) in
+    let all = passed (not (marks && buffers)) Length [] (count .rest) in
+    let both = and-eq-true-iff marks buffers .0 (not-false (marks && buffers) (all .fails)) in
     record {
-      shaped = accepted-front (shapeCauses d b) _ accepted;
-      counted = not-false (isVectorCount n) (count .fails);
-      of-marks = eqb-true marks (firstMarks d b d) (both .0);
-      exact = exact-told d b n lengths (both .1);
+      shaped = accepted-front shapes _ accepted;
+      counted = not-false (isVectorCount (l .n)) (count .fails);
+      of-marks = eqb-true (length (l .marks)) (firstMarks (l .d) (l .b) (l .d)) (both .0);
+      exact = exact-told (l .d) (l .b) (l .n) (lengthsOf l) (both .1);
     }
 
--- components in range and inside good marks, and good codes
-pub record Sound (d b n : ℕ) (marks : List ℤ) (codes : List ℕ) (vectors more : List ℤ) : Type 0 where
-  pub components : areComponents vectors ≡ true
+-- its components, and more, in range and inside good marks, and good codes
+pub record Sound (l : CodedLibrary) (more : List ℤ) : Type 0 where
+  pub components : areComponents (l .vectors) ≡ true
   pub more-components : areComponents more ≡ true
-  pub good : goodMarks d b marks ≡ true
-  pub inside : vectorsInside d b marks vectors ≡ true
-  pub more-inside : vectorsInside d b marks more ≡ true
-  pub named : goodCodes d b n marks codes ≡ true
+  pub good : goodMarks (l .d) (l .b) (l .marks) ≡ true
+  pub inside : vectorsInside (l .d) (l .b) (l .marks) (l .vectors) ≡ true
+  pub more-inside : vectorsInside (l .d) (l .b) (l .marks) more ≡ true
+  pub named : goodCodes (l .d) (l .b) (l .n) (l .marks) (l .codes) ≡ true
 
-pub sound : (d b n : ℕ) (marks : List ℤ) (codes : List ℕ) (vectors more : List ℤ)
-    → first (contentCauses d b n marks codes vectors more) ≡ Accepted → Sound d b n marks codes vectors more
-sound d b n marks codes vectors more accepted =
-    let range = areComponents vectors && areComponents more in
-    let place = vectorsInside d b marks vectors && vectorsInside d b marks more in
-    let components = passed (not range) Component _ accepted in
-    let marked = passed (not (goodMarks d b marks)) Mark _ (components .rest) in
-    let placed = passed (not place) Outside _ (marked .rest) in
-    let coded = passed (not (goodCodes d b n marks codes)) Code [] (placed .rest) in
-    let ranges = and-eq-true-iff (areComponents vectors) (areComponents more) .0 (not-false range (components .fails)) in
-    let places =
-    and-eq-true-iff (vectorsInside d b marks vectors) (vectorsInside d b marks more) .0 (not-false place (placed .fails)) in
+pub sound : (l : CodedLibrary) (more : List ℤ) → first (contentsOf l more) ≡ Accepted → Sound l more
+sound l more accepted =
+    let range = areComponents (l .vectors) in
+    let more-range = areComponents more in
+    let marks = goodMarks (l .d) (l .b) (l .marks) in
+    let place = vectorsInside (l .d) (l .b) (l .marks) (l .vectors) in
+    let more-place = vectorsInside (l .d) (l .b) (l .marks) more in
+    let codes = goodCodes (l .d) (l .b) (l .n) (l .marks) (l .codes) in
+    let ranged = passed (not (range && more-range)) Component _ accepted in
+    let marked = passed (not marks) Mark _ (ranged .rest) in
+    let placed = passed (not (place && more-place)) Outside _ (marked .rest) in
+    let coded = passed (not codes) Code [] (placed .rest) in
+    let ranges = and-eq-true-iff range more-range .0 (not-false (range && more-range) (ranged .fails)) in
+    let places = and-eq-true-iff place more-place .0 (not-false (place && more-place) (placed .fails)) in
     record {
       components = ranges .0;
       more-components = ranges .1;
-      good = not-false (goodMarks d b marks) (marked .fails);
+      good = not-false marks (marked .fails);
       inside = places .0;
       more-inside = places .1;
-      named = not-false (goodCodes d b n marks codes) (coded .fails);
+      named = not-false codes (coded .fails);
     }
-
--- the numbers and the buffers of a library, and its contents with more components
-abbrev pub MeasuredLibrary : CodedLibrary → Type 0
-MeasuredLibrary l = Measured (l .d) (l .b) (l .n) (length (l .marks)) (lengthsOf l)
-
-abbrev pub SoundLibrary : CodedLibrary → List ℤ → Type 0
-SoundLibrary l more = Sound (l .d) (l .b) (l .n) (l .marks) (l .codes) (l .vectors) more
 
 -- ---- an addition
 
 pub record Addable (l : CodedLibrary) (vector : List ℤ) (room : Lengths) : Type 0 where
-  pub library : MeasuredLibrary l
+  pub library : Measured l
   pub size : length vector ≡ l .d
   pub exact : Exact (l .d) (l .b) (suc (l .n)) room
   pub not-full : suc (l .n) ≤ maxVectors
-  pub contents : SoundLibrary l vector
+  pub contents : Sound l vector
 
 pub addable : (l : CodedLibrary) (vector : List ℤ) (room : Lengths) → first (addCauses l vector room) ≡ Accepted → Addable l vector room
 addable l vector room accepted =
     let d = l .d in
     let n = l .n in
-    let front = libraryCauses d (l .b) n (length (l .marks)) (lengthsOf l) in
-    let library = measured d (l .b) n (length (l .marks)) (lengthsOf l) (accepted-front front _ accepted) in
+    let library = measured l (accepted-front (sizesOf l) _ accepted) in
     let lengths = eqb (length vector) d && exactFor d (l .b) (suc n) room in
-    let sized = passed (not lengths) Length _ (accepted-behind front _ accepted) in
+    let sized = passed (not lengths) Length _ (accepted-behind (sizesOf l) _ accepted) in
     let limit = passed (eqb n maxVectors) Full _ (sized .rest) in
     let both = and-eq-true-iff (eqb (length vector) d) (exactFor d (l .b) (suc n) room) .0 (not-false lengths (sized .fails)) in
     let below : n ≤ maxVectors = between 1 n maxVectors (library .counted) .below in
@@ -123,31 +118,30 @@ addable l vector room accepted =
       size = eqb-true (length vector) d (both .0);
       exact = exact-told d (l .b) (suc n) room (both .1);
       not-full = omega (arith, eqb-false n maxVectors (limit .fails));
-      contents = sound d (l .b) n (l .marks) (l .codes) (l .vectors) vector (limit .rest);
+      contents = sound l vector (limit .rest);
     }
 
 -- ---- a removal
 
 pub record Removable (l : CodedLibrary) (i : ℕ) (room : Lengths) : Type 0 where
-  pub library : MeasuredLibrary l
+  pub library : Measured l
   pub exact : Exact (l .d) (l .b) (l .n - 1) room
   pub stored : i < l .n
   pub others : 1 < l .n
-  pub contents : SoundLibrary l []
+  pub contents : Sound l []
 
 pub removable : (l : CodedLibrary) (i : ℕ) (room : Lengths) → first (removeCauses l i room) ≡ Accepted → Removable l i room
 removable l i room accepted =
     let d = l .d in
     let n = l .n in
-    let front = libraryCauses d (l .b) n (length (l .marks)) (lengthsOf l) in
     let stored = ltb i n && ltb 1 n in
-    let sized = passed (not (exactFor d (l .b) (n - 1) room)) Length _ (accepted-behind front _ accepted) in
+    let sized = passed (not (exactFor d (l .b) (n - 1) room)) Length _ (accepted-behind (sizesOf l) _ accepted) in
     let there = passed (not stored) NotRemovable _ (sized .rest) in
     let both = and-eq-true-iff (ltb i n) (ltb 1 n) .0 (not-false stored (there .fails)) in
     record {
-      library = measured d (l .b) n (length (l .marks)) (lengthsOf l) (accepted-front front _ accepted);
+      library = measured l (accepted-front (sizesOf l) _ accepted);
       exact = exact-told d (l .b) (n - 1) room (not-false (exactFor d (l .b) (n - 1) room) (sized .fails));
       stored = ltb-true i n (both .0);
       others = ltb-true 1 n (both .1);
-      contents = sound d (l .b) n (l .marks) (l .codes) (l .vectors) [] (there .rest);
+      contents = sound l [] (there .rest);
     }

@@ -33,6 +33,9 @@ libraryCauses d b n marks lengths =
     shapeCauses d b
     ++ ((not (isVectorCount n) ⇒ Count) ∷ (not (eqb marks (firstMarks d b d) && exactFor d b n lengths) ⇒ Length) ∷ [])
 
+abbrev pub sizesOf : CodedLibrary → List Row
+sizesOf l = libraryCauses (l .d) (l .b) (l .n) (length (l .marks)) (lengthsOf l)
+
 -- 6, 7, 8, 9 for a library and more components
 abbrev pub contentCauses : ℕ → ℕ → ℕ → List ℤ → List ℕ → List ℤ → List ℤ → List Row
 contentCauses d b n marks codes vectors more =
@@ -49,7 +52,7 @@ contentsOf l more = contentCauses (l .d) (l .b) (l .n) (l .marks) (l .codes) (l 
 -- vector's too
 abbrev pub addCauses : CodedLibrary → List ℤ → Lengths → List Row
 addCauses l vector room =
-    libraryCauses (l .d) (l .b) (l .n) (length (l .marks)) (lengthsOf l)
+    sizesOf l
     ++ ((not (eqb (length vector) (l .d) && exactFor (l .d) (l .b) (suc (l .n)) room) ⇒ Length)
     ∷ (eqb (l .n) maxVectors ⇒ Full)
     ∷ contentsOf l vector)
@@ -57,7 +60,7 @@ addCauses l vector room =
 -- "21, removing a number not stored or the only pattern", "straight after 5" for the buffers of n - 1, and then the contents
 abbrev pub removeCauses : CodedLibrary → ℕ → Lengths → List Row
 removeCauses l i room =
-    libraryCauses (l .d) (l .b) (l .n) (length (l .marks)) (lengthsOf l)
+    sizesOf l
     ++ ((not (exactFor (l .d) (l .b) (l .n - 1) room) ⇒ Length)
     ∷ (not (ltb i (l .n) && ltb 1 (l .n)) ⇒ NotRemovable)
     ∷ contentsOf l [])

@@ -159,7 +159,7 @@ fn check_add(
             if vector.len() != d {
                 return Verdict::Refused(Refusal::Length);
             }
-            let exact = are_exact(d, b, n + 1, room.vectors, room.settings, room.codes);
+            let exact = are_exact(d, b, n + 1, room);
             match check_place(exact, n) {
                 Verdict::Accepted => check_contents(d, b, n, marks, codes, vectors, vector),
                 Verdict::Refused(cause) => Verdict::Refused(cause),
@@ -191,7 +191,7 @@ fn check_remove(
     };
     match check_library(d, b, n, marks.len(), own) {
         Verdict::Accepted => {
-            if !are_exact(d, b, n - 1, room.vectors, room.settings, room.codes) {
+            if !are_exact(d, b, n - 1, room) {
                 return Verdict::Refused(Refusal::Length);
             }
             if !is_removable(n, terms.number) {
@@ -215,7 +215,7 @@ fn check_library(d: usize, b: usize, n: usize, marks: usize, own: Lengths) -> Ve
             if marks != layout::marks_length(d, b) {
                 return Verdict::Refused(Refusal::Length);
             }
-            if !are_exact(d, b, n, own.vectors, own.settings, own.codes) {
+            if !are_exact(d, b, n, own) {
                 return Verdict::Refused(Refusal::Length);
             }
             Verdict::Accepted
@@ -225,17 +225,17 @@ fn check_library(d: usize, b: usize, n: usize, marks: usize, own: Lengths) -> Ve
 }
 
 // Whether buffers for vectors, settings and codes have the lengths of n vectors.
-fn are_exact(d: usize, b: usize, n: usize, vectors: usize, settings: usize, codes: usize) -> bool
+fn are_exact(d: usize, b: usize, n: usize, lengths: Lengths) -> bool
     requires { ⌜ (Shape d b) × (n ≤ suc maxVectors) ⌝ }
-    ensures { λ r. ⌜ r ≡ exactFor d b n (lengthsWith vectors settings codes) ⌝ }
+    ensures { λ r. ⌜ r ≡ exactFor d b n lengths ⌝ }
 {
-    if vectors != n * d {
+    if lengths.vectors != n * d {
         return false;
     }
-    if settings != n {
+    if lengths.settings != n {
         return false;
     }
-    codes == (n * b + 7) / 8
+    lengths.codes == (n * b + 7) / 8
 }
 
 // Whether a number is that of one of n vectors, and not of the only one.

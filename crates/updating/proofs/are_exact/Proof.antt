@@ -22,7 +22,7 @@ are-exact-spec =
     (tie.spec
     (λ c. omega (arith, components-few c))
     (λ c. rw (ne-eqb _ _ (c .if1 .taken)))
-    (λ c. rw (eq-eqb _ _ (c .before .if1 .left), ne-eqb _ _ (c .if2 .taken)))
-    (λ c. omega (arith, bits-few (c .before .before)))
-    (λ c. omega (arith, bits-few (c .before .before)))
-    (λ c. rw (eq-eqb _ _ (c .before .if1 .left), eq-eqb _ _ (c .if2 .left))))
+    (λ c. rw (eq-eqb _ _ (c .before .before .if1 .left), ne-eqb _ _ (c .if2 .taken)))
+    (λ c. omega (arith, bits-few (c .before .before .before .before)))
+    (λ c. omega (arith, bits-few (c .before .before .before .before)))
+    (λ c. rw (eq-eqb _ _ (c .before .before .before .if1 .left), eq-eqb _ _ (c .before .if2 .left))))

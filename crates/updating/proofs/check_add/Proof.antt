@@ -16,8 +16,8 @@ use Rattle.limits.specs.Limits.{maxVectors}
 use Rattle.limits.specs.Tests.{between}
 use Rattle.layout.specs.Stretch.{shape}
 use Rattle.updating.specs.Updated.{CodedLibrary, codedLibrary}
-use Rattle.updating.specs.UpdateCauses.{exactFor, lengthsOf, libraryCauses}
-use Rattle.updating.specs.Accepted.{MeasuredLibrary, measured}
+use Rattle.updating.specs.UpdateCauses.{exactFor, sizesOf}
+use Rattle.updating.specs.Accepted.{Measured, measured}
 use Rattle.updating.proofs.check_add.Statement.{statement}
 use Rattle.updating.proofs.check_add.Tie as tie
 
@@ -26,22 +26,19 @@ library c =
     codedLibrary (c .args .terms .d) (c .args .terms .b) (c .args .terms .n) (c .args .marks .now) (c .args .codes .now)
     (c .args .settings .now) (c .args .vectors .now)
 
--- The rows of the library are tested first.
-abbrev front : tie.Start → List Row
-front c = let l = library c in libraryCauses (l .d) (l .b) (l .n) (length (l .marks)) (lengthsOf l)
-
 abbrev start-of : tie.After-enum-told → tie.Start
 start-of c = c .before .before .before .before .before
 
-right : (c : tie.After-enum-told) → first (front (start-of c)) ≡ Accepted
+-- The sizes of the library are tested first, ..
+right : (c : tie.After-enum-told) → first (sizesOf (library (start-of c))) ≡ Accepted
 right c = sym (c .before .before .check-library .ensures) ∙ c .enum-told .given .1
 
-sizes : (c : tie.After-enum-told) → MeasuredLibrary (library (start-of c))
-sizes c = let l = library (start-of c) in measured (l .d) (l .b) (l .n) (length (l .marks)) (lengthsOf l) (right c)
+sizes : (c : tie.After-enum-told) → Measured (library (start-of c))
+sizes c = measured (library (start-of c)) (right c)
 
--- Only the rows behind them are left.
-left : (c : tie.After-enum-told) (rows : List Row) → first (front (start-of c) ++ rows) ≡ first rows
-left c rows = first-append (front (start-of c)) rows ∙ outcome-accepted _ _ (right c)
+-- .. and only the rows behind them are left.
+left : (c : tie.After-enum-told) (rows : List Row) → first (sizesOf (library (start-of c)) ++ rows) ≡ first rows
+left c rows = first-append (sizesOf (library (start-of c))) rows ∙ outcome-accepted _ _ (right c)
 
 are-exact-requires : tie.Need-are-exact-requires
 are-exact-requires c κs =
@@ -93,7 +90,7 @@ returns-3 c =
 
 returns-4 : tie.Need-returns-4
 returns-4 c =
-    sym (first-append (front (c .before .before .before .before .before .before)) _
+    sym (first-append (sizesOf (library (c .before .before .before .before .before .before))) _
     ∙ outcome-refused _ _ (sym (c .before .before .before .check-library .ensures) ∙ c .before .cause2 .given .1))
 
 check-contents-requires : tie.Need-check-contents-requires

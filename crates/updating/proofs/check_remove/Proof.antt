@@ -5,7 +5,6 @@ use mathlib.Core.List.{List, _∷_, _++_}
 use Prim.Native.Nat.{_-_}
 use native.Mathlib.Omega.{arith}
 use borrow.Author.Needs.{needs}
-use lib.ListN.{length}
 use Rattle.refusal.specs.declared.Refusal.the-variants.{Length, NotRemovable}
 use Rattle.refusal.specs.declared.Verdict.the-variants.{Accepted}
 use Rattle.refusal.specs.First.{Row, _⇒_, first, outcome-accepted, outcome-refused, first-append, first-here, first-next, told}
@@ -13,8 +12,8 @@ use Rattle.limits.specs.Limits.{maxVectors}
 use Rattle.limits.specs.Tests.{between}
 use Rattle.layout.specs.Stretch.{shape}
 use Rattle.updating.specs.Updated.{CodedLibrary, codedLibrary}
-use Rattle.updating.specs.UpdateCauses.{exactFor, lengthsOf, libraryCauses}
-use Rattle.updating.specs.Accepted.{MeasuredLibrary, measured}
+use Rattle.updating.specs.UpdateCauses.{exactFor, sizesOf}
+use Rattle.updating.specs.Accepted.{Measured, measured}
 use Rattle.updating.proofs.check_remove.Statement.{statement}
 use Rattle.updating.proofs.check_remove.Tie as tie
 
@@ -23,22 +22,19 @@ library c =
     codedLibrary (c .args .terms .d) (c .args .terms .b) (c .args .terms .n) (c .args .marks .now) (c .args .codes .now)
     (c .args .settings .now) (c .args .vectors .now)
 
--- The rows of the library are tested first.
-abbrev front : tie.Start → List Row
-front c = let l = library c in libraryCauses (l .d) (l .b) (l .n) (length (l .marks)) (lengthsOf l)
-
 abbrev start-of : tie.After-enum-told → tie.Start
 start-of c = c .before .before .before .before .before
 
-right : (c : tie.After-enum-told) → first (front (start-of c)) ≡ Accepted
+-- The sizes of the library are tested first, ..
+right : (c : tie.After-enum-told) → first (sizesOf (library (start-of c))) ≡ Accepted
 right c = sym (c .before .before .check-library .ensures) ∙ c .enum-told .given .1
 
-sizes : (c : tie.After-enum-told) → MeasuredLibrary (library (start-of c))
-sizes c = let l = library (start-of c) in measured (l .d) (l .b) (l .n) (length (l .marks)) (lengthsOf l) (right c)
+sizes : (c : tie.After-enum-told) → Measured (library (start-of c))
+sizes c = measured (library (start-of c)) (right c)
 
--- Only the rows behind them are left.
-left : (c : tie.After-enum-told) (rows : List Row) → first (front (start-of c) ++ rows) ≡ first rows
-left c rows = first-append (front (start-of c)) rows ∙ outcome-accepted _ _ (right c)
+-- .. and only the rows behind them are left.
+left : (c : tie.After-enum-told) (rows : List Row) → first (sizesOf (library (start-of c)) ++ rows) ≡ first rows
+left c rows = first-append (sizesOf (library (start-of c))) rows ∙ outcome-accepted _ _ (right c)
 
 are-exact-requires : tie.Need-are-exact-requires
 are-exact-requires c κs =
@@ -50,7 +46,7 @@ returns : tie.Need-returns
 returns c = sym (left (c .before .before) _ ∙ first-here Length _ (told (c .before .are-exact .ensures) (c .if1 .taken)))
 
 passed-lengths : (c : tie.Else1) (rows : List Row) → let start = start-of (c .before .before) in let l = library start in
-    first (front start ++ ((not (exactFor (l .d) (l .b) (l .n - 1) (start .args .room)) ⇒ Length) ∷ rows)) ≡ first rows
+    first (sizesOf l ++ ((not (exactFor (l .d) (l .b) (l .n - 1) (start .args .room)) ⇒ Length) ∷ rows)) ≡ first rows
 passed-lengths c rows = left (c .before .before) _ ∙ first-next Length rows (told (c .before .are-exact .ensures) (c .if1 .left))
 
 returns-2 : tie.Need-returns-2
@@ -66,7 +62,7 @@ returns-3 c =
 
 returns-4 : tie.Need-returns-4
 returns-4 c =
-    sym (first-append (front (c .before .before .before .before .before .before)) _
+    sym (first-append (sizesOf (library (c .before .before .before .before .before .before))) _
     ∙ outcome-refused _ _ (sym (c .before .before .before .check-library .ensures) ∙ c .before .cause .given .1))
 
 check-contents-requires : tie.Need-check-contents-requires
