@@ -1,5 +1,10 @@
 pub mod Bits
 pub mod BitLaws
+pub mod Fields
+pub mod FieldLaws
+pub mod BitWriter
+pub mod WriterLaws
 pub mod Codes
+pub mod Rows
 pub mod PackLaws
 pub mod Pack

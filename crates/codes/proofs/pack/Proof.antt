@@ -10,6 +10,7 @@ use Rattle.refusal.specs.declared.Refusal.the-variants.{Code}
 use Rattle.refusal.specs.declared.Verdict.the-variants.{Accepted, Refused}
 use Rattle.refusal.specs.First.{Row, _⇒_, first}
 use Rattle.codes.specs.Codes.{regionsFit, packed}
+use Rattle.codes.specs.Rows.{Rows}
 use Rattle.codes.specs.PackLaws.{length-joined}
 use Rattle.codes.specs.Pack.{sizeCauses, Sizes, sizes}
 use Rattle.codes.proofs.Answers.{refused-before, refused-last, accepted-all}
@@ -42,6 +43,10 @@ sized c =
     let args = c .before .before .before .before .before .args in
     sizes (args .d) (args .b) (args .n) (length (args .regions .now)) (length (args .codes .now)) (right c)
 
+whole : (c : tie.After-enum-told) → let args = c .before .before .before .before .before .args in
+    Rows (args .d) (length (args .regions .now))
+whole c = record { rows = c .before .before .before .before .before .args .n; whole = sized c .rows }
+
 returns : tie.Need-returns
 returns c =
     let told = c .before .before in
@@ -56,6 +61,7 @@ put-all-requires c κs =
     let size = sized told in
     let bits = length-joined (args .d) (args .b) (size .shaped .some) (args .n) (args .regions .now) (size .rows) in (
       size .shaped,
+      whole told,
       sym (c .before .before .regions-fit .ensures)
           ∙ not-false (c .before .before .regions-fit .result) (c .before .if1 .left),
       rw bits (size .bytes),
@@ -84,7 +90,7 @@ pack-spec =
     (tie.spec
     (λ c κs. search needs)
     (λ c. search needs)
-    (λ c κs. sized c .shaped)
+    (λ c κs. (sized c .shaped, whole c))
     returns
     put-all-requires
     (λ c. search needs)

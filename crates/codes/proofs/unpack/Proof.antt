@@ -67,8 +67,9 @@ returns c =
 take-all-requires : tie.Need-take-all-requires
 take-all-requires c κs =
     let told = c .before .before .before in
+    let n = told .before .before .before .before .before .args .n in
     let size = sized told in
-    (size .shaped, rw (size .rows) (numbers-le (told .before .before .before .before .before .args .n) (size .shaped) (size .few)))
+    (size .shaped, record { rows = n; whole = size .rows }, rw (size .rows) (numbers-le n (size .shaped) (size .few)))
 
 returns-2 : tie.Need-returns-2
 unfolding unpacked
