@@ -14,6 +14,7 @@ pub enum Call {
     Scan,
     Marks,
     Pack,
+    Unpack,
     Codes,
     Add,
     Remove,
@@ -36,6 +37,7 @@ pub struct Answer {
     pub count: usize,
     marks: Vec<i32>,
     codes: Vec<u8>,
+    regions: Vec<u8>,
     more: Stock,
     less: Stock,
     bytes: Vec<u8>,
@@ -54,6 +56,7 @@ impl Answer {
             count: 0,
             marks: vec![0; data.marks.len()],
             codes: vec![0; data.codes.len()],
+            regions: vec![0; data.regions.len()],
             more: Stock::room(data, data.n + 1),
             less: Stock::room(data, data.n - 1),
             bytes: vec![0; data.bytes.len()],
@@ -80,6 +83,7 @@ impl Call {
         Call::Scan,
         Call::Marks,
         Call::Pack,
+        Call::Unpack,
         Call::Codes,
         Call::Add,
         Call::Remove,
@@ -94,6 +98,7 @@ impl Call {
             Call::Scan => "scan",
             Call::Marks => "marks",
             Call::Pack => "pack",
+            Call::Unpack => "unpack",
             Call::Codes => "codes",
             Call::Add => "add",
             Call::Remove => "remove",
@@ -107,7 +112,8 @@ impl Call {
     pub fn target(self) -> Option<f64> {
         match self {
             Call::Search | Call::Scan => Some(1.2),
-            Call::Marks | Call::Pack | Call::Codes | Call::Match => None,
+            Call::Pack => Some(1.5),
+            Call::Marks | Call::Unpack | Call::Codes | Call::Match => None,
             Call::Add | Call::Remove => Some(0.5),
             Call::Load | Call::Write => Some(2.0),
         }
@@ -148,6 +154,7 @@ impl Call {
             Call::Scan => matcher::scan(data, query, entries),
             Call::Marks => matcher::make_marks(data, &data.others[i], &mut answer.marks),
             Call::Pack => matcher::pack(data, &mut answer.codes),
+            Call::Unpack => matcher::unpack(data, &mut answer.regions),
             Call::Codes => matcher::pack_vectors(data, &mut answer.codes),
             Call::Add => matcher::updates::add(data, query, i as u32, &mut answer.more),
             Call::Remove => matcher::updates::remove(data, data.spread_out(i), &mut answer.less),
@@ -169,6 +176,7 @@ impl Call {
             Call::Scan => scan::scan(d, word, query, vectors, entries),
             Call::Marks => marks::make(d, b, &data.others[i], &mut answer.marks),
             Call::Pack => codes::pack(d, b, &data.regions, &mut answer.codes),
+            Call::Unpack => codes::unpack(d, b, &data.codes, &mut answer.regions),
             Call::Codes => {
                 let mut regions = vec![0; vectors.len()];
                 codes::regions(d, b, vectors, &data.marks, &mut regions);

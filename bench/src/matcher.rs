@@ -64,6 +64,15 @@ extern "C" {
         codes: *mut u8,
         codes_len: usize,
     ) -> u32;
+    fn matcher_unpack(
+        d: usize,
+        b: usize,
+        n: usize,
+        codes: *const u8,
+        codes_len: usize,
+        regions: *mut u8,
+        regions_len: usize,
+    ) -> u32;
     fn matcher_pack_vectors(
         d: usize,
         b: usize,
@@ -134,6 +143,11 @@ pub fn make_marks(data: &Data, vectors: &[i32], marks: &mut [i32]) {
 pub fn pack(data: &Data, codes: &mut [u8]) {
     let &Data { d, b, n, ref regions, .. } = data;
     accepted(unsafe { matcher_pack(d, b, n, regions.as_ptr(), regions.len(), codes.as_mut_ptr(), codes.len()) });
+}
+
+pub fn unpack(data: &Data, regions: &mut [u8]) {
+    let &Data { d, b, n, ref codes, .. } = data;
+    accepted(unsafe { matcher_unpack(d, b, n, codes.as_ptr(), codes.len(), regions.as_mut_ptr(), regions.len()) });
 }
 
 pub fn pack_vectors(data: &Data, codes: &mut [u8]) {

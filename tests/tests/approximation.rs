@@ -91,6 +91,41 @@ fn no_region_past_the_last_is_packed() {
     }
 }
 
+/// A region number past the last at every place: in one run of numbers, and in rows of two.
+#[test]
+fn no_place_hides_a_region_past_the_last() {
+    let mut random = Random::new(12);
+    for (d, b, n) in [(1, 6, 512), (8, 40, 100), (8, 36, 100), (32, 160, 40), (32, 161, 40), (32, 31, 40)] {
+        let input = random_of_shape(&mut random, d, b, n);
+        let widths = reference::bits_of(d, b);
+        for at in 0..n * d {
+            let mut other = input.clone().from(format!("d {d}, b {b}, place {at}"));
+            other.regions[at] = 1 << widths[at % d];
+            PACK.gives(9, &other);
+        }
+    }
+}
+
+/// A number of ones among zeros and one of zeros among ones, at every place of eight vectors: no bit goes astray between two bytes.
+#[test]
+fn no_bit_goes_astray_between_bytes() {
+    let mut random = Random::new(13);
+    for (d, b) in shapes().filter(|&(d, _)| d <= 9) {
+        let mut input = random_of_shape(&mut random, d, b, 8);
+        let ones: Vec<u8> = reference::bits_of(d, b).iter().map(|w| (1 << w) - 1).collect::<Vec<_>>().repeat(8);
+        for at in 0..ones.len() {
+            for within in [false, true] {
+                let all = |place| if (place == at) == within { ones[place] } else { 0 };
+                input.regions = (0..ones.len()).map(all).collect();
+                input = input.from(format!("d {d}, b {b}, place {at}, {within}"));
+                PACK.gives(0, &input);
+                input.codes = interface::pack(&input).expect("the region numbers are right");
+                assert_eq!(interface::unpack(&input).as_ref(), Ok(&input.regions), "{}", input.origin);
+            }
+        }
+    }
+}
+
 /// Every spare bit, by itself and with others.
 #[test]
 fn no_spare_bit_is_taken() {

@@ -1,4 +1,4 @@
-//! Regions of vectors, packed into codes.
+//! Regions of vectors, packed into codes and unpacked.
 
 use super::bits;
 
@@ -32,5 +32,20 @@ pub fn pack(d: usize, b: usize, regions: &[u8], codes: &mut [u8]) {
     }
     if let Some(last) = bytes.next() {
         *last = (waiting << (8 - count)) as u8;
+    }
+}
+
+pub fn unpack(d: usize, b: usize, codes: &[u8], regions: &mut [u8]) {
+    let mut bytes = codes.iter();
+    let (mut waiting, mut count) = (0u32, 0);
+    for row in regions.chunks_exact_mut(d) {
+        for (region, w) in row.iter_mut().zip(bits(d, b)) {
+            if count < w {
+                waiting = waiting << 8 | u32::from(*bytes.next().expect("a byte for each 8 bits"));
+                count += 8;
+            }
+            count -= w;
+            *region = (waiting >> count & ((1 << w) - 1)) as u8;
+        }
     }
 }
