@@ -1,4 +1,4 @@
--- A bit writer: some bytes are full, and the next has bits and free places. Assumes nothing.
+-- A bit writer (document 02, Slip 4): some bytes are full, and the next has bits and free places. Assumes nothing.
 use mathlib.Core.List.{List, _++_}
 use Prim.Native.Nat.{ℕ, _+_, _-_, _*_, _/_, _^_, _≤_, _<_, min}
 use lib.ListN.{length, take}
@@ -6,7 +6,8 @@ use Rattle.codes.specs.declared.bit_writer.BitWriter.{BitWriter}
 use Rattle.codes.specs.Bits.{lowBits, byteBits}
 use Rattle.codes.specs.BitLaws.{Bytes}
 
--- the number of a byte's bits with the first of the bits that are left of x behind them, as many as are free
+-- a step places "as many bits of a region number as the current byte takes": the number of the byte's bits with the first of the bits that
+-- are left of x behind them; their count is "the lesser of those left and those free"
 abbrev pub placed : ℕ → ℕ → ℕ → ℕ → ℕ
 placed x left byte free = byte * 2 ^ min left free + x / 2 ^ (left - min left free)
 

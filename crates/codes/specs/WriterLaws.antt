@@ -22,6 +22,7 @@ pub record Filled (bits bytes : List ℕ) (next byte free : ℕ) : Type 0 where
   pub are : Bytes (take next bytes)
   pub is : byteBits (take next bytes) ++ lowBits (8 - free) byte ≡ bits
 
+-- so it is of a writer, whose next byte is not full
 pub filled-by : {bytes : List ℕ} {writer : BitWriter} → Writes bytes writer
     → Filled (writtenBits bytes writer) bytes (writer .next) (writer .byte) (writer .free)
 filled-by at = record { within = at .within; few = at .few; small = at .small; are = at .are; is = refl }

@@ -135,6 +135,7 @@ fn fit(numbers: &[u8], w: usize) -> bool
     greatest as usize >> w == 0
 }
 
+// The greater of two.
 fn greater(x: u8, y: u8) -> u8
     ensures { λ r. ⌜ r ≡ max x y ⌝ }
 {
