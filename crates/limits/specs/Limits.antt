@@ -37,6 +37,10 @@ isNeighbourCount n k = leb 1 k && leb k n
 abbrev pub kitVectors : ℕ
 kitVectors = 512
 
+-- "up to 64 queries" in a batch (document 02, Slip 5)
+abbrev pub maxQueries : ℕ
+maxQueries = 64
+
 -- a component is a whole number from -32768 to 32767
 abbrev pub leastComponent : ℤ
 leastComponent = negsuc 32767

@@ -16,6 +16,8 @@ pub const MAX_VECTORS: usize = 512;
 pub const MAX_NEIGHBOURS: usize = 512;
 // The most vectors of a library that the kit program takes.
 pub const KIT_VECTORS: usize = 512;
+// The most queries of a batch.
+pub const MAX_QUERIES: usize = 64;
 // A component is a whole number from LEAST_COMPONENT to GREATEST_COMPONENT.
 pub const LEAST_COMPONENT: i32 = -32768;
 

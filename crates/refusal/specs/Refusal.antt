@@ -2,7 +2,7 @@
 -- nothing.
 use Prim.Native.Nat.{ℕ}
 use Rattle.refusal.specs.declared.Refusal.{Refusal}
-use Rattle.refusal.specs.declared.Refusal.the-variants.{Dimension, Bits, Count, Neighbours, Length, Component, Mark, Outside, Code, Cell, Kind, Truncated, Stale, NotANumber, OutOfRange, Trailing, Misplaced, TooFewPresent, PresenceBit, Full, NotRemovable}
+use Rattle.refusal.specs.declared.Refusal.the-variants.{Dimension, Bits, Count, Neighbours, Length, Component, Mark, Outside, Code, Cell, Kind, Truncated, Stale, NotANumber, OutOfRange, Trailing, Misplaced, TooFewPresent, PresenceBit, Full, NotRemovable, TooManyQueries}
 use Rattle.refusal.specs.declared.Verdict.{Verdict}
 use Rattle.refusal.specs.declared.Verdict.the-variants.{Accepted, Refused}
 
@@ -49,6 +49,8 @@ numberOf PresenceBit = 19
 numberOf Full = 20
 -- removing a number that is not stored, or the only vector (Slip 3)
 numberOf NotRemovable = 21
+-- more than 64 queries (Slip 5)
+numberOf TooManyQueries = 22
 
 abbrev pub verdictNumber : Verdict → ℕ
 verdictNumber Accepted = 0

@@ -25,6 +25,7 @@ pub enum Refusal {
     PresenceBit,
     Full,
     NotRemovable,
+    TooManyQueries,
 }
 
 // What a call's tests come to: nothing speaks against it, or the first cause that does.
@@ -34,7 +35,7 @@ pub enum Verdict {
 }
 
 impl Refusal {
-    // The row's number, 1 to 21.
+    // The row's number, 1 to 22.
     pub fn number(self) -> u32
         ensures { λ r. ⌜ r ≡ numberOf self ⌝ }
     {
@@ -60,6 +61,7 @@ impl Refusal {
             Refusal::PresenceBit => 19,
             Refusal::Full => 20,
             Refusal::NotRemovable => 21,
+            Refusal::TooManyQueries => 22,
         }
     }
 }
