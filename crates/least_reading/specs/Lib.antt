@@ -6,3 +6,4 @@ pub mod Prepared
 pub mod Vector
 pub mod Selected
 pub mod Aligned
+pub mod Turned

@@ -8,13 +8,13 @@ use Rattle.refusal.specs.declared.Refusal.{Refusal}
 use Rattle.refusal.specs.declared.Refusal.the-variants.{Cell}
 use Rattle.refusal.specs.declared.Verdict.{Verdict}
 use Rattle.refusal.specs.declared.Verdict.the-variants as verdict
-use Rattle.refusal.specs.First.{Row, _⇒_, first, first-append, outcome-accepted, outcome-refused}
+use Rattle.refusal.specs.First.{Row, _⇒_, first, outcome, first-append, outcome-accepted, outcome-refused}
 use Rattle.entries.specs.declared.Entry.{Entry}
 use Rattle.entries.specs.Entries.{entriesOf, inArray}
 use Rattle.entries.specs.EntryLaws.{entries-length, array-front}
 use Rattle.search.specs.declared.Found.{Found}
 use Rattle.search.specs.declared.Searched.the-variants.{Read, Refused}
-use Rattle.search.specs.Answer.{searchAnswer, searchEntries, searchReads}
+use Rattle.search.specs.Answer.{foundCount, searchAnswer, searchEntries, searchReads}
 use Rattle.search.specs.Accepted.{Accepts, best-few, best-size}
 use Rattle.search.specs.Search.{Index, Query, Room, inOwnCells, searched, entryCauses, searchCauses}
 
@@ -62,6 +62,11 @@ pub refused-at-entry : (l : Index) (query : Query) (k : ℕ) (room : Room) (caus
     → first (searchCauses l query k room) ≡ verdict.Refused cause
 refused-at-entry l query k room cause refused = first-append (entryCauses l query k room) (cellCauses l query k)
     ∙ outcome-refused _ _ refused
+
+-- the answer of a verdict leaves as many entries to fill as the verdict
+pub found-outcome : (v : Verdict) (l : Index) (query : Query) (k : ℕ) → foundCount (searchAnswer v l query k) k ≡ outcome v k (λ _. 0)
+found-outcome verdict.Accepted l query k = refl
+found-outcome (verdict.Refused cause) l query k = refl
 
 -- ---- what the answer of reading tells
 

@@ -1,5 +1,6 @@
 // The search that reads least.
 mod candidates;
+mod queries;
 mod reading;
 
 use crate::reading::Task;

@@ -1,13 +1,10 @@
 // The queries of a batch, one after the other, in a library that is tested once.
 use crate::search_ready;
 use batch::Answer;
-use batch::BatchLengths;
 use batch::BatchTerms;
 use batch::answer_of;
-use batch::check_batch;
 use batch::check_query;
 use entries::Entry;
-use entries::fill::fill;
 use entries::no_entries;
 use limits::MAX_NEIGHBOURS;
 use refusal::Verdict;
@@ -33,49 +30,6 @@ struct Turn {
     answer: Answer,
     start: usize,
     count: usize,
-}
-
-// The k nearest of n vectors to each of m queries, and the numbers of the vectors that were read for it, in reading order. Each query has its
-// part of the buffers: d components, its presence word, its answer, k entries, a read list of n. A refusal of the batch changes nothing,
-// and one of a query leaves its entries and its read list as they were.
-pub fn search_batch(
-    terms: BatchTerms,
-    queries: &[i32],
-    words: &[u32],
-    marks: &[i32],
-    codes: &[u8],
-    vectors: &[i32],
-    answers: &mut [Answer],
-    entries: &mut [Entry],
-    reads: &mut [u32],
-) -> Verdict
-    ensures { λ r. let batch = batchOf terms (now (queries .entry)) (now (words .entry)) (now (marks .entry)) (now (codes .entry))
-        (now (vectors .entry)) in
-        let lengths = lengthsOf batch (length (now (answers .entry))) (length (now (entries .entry))) (length (now (reads .entry))) in
-        let v = first (batchCauses terms lengths (now (marks .entry)) (now (codes .entry))) in
-        ⌜ (r ≡ v)
-        × (now (answers .exit) ≡ batchAnswers v batch (now (answers .entry)))
-        × (now (entries .exit) ≡ batchEntries v batch (now (entries .entry)))
-        × (now (reads .exit) ≡ batchReads v batch (now (reads .entry))) ⌝ }
-{
-    let lengths = BatchLengths {
-        queries: queries.len(),
-        words: words.len(),
-        vectors: vectors.len(),
-        answers: answers.len(),
-        entries: entries.len(),
-        reads: reads.len(),
-    };
-    let verdict = check_batch(terms, lengths, marks, codes);
-    let end = scan::accepted_count(verdict, terms.m);
-    let mut i = 0;
-    while i < end {
-        let turn = answer_query(terms, i, queries, words, marks, codes, vectors, reads);
-        answers[i] = turn.answer;
-        fill(entries, turn.start, turn.entries, turn.count);
-        i += 1;
-    }
-    verdict
 }
 
 // Searches for query i, whose read list is written to its part.
