@@ -5,6 +5,7 @@ mod reading;
 
 use crate::reading::Task;
 use crate::reading::read_in_order;
+use bounds::regions::sum_regions;
 use bounds::sum::sum_bounds;
 use entries::entries_of;
 use entries::no_entries;
@@ -25,15 +26,19 @@ ghost use mathlib.Core.Path.{_≡_};
 ghost use mathlib.Core.List.{[], _++_};
 ghost use Prim.Native.Nat.{_≤_};
 ghost use lib.ListN.{length, take, drop};
+ghost use Rattle.refusal.specs.declared.Verdict.the-variants.{Accepted};
 ghost use Rattle.refusal.specs.First.{first};
 ghost use Rattle.distance.specs.Bounds.{weighedLower};
 ghost use Rattle.distance.specs.Small.{Factors};
 ghost use Rattle.distance.specs.Values.{valuesFrom};
+ghost use Rattle.table.specs.Table.{boundSum};
 ghost use Rattle.bounds.specs.Bounded.{Bounding};
+ghost use Rattle.bounds.specs.Sums.{sumCauses};
 ghost use Rattle.search.specs.Search.{lowIn, searchCauses};
 ghost use Rattle.search.specs.Ready.{indexOf, queryOf, roomOf, Ready};
 ghost use Rattle.least_reading.specs.Prepared.{Prepared};
 ghost use Rattle.least_reading.specs.Searching.{Searches, cellCauses};
+ghost use Rattle.least_reading.specs.Unpacked.{Unpacked};
 
 // The k nearest of n vectors, and the numbers of the vectors that were read, in reading order; the answer is how many those are. What is
 // not written of `reads` keeps its content, and a refusal changes nothing.
@@ -54,7 +59,7 @@ pub fn nearest_by_bounds(
 {
     let verdict = check_entry(terms, query, marks, codes, vectors, entries, reads.len());
     match verdict {
-        Verdict::Accepted => search_ready(terms, query, marks, codes, vectors, reads),
+        Verdict::Accepted => search_ready(terms, query, marks, codes, vectors, &codes[0..0], reads),
         Verdict::Refused(cause) => Found {
             answer: Searched::Refused(cause),
             entries: no_entries(),
@@ -62,17 +67,20 @@ pub fn nearest_by_bounds(
     }
 }
 
-// The search where nothing refuses at its entry, in arrays for the most vectors of a library.
-fn search_ready(
+// The search where nothing refuses at its entry, in arrays for the most vectors of a library. The region numbers that the codes name are
+// handed in where they are unpacked, and no numbers where they are not.
+pub(crate) fn search_ready(
     terms: Terms,
     query: &[i32],
     marks: &[i32],
     codes: &[u8],
     vectors: &[i32],
+    regions: &[u8],
     reads: &mut [u32],
 ) -> Found
     requires { let l = indexOf terms (now marks) (now codes) (now vectors) in
-        ⌜ (Ready l (queryOf terms (now query)) (terms .k)) × (length (now reads) ≡ terms .n) ⌝ }
+        ⌜ (Ready l (queryOf terms (now query)) (terms .k)) × (length (now reads) ≡ terms .n)
+        × (Unpacked (terms .d) (terms .b) (terms .n) (now codes) (now regions)) ⌝ }
     ensures { λ r. let l = indexOf terms (now (marks .entry)) (now (codes .entry)) (now (vectors .entry)) in
         let q = queryOf terms (now (query .entry)) in
         ⌜ Searches (first (cellCauses l q (terms .k))) l q (terms .k) r
@@ -88,6 +96,7 @@ fn search_ready(
         query,
         marks,
         codes,
+        regions,
         &mut lows[..n],
     );
     let mut order = [0u32; MAX_VECTORS];
@@ -157,9 +166,11 @@ fn lower_bounds(
     query: &[i32],
     marks: &[i32],
     codes: &[u8],
+    regions: &[u8],
     lows: &mut [u64],
 )
-    requires { ⌜ (Bounding d b (length (now lows)) (now query) (now marks) (now codes)) × (Factors factors) ⌝ }
+    requires { ⌜ (Bounding d b (length (now lows)) (now query) (now marks) (now codes)) × (Factors factors)
+        × (Unpacked d b (length (now lows)) (now codes) (now regions)) ⌝ }
     ensures { λ _. ⌜ now (lows .exit)
         ≡ valuesFrom (weighedLower d b (now (marks .entry)) (now (codes .entry)) factors (now (query .entry))) 0
         (length (now (lows .entry))) ⌝ }
@@ -175,7 +186,21 @@ fn lower_bounds(
         query,
         &mut table[..size],
     );
-    sum_bounds(d, b, &table[..size], codes, lows);
+    sum_lows(d, b, &table[..size], codes, regions, lows);
+}
+
+// The sums of a table's entries, of the region numbers where they are unpacked, and of the codes where they are not.
+fn sum_lows(d: usize, b: usize, table: &[u64], codes: &[u8], regions: &[u8], lows: &mut [u64])
+    requires { ⌜ (first (sumCauses d b (length (now table)) (now codes) (length (now lows))) ≡ Accepted)
+        × (Unpacked d b (length (now lows)) (now codes) (now regions)) ⌝ }
+    ensures { λ _. ⌜ now (lows .exit)
+        ≡ valuesFrom (boundSum d b (now (table .entry)) (now (codes .entry))) 0 (length (now (lows .entry))) ⌝ }
+{
+    if regions.len() == 0 {
+        sum_bounds(d, b, table, codes, lows);
+    } else {
+        sum_regions(d, b, table, regions, lows);
+    }
 }
 
 // Writes the first numbers over the first of a buffer.
