@@ -2,4 +2,5 @@
 mod bit_buffer;
 pub mod cell;
 pub mod inside;
+pub mod regions;
 pub mod sum;
