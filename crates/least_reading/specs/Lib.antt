@@ -7,3 +7,4 @@ pub mod Vector
 pub mod Selected
 pub mod Aligned
 pub mod Turned
+pub mod Unpacked
