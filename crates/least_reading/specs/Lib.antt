@@ -8,3 +8,4 @@ pub mod Selected
 pub mod Aligned
 pub mod Turned
 pub mod Unpacked
+pub mod Answering
