@@ -140,7 +140,13 @@ fn answer_query(
     let n = terms.n;
     let k = terms.k;
     let word = words[i];
-    let one = Terms { d, b: terms.b, n, k, word };
+    let one = Terms {
+        d,
+        b: terms.b,
+        n,
+        k,
+        word,
+    };
     let first = i * d;
     let place = i * n;
     let count = n * d;

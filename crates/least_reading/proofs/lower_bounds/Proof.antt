@@ -6,7 +6,6 @@ use native.Mathlib.Omega.{arith}
 use lib.ListN.{length}
 use lib.Seq.{length-take-le}
 use borrow.Author.Needs.{needs}
-use Rattle.refusal.specs.First.{outcome-accepted}
 use Rattle.order.proofs.Prefix.{back-within, shared-is}
 use Rattle.step.specs.declared.Bound.the-variants.{Lower}
 use Rattle.distance.specs.Values.{valuesFrom}
@@ -18,7 +17,7 @@ use Rattle.least_reading.proofs.lower_bounds.Tie as tie
 
 table-hold : tie.Need-array-borrow-prefix-table
 table-hold c =
-    let start = c .before .before in
+    let start = c .before .before .before in
     omega (arith, start .pre .0 .of-marks, table-le (start .args .d) (start .args .b) (start .pre .0 .shaped))
 
 table-within : tie.Need-array-share-prefix-table
@@ -27,12 +26,17 @@ table-within c =
     let back = filled .fill-table .last .1 .1 .1 .1 .1 .1 .0 in
     back-within _ _ back (table-hold (filled .before .before)) (filled .fill-table .kept .1 .1 .1 .1 .1 .1 .0)
 
+sum-lows-requires : tie.Need-sum-lows-requires
+sum-lows-requires c κs =
+    let shared = c .before .before in
+    let start = shared .before .before .before .before .before .before in
+    (sums-accepted (start .pre .0) _ (length-take-le _ _ (table-within shared)), start .pre .2)
+
 returns : tie.Need-returns
 returns c =
     let summed = c .before .before in
-    let shared = summed .before .before .before in
-    let filled = shared .before in
-    let start = filled .before .before .before .before in
+    let filled = summed .before .before .before .before in
+    let start = filled .before .before .before .before .before in
     let a = start .args in
     let is = start .pre .0 in
     let n = length (a .lows .now) in
@@ -41,10 +45,10 @@ returns c =
     let full =
     filled .fill-table .ensures
     ∙ is-filled (a .d) (a .b) _ _ _ _ (is .shaped) (is .of-marks) (length-take-le _ _ (table-hold (filled .before .before))) in
-    summed .sum-bounds .ensures .1
-    ∙ outcome-accepted _ _ (sums-accepted is _ (length-take-le _ _ (table-within shared)))
+    summed .sum-lows .ensures
     ∙ ap (λ (table : List ℕ). valuesFrom (boundSum (a .d) (a .b) table (a .codes .now)) 0 n) (came-back ∙ full)
-    ∙ bounds-sum Lower (a .d) (a .b) (a .marks .now) (a .factors) (a .query .now) (a .codes .now) n (start .pre .1) (is .shaped) (is .components) (is .good)
+    ∙ bounds-sum Lower (a .d) (a .b) (a .marks .now) (a .factors) (a .query .now) (a .codes .now) n
+    (start .pre .1) (is .shaped) (is .components) (is .good)
 
 pub lower-bounds-spec : {M : Type 1} → statement M
 lower-bounds-spec =
@@ -55,6 +59,6 @@ lower-bounds-spec =
     (λ c κs. search needs)
     table-within
     (λ c. sym (length-take-le _ _ (table-within (c .before))))
-    (λ c κs. search needs)
+    sum-lows-requires
     (λ c. search needs)
     returns)

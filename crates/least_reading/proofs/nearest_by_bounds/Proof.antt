@@ -1,5 +1,5 @@
 -- `nearest_by_bounds` meets its contract: where nothing refuses at the entry, only the vectors read can. Assumes nothing.
-use mathlib.Core.Path.{_≡_, sym, _∙_}
+use mathlib.Core.Path.{_≡_, refl, sym, _∙_}
 use lib.ListN.{length}
 use borrow.Author.Needs.{needs}
 use Rattle.refusal.specs.declared.Verdict.{Verdict}
@@ -29,15 +29,15 @@ accepted c = sym (c .before .before .check-entry .ensures) ∙ c .enum-told .giv
 
 search-ready-requires : tie.Need-search-ready-requires
 search-ready-requires c κs =
-    let told = c .before in
+    let told = c .before .before in
     let s = told .before .before .before .before .before in
     let is = entered (given s) (asked s) (s .args .terms .k) (room s) (accepted told) in
-    (is .ready, is .of-reads)
+    (is .ready, is .of-reads, record { are = λ some. absurd (some refl) })
 
 returns : tie.Need-returns
 returns c =
     let searched = c .before .before in
-    let told = searched .before .before in
+    let told = searched .before .before .before in
     let s = told .before .before .before .before .before in
     searches-by (behind-entry (given s) (asked s) (s .args .terms .k) (room s) (accepted told))
     (searched .search-ready .ensures)
@@ -56,9 +56,12 @@ nearest-by-bounds-spec =
     (tie.spec
     (λ c κs. tt)
     (λ c. search needs)
+    (λ c. search needs)
+    (λ c. search needs)
+    (λ c. search needs)
     search-ready-requires
     (λ c. search needs)
     (λ c κs. tt)
-    (λ c. c .before .before .search-ready .kept .1 .1 .1 .1 .1 .0)
+    (λ c. c .before .before .search-ready .kept .1 .1 .1 .1 .1 .1 .0)
     returns
     returns-2)

@@ -23,26 +23,26 @@ asked s = queryOf (s .args .terms) (s .args .query .now)
 -- ---- the fronts of the three arrays
 
 -- the factors are those of the query
-weighed : (c : tie.After-factors-of) → c .factors-of .result ≡ factorsIn (asked (c .before .before .before))
+weighed : (c : tie.After-factors-of) → c .factors-of .result ≡ factorsIn (asked (c .before .before .before .before))
 weighed c = c .factors-of .ensures
 
 lows-hold : tie.Need-array-borrow-prefix-lows
-lows-hold c = c .before .before .before .pre .0 .count
+lows-hold c = c .before .before .before .before .pre .0 .count
 
 lows-within : tie.Need-array-borrow-prefix-lows-2
 lows-within c =
     let filled = c .before in
-    back-within _ _ (filled .lower-bounds .last .1 .1 .1 .1 .1 .1 .0) (lows-hold (filled .before .before))
-    (filled .lower-bounds .kept .1 .1 .1 .1 .1 .1 .0)
+    back-within _ _ (filled .lower-bounds .last .1 .1 .1 .1 .1 .1 .1 .0) (lows-hold (filled .before .before))
+    (filled .lower-bounds .kept .1 .1 .1 .1 .1 .1 .1 .0)
 
 order-hold : tie.Need-array-borrow-prefix-order
-order-hold c = c .before .before .before .before .before .before .before .pre .0 .count
+order-hold c = c .before .before .before .before .before .before .before .before .pre .0 .count
 
 order-room : tie.Need-slice-aggregate-search-bounded-2
 order-room c = sym (length-take-le _ _ (order-hold (c .before)))
 
 words-hold : tie.Need-array-borrow-prefix-words
-words-hold c = c .before .before .before .before .before .before .before .before .pre .0 .count
+words-hold c = c .before .before .before .before .before .before .before .before .before .pre .0 .count
 
 words-room : tie.Need-slice-aggregate-search-bounded-3
 words-room c = sym (length-take-le _ _ (words-hold (c .before)))
@@ -50,13 +50,15 @@ words-room c = sym (length-take-le _ _ (words-hold (c .before)))
 lower-bounds-requires : tie.Need-lower-bounds-requires
 lower-bounds-requires c κs =
     let made = c .before in
-    (bounding (made .before .before .before .pre .0) _ (length-take-le _ _ (lows-hold (c .before))), rw (weighed made) (word-small _))
+    let s = made .before .before .before .before in
+    let size = length-take-le _ _ (lows-hold (c .before)) in
+    (bounding (s .pre .0) _ size, rw (weighed made) (word-small _), rw size (s .pre .2))
 
-bounded : (c : tie.After-lower-bounds) → let s = c .before .before .before .before .before in
-    c .lower-bounds .last .1 .1 .1 .1 .1 .1 .0 ≡ valuesFrom (lowIn (given s) (asked s)) 0 (s .args .terms .n)
+bounded : (c : tie.After-lower-bounds) → let s = c .before .before .before .before .before .before in
+    c .lower-bounds .last .1 .1 .1 .1 .1 .1 .1 .0 ≡ valuesFrom (lowIn (given s) (asked s)) 0 (s .args .terms .n)
 bounded c =
     let made = c .before .before in
-    let s = made .before .before .before in
+    let s = made .before .before .before .before in
     let l = given s in
     let lows : List ℕ → ℕ → List ℕ =
     λ fs n. valuesFrom (weighedLower (l .d) (l .b) (l .marks) (l .codes) fs (asked s .components)) 0 n in
@@ -66,15 +68,15 @@ search-bounded-requires : tie.Need-search-bounded-requires
 search-bounded-requires c κs =
     let filled = c .before .before .before .before .before in
     let made = filled .before .before in
-    let s = made .before .before .before in (
+    let s = made .before .before .before .before in (
       (
         record { ready = s .pre .0; weighed = weighed made },
         sym (order-room (c .before .before)),
         sym (words-room (c .before)),
         s .pre .1,
       ),
-      shared-is _ _ (filled .lower-bounds .last .1 .1 .1 .1 .1 .1 .0) (lows-hold (filled .before .before))
-          (filled .lower-bounds .kept .1 .1 .1 .1 .1 .1 .0)
+      shared-is _ _ (filled .lower-bounds .last .1 .1 .1 .1 .1 .1 .1 .0) (lows-hold (filled .before .before))
+          (filled .lower-bounds .kept .1 .1 .1 .1 .1 .1 .1 .0)
           ∙ bounded filled,
     )
 
