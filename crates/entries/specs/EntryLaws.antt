@@ -47,10 +47,11 @@ sets-out : (l : List Entry) (at : ℕ) (es : List Entry) → length l ≤ at →
 sets-out l at [] past = refl
 sets-out l at (e ∷ es) past = rw (set-out l at e past) (sets-out l (suc at) es (omega arith))
 
-sets-next : (l es : List Entry) (i : ℕ) → i < length es → sets l 0 (take (suc i) es) ≡ set (sets l 0 (take i es)) i (getD es i blank)
-sets-next l es i below =
-    let at : 0 + length (take i es) ≡ i = zero-add (length (take i es)) ∙ length-take-le i es (omega arith) in
-    rw (take-suc es i blank below) (sym (sets-append l 0 (take i es) (getD es i blank ∷ [])) ∙ rw at refl)
+pub sets-next : (l es : List Entry) (at i : ℕ) → i < length es
+    → sets l at (take (suc i) es) ≡ set (sets l at (take i es)) (at + i) (getD es i blank)
+sets-next l es at i below =
+    rw (take-suc es i blank below)
+    (sym (sets-append l at (take i es) (getD es i blank ∷ [])) ∙ rw (length-take-le i es (omega arith)) refl)
 
 -- what does not fit is left out
 sets-fit : (l es : List Entry) → sets l 0 (take (length l) es) ≡ sets l 0 es
@@ -77,7 +78,9 @@ array-none = refl
 
 pub array-next : (es : List Entry) (i : ℕ) → i < length es → set (inArray (take i es)) i (getD es i blank) ≡ inArray (take (i + 1) es)
 unfolding inArray
-array-next es i below = rw add-one (sym (sets-next (replicate maxNeighbours blank) es i below))
+array-next es i below =
+    let next = sets-next (replicate maxNeighbours blank) es 0 i below in
+    rw add-one (sym (rw (zero-add i) at next))
 
 pub array-all : (es : List Entry) (i : ℕ) → i ≡ min (length es) maxNeighbours → inArray (take i es) ≡ inArray es
 unfolding inArray

@@ -1,4 +1,6 @@
 // Entries, each a vector's number and its distance from a query, and the array of the most neighbours that holds them by value.
+pub mod fill;
+
 use limits::MAX_NEIGHBOURS;
 ghost use mathlib.Core.Path.{_≡_};
 ghost use mathlib.Core.List.{[]};
