@@ -1,6 +1,4 @@
 // The nearest vectors as entries: the full scan and the search as other programs call them. Each is thin over its covered core.
-mod fill;
-
 use entries::Entry;
 use refusal::Verdict;
 use scan::ScanTerms;
@@ -22,7 +20,7 @@ pub fn scan(terms: ScanTerms, query: &[i32], vectors: &[i32], entries: &mut [Ent
     let scanned = scan::nearest_by_scan(terms, query, vectors, entries.len());
     let verdict = scanned.verdict;
     let count = scan::accepted_count(verdict, terms.k);
-    fill::fill(entries, scanned.entries, count);
+    entries::fill::fill(entries, 0, scanned.entries, count);
     verdict
 }
 
@@ -55,6 +53,6 @@ pub fn search(
     );
     let answer = found.answer;
     let count = search::found_count(answer, terms.k);
-    fill::fill(entries, found.entries, count);
+    entries::fill::fill(entries, 0, found.entries, count);
     answer
 }
