@@ -1,6 +1,6 @@
 // The search that reads least.
 mod candidates;
-mod queries;
+pub mod queries;
 mod reading;
 
 use crate::reading::Task;
