@@ -165,6 +165,11 @@ reads-part batch i part size = go (verdictIn batch i) refl
 
     go : (v : Verdict) → verdictIn batch i ≡ v → length (readsIn batch i part) ≡ batch .terms .n
     go Accepted held =
-        rw held (omega (arith, length-append reading (drop (length reading) part), length-drop (length reading) part,
-        reads-few (libraryIn batch) (queryIn batch i) (batch .terms .k), size))
+        rw held (omega (
+          arith,
+          length-append reading (drop (length reading) part),
+          length-drop (length reading) part,
+          reads-few (libraryIn batch) (queryIn batch i) (batch .terms .k),
+          size,
+        ))
     go (Refused cause) held = rw held size

@@ -48,10 +48,7 @@ pub fn answer_of(answer: Searched) -> Answer
     ensures { λ r. ⌜ r ≡ answerOf answer ⌝ }
 {
     match answer {
-        Searched::Read(count) => Answer {
-            status: 0,
-            count,
-        },
+        Searched::Read(count) => Answer { status: 0, count },
         Searched::Refused(cause) => Answer {
             status: cause.number(),
             count: 0,

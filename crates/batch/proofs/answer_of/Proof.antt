@@ -12,7 +12,7 @@ returns c = sym (ap answerOf (c .before .answer .given .1))
 
 returns-2 : tie.Need-returns-2
 returns-2 c =
-    ap (λ (status : ℕ). record {status = status; count = 0}) (c .number .ensures)
+    ap (λ (status : ℕ). record { status = status; count = 0 }) (c .number .ensures)
     ∙ sym (ap answerOf (c .before .before .answer2 .given .1))
 
 pub answer-of-spec : {M : Type 1} → statement M

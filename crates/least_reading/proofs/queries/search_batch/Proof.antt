@@ -75,7 +75,7 @@ use Rattle.batch.specs.BatchCauses.{lengthsOf}
 use Rattle.least_reading.specs.declared.queries.Turn.{Turn}
 use Rattle.least_reading.specs.Turned.{Turned}
 use Rattle.least_reading.specs.Unpacked.{RegionsIn}
-use Rattle.least_reading.specs.Answering.{noAnswer, batchVerdict, answersAfter, entriesAfter, readsAfter, entries-begun, reads-begun, answers-next, entries-next, reads-next, turning, sizes, ended}
+use Rattle.least_reading.specs.Answering.{noAnswer, batchVerdict, answersAfter, entriesAfter, readsAfter, entries-begun, reads-begun, answers-next, entries-next, reads-next, Turning, turning, sizes, ended}
 use Rattle.least_reading.proofs.Lending.{lend-row, row-back, slice-own}
 use Rattle.least_reading.proofs.queries.Turn as Tn
 use Rattle.least_reading.proofs.queries.Turn.Laws as Tn′
@@ -103,7 +103,7 @@ use Rattle.least_reading.proofs.queries.search_batch.Key.{name as #batc
 use Rattle.least_reading.proofs.queries.search_batch as face
 use Rattle.least_reading.proofs.queries.search_batch.Statement as stated
 use Rattle.least_reading.proofs.queries.search_batch.Code as code
-use Rattle.least_reading.proofs.queries.search_batch.Code.Mir.{turn-1, t-13}
+use Rattle.least_reading.proofs.queries.search_batch.Code.Mir.{turn-1, t-8, t-10, t-13}
 
 abbrev Terms-row : RattleType
 Terms-row = Tm.the-row
@@ -209,8 +209,8 @@ module _ {M : Type 1} (𝓤 : URA M) (H : Heap 𝓤) (A : Atoms 𝓤) (W : Given
   verdict = batchVerdict batch (now answers) (now entries) (now reads)
 
   -- the buffers with the queries before i answered
-  abbrev as : ℕ → List Answer
-  as i = answersAfter batch (now answers) (now entries) (now reads) i
+  abbrev ans : ℕ → List Answer
+  ans i = answersAfter batch (now answers) (now entries) (now reads) i
 
   abbrev es : ℕ → List Entry
   es i = entriesAfter batch (now answers) (now entries) (now reads) i
@@ -316,109 +316,109 @@ module _ {M : Type 1} (𝓤 : URA M) (H : Heap 𝓤) (A : Atoms 𝓤) (W : Given
     lengths-typed : T (hasTy Ln′.mir (lengths-val lengths)) × WT (lengths-val lengths)
     lengths-typed = LL.lawful Ln.the-type Ln′.the-laws 𝓤 H A W .typed lengths _ lengths-is .0
 
-    module _ (v : Verdict) (u : Val) (is-verdict : Is Row v (u ∷ [])) (told : v ≡ verdict) (end : ℕ) (last : end ≡ outcome v m (λ _. 0)) (regions : List ℕ) (u₃ : Val) (is-regions : Is Bytes regions (u₃ ∷ [])) (unpacked : RegionsIn (terms .d) (terms .b) (terms .n) (now codes) regions) where
-      -- ---- the loop
-      abbrev Upto : Type 0
-      Upto = (i : ℕ) × (i ≤ end)
+    module _ (𝓣 : Tables 𝓤 H) (known-check : Triple 𝓤 (𝓣 .C #check) (Check 𝓤 H A mem run)) (known-count : Triple 𝓤 (𝓣 .C #count) (Count 𝓤 H A mem run)) (known-regions : Triple 𝓤 (𝓣 .C #regions) (Regions 𝓤 H A mem run)) (known-answer : Triple 𝓤 (𝓣 .C #answer) (Answered 𝓤 H A mem run)) (known-fill : Triple 𝓤 (𝓣 .C #fill) (Fill 𝓤 H A mem run))
+        (l₀ l₁ l₂ l₃ l₄ l₅ l₆ l₇ l₈ l₉ l₁₀ l₁₁ l₁₂ l₁₃ l₁₄ l₁₅ l₁₆ l₁₇ l₁₈ l₁₉ l₂₀ l₂₁ l₂₂ l₂₃ l₂₄ l₂₅ l₂₆ l₂₇ l₂₈ l₂₉ : ℕ) where
+      abbrev C : Calls 𝓤 H
+      C = 𝓣 .C
 
-      abbrev Nearer : Upto → Upto → Type 0
-      Nearer j i = end - j .0 < end - i .0
+      abbrev Λ : Loops 𝓤 H
+      Λ = 𝓣 .Λ
 
-      Nearer-wf : WellFounded Nearer
-      Nearer-wf = InvImage·wf (λ (i : Upto). end - i .0) (Nat·lt-wfRel .wf)
+      fm : FmC 𝓤 H (W .laws) (𝓣 .C)
+      fm = fmOf 𝓤 H (W .laws) 𝓣
 
-      last-is : end ≡ outcome verdict m (λ _. 0)
-      last-is = rw (← told) last
+      abbrev word : Ty
+      word = tyInt w64
 
-      size-answers : (j : Upto) → length (as (j .0)) ≡ length (now answers)
-      size-answers j = sizes batch (now answers) (now entries) (now reads) end last-is (j .0) (j .1) .of-answers
+      abbrev bytes-type : Ty
+      bytes-type = tyArray (tyInt w8) 16384
 
-      size-entries : (j : Upto) → length (es (j .0)) ≡ length (now entries)
-      size-entries j = sizes batch (now answers) (now entries) (now reads) end last-is (j .0) (j .1) .of-entries
+      abbrev slice-queries : Ty
+      slice-queries = sliceTy (tyRef (named 0) imm (pointee (i32 .written)))
 
-      size-reads : (j : Upto) → length (rs (j .0)) ≡ length (now reads)
-      size-reads j = sizes batch (now answers) (now entries) (now reads) end last-is (j .0) (j .1) .of-reads
+      abbrev slice-words : Ty
+      slice-words = sliceTy (tyRef (named 1) imm (pointee (u32 .written)))
 
-      room-after-entries : (j : Upto) → Room R (length (es (j .0)))
-      room-after-entries j = subst (Room R) (sym (size-entries j)) room-entries
+      abbrev slice-marks : Ty
+      slice-marks = sliceTy (tyRef (named 2) imm (pointee (i32 .written)))
 
-      room-after-reads : (j : Upto) → Room u32 (length (rs (j .0)))
-      room-after-reads j = subst (Room u32) (sym (size-reads j)) room-reads
+      abbrev slice-codes : Ty
+      slice-codes = sliceTy (tyRef (named 3) imm (pointee (u8 .written)))
 
-      exits : (j : Upto) → j .0 ≡ end
-          → ent 𝓤 (⋆ 𝓤 H A (‵ (fobs (name answers) (codedHoleys RA .code (heres RA (as (j .0))))) ∷ ‵ (fbor κ-answers (Held RA (length (as (j .0))) (answers .ptr .0) (answers .ptr .1) (name answers))) ∷ ‵ (fobs (name entries) (codedHoleys R .code (heres R (es (j .0))))) ∷ ‵ (fbor κ-entries (Held R (length (es (j .0))) (entries .ptr .0) (entries .ptr .1) (name entries))) ∷ ‵ (fobs (name reads) (codedHoleys u32 .code (heres u32 (rs (j .0))))) ∷ ‵ (fbor κ-reads (Held u32 (length (rs (j .0))) (reads .ptr .0) (reads .ptr .1) (name reads))) ∷ ‵ (Row .own v (u ∷ [])) ∷ ‵ (flft κ-queries q-queries) ∷ ‵ (flft κ-words q-words) ∷ ‵ (flft κ-marks q-marks) ∷ ‵ (flft κ-codes q-codes) ∷ ‵ (flft κ-vectors q-vectors) ∷ ‵ (flft κ-answers q-answers) ∷ ‵ (flft κ-entries q-entries) ∷ ‵ (flft κ-reads q-reads) ∷ [])) (Post u)
-      exits j all =
-          qed W (‵ (fobs (name answers) (codedHoleys RA .code (heres RA (as (j .0))))) ∷ ‵ (fbor κ-answers (Held RA (length (as (j .0))) (answers .ptr .0) (answers .ptr .1) (name answers))) ∷ ‵ (fobs (name entries) (codedHoleys R .code (heres R (es (j .0))))) ∷ ‵ (fbor κ-entries (Held R (length (es (j .0))) (entries .ptr .0) (entries .ptr .1) (name entries))) ∷ ‵ (fobs (name reads) (codedHoleys u32 .code (heres u32 (rs (j .0))))) ∷ ‵ (fbor κ-reads (Held u32 (length (rs (j .0))) (reads .ptr .0) (reads .ptr .1) (name reads))) ∷ ‵ (Row .own v (u ∷ [])) ∷ ‵ (flft κ-queries q-queries) ∷ ‵ (flft κ-words q-words) ∷ ‵ (flft κ-marks q-marks) ∷ ‵ (flft κ-codes q-codes) ∷ ‵ (flft κ-vectors q-vectors) ∷ ‵ (flft κ-answers q-answers) ∷ ‵ (flft κ-entries q-entries) ∷ ‵ (flft κ-reads q-reads) ∷ []) ∵
-          suffices ! _ (ends-at 𝓤 H A face.ended stayed (face.clauses 𝓤 H A mem run) W bound u v (tt, (tt, (tt, (tt, (tt, (tt, (as (j .0), (es (j .0), (rs (j .0), tt)))))))))
-          (tt, (tt, (tt, (tt, (tt, (tt, (size-answers j, (size-entries j, (size-reads j, tt)))))))))) $
-          says ! (told, ended batch (now answers) (now entries) (now reads) end last-is (j .0) all) $
-          nothing ! $
-          move ! (8 ∷ 9 ∷ 10 ∷ 11 ∷ 12 ∷ 13 ∷ 14 ∷ 15 ∷ 0 ∷ []) $
-          group ! 9 $
-          frame ! $
-          use2 W (‵ (MutSlice (named 5) κ-answers RA .own (record { ptr = answers .ptr; name = name answers; now = as (j .0) }) (slice-vals answers))) (slice-own 𝓤 H A W RA (named 5) κ-answers answers (as (j .0)) (size-answers j) room-answers) $
-          move ! (1 ∷ 2 ∷ []) $
-          use2 W (‵ (MutSlice (named 6) κ-entries R .own (record { ptr = entries .ptr; name = name entries; now = es (j .0) }) (slice-vals entries))) (slice-own 𝓤 H A W R (named 6) κ-entries entries (es (j .0)) (size-entries j) room-entries) $
-          move ! (2 ∷ 3 ∷ []) $
-          use2 W (‵ (MutSlice (named 7) κ-reads u32 .own (record { ptr = reads .ptr; name = name reads; now = rs (j .0) }) (slice-vals reads))) (slice-own 𝓤 H A W u32 (named 7) κ-reads reads (rs (j .0)) (size-reads j) room-reads) $
-          nothing ! $
-          nothing ! $
-          nothing ! $
-          nothing ! $
-          nothing ! $
-          nothing ! $
-          nothing ! $
-          move ! (6 ∷ 5 ∷ 4 ∷ 3 ∷ 2 ∷ 1 ∷ 9 ∷ 8 ∷ 7 ∷ 0 ∷ []) $
-          group ! 10 $
-          frame ! $ done !
+      abbrev slice-vectors : Ty
+      slice-vectors = sliceTy (tyRef (named 4) imm (pointee (i32 .written)))
 
-      module _ (𝓣 : Tables 𝓤 H) (known-answer : Triple 𝓤 (𝓣 .C #answer) (Answered 𝓤 H A mem run)) (known-fill : Triple 𝓤 (𝓣 .C #fill) (Fill 𝓤 H A mem run))
-          (l₀ l₁ l₂ l₃ l₄ l₅ l₆ l₇ l₈ l₉ l₁₀ l₁₁ l₁₂ l₁₃ l₁₄ l₁₅ l₁₆ l₁₇ l₁₈ l₁₉ l₂₀ l₂₁ l₂₂ l₂₃ l₂₄ l₂₅ l₂₆ l₂₇ l₂₈ l₂₉ : ℕ) where
-        abbrev C : Calls 𝓤 H
-        C = 𝓣 .C
+      abbrev slice-answers : Ty
+      slice-answers = sliceTy (tyRef (named 5) mut (pointee (RA .written)))
 
-        abbrev Λ : Loops 𝓤 H
-        Λ = 𝓣 .Λ
+      abbrev slice-entries : Ty
+      slice-entries = sliceTy (tyRef (named 6) mut (pointee (R .written)))
 
-        fm : FmC 𝓤 H (W .laws) (𝓣 .C)
-        fm = fmOf 𝓤 H (W .laws) 𝓣
+      abbrev slice-reads : Ty
+      slice-reads = sliceTy (tyRef (named 7) mut (pointee (u32 .written)))
 
-        abbrev word : Ty
-        word = tyInt w64
+      abbrev En : Env 𝓤 H
+      En = (Vd′.mir, l₀) ∷ (Tm′.mir, l₁) ∷ (slice-queries, l₂) ∷ (slice-words, l₃) ∷ (slice-marks, l₄) ∷ (slice-codes, l₅) ∷ (slice-vectors, l₆) ∷ (slice-answers, l₇) ∷ (slice-entries, l₈) ∷ (slice-reads, l₉) ∷ (Ln′.mir, l₁₀) ∷ (Vd′.mir, l₁₁) ∷ (word, l₁₂) ∷ (bytes-type, l₁₃) ∷ (word, l₁₄) ∷ (Tn′.mir, l₁₅) ∷ (word, l₁₆) ∷ (word, l₁₇) ∷ (word, l₁₈) ∷ (word, l₁₉) ∷ (word, l₂₀) ∷ (word, l₂₁) ∷ (tyBool, l₂₂) ∷ (tyRef erased mut (pointee (u32 .written)), l₂₃) ∷ (sliceTy (tyRef erased mut (pointee (u32 .written))), l₂₄) ∷ (word, l₂₅) ∷ (tyPtr, l₂₆) ∷ (tyUnit, l₂₇) ∷ (tyRef erased mut (pointee (R .written)), l₂₈) ∷ (sliceTy (tyRef erased mut (pointee (R .written))), l₂₉) ∷ []
 
-        abbrev bytes-type : Ty
-        bytes-type = tyArray (tyInt w8) 16384
+      module _ (v : Verdict) (u : Val) (is-verdict : Is Row v (u ∷ [])) (told : v ≡ verdict) (end : ℕ) (last : end ≡ outcome v m (λ _. 0)) (regions : List ℕ) (u₃ : Val) (is-regions : Is Bytes regions (u₃ ∷ [])) (unpacked : RegionsIn (terms .d) (terms .b) (terms .n) (now codes) regions) where
+        -- ---- the loop
+        abbrev Upto : Type 0
+        Upto = (i : ℕ) × (i ≤ end)
 
-        abbrev slice-queries : Ty
-        slice-queries = sliceTy (tyRef (named 0) imm (pointee (i32 .written)))
+        abbrev Nearer : Upto → Upto → Type 0
+        Nearer j i = end - j .0 < end - i .0
 
-        abbrev slice-words : Ty
-        slice-words = sliceTy (tyRef (named 1) imm (pointee (u32 .written)))
+        Nearer-wf : WellFounded Nearer
+        Nearer-wf = InvImage·wf (λ (i : Upto). end - i .0) (Nat·lt-wfRel .wf)
 
-        abbrev slice-marks : Ty
-        slice-marks = sliceTy (tyRef (named 2) imm (pointee (i32 .written)))
+        last-is : end ≡ outcome verdict m (λ _. 0)
+        last-is = rw (← told) last
 
-        abbrev slice-codes : Ty
-        slice-codes = sliceTy (tyRef (named 3) imm (pointee (u8 .written)))
+        size-answers : (j : Upto) → length (ans (j .0)) ≡ length (now answers)
+        size-answers j = sizes batch (now answers) (now entries) (now reads) end last-is (j .0) (j .1) .of-answers
 
-        abbrev slice-vectors : Ty
-        slice-vectors = sliceTy (tyRef (named 4) imm (pointee (i32 .written)))
+        size-entries : (j : Upto) → length (es (j .0)) ≡ length (now entries)
+        size-entries j = sizes batch (now answers) (now entries) (now reads) end last-is (j .0) (j .1) .of-entries
 
-        abbrev slice-answers : Ty
-        slice-answers = sliceTy (tyRef (named 5) mut (pointee (RA .written)))
+        size-reads : (j : Upto) → length (rs (j .0)) ≡ length (now reads)
+        size-reads j = sizes batch (now answers) (now entries) (now reads) end last-is (j .0) (j .1) .of-reads
 
-        abbrev slice-entries : Ty
-        slice-entries = sliceTy (tyRef (named 6) mut (pointee (R .written)))
+        room-after-entries : (j : Upto) → Room R (length (es (j .0)))
+        room-after-entries j = subst (Room R) (sym (size-entries j)) room-entries
 
-        abbrev slice-reads : Ty
-        slice-reads = sliceTy (tyRef (named 7) mut (pointee (u32 .written)))
+        room-after-reads : (j : Upto) → Room u32 (length (rs (j .0)))
+        room-after-reads j = subst (Room u32) (sym (size-reads j)) room-reads
 
-        abbrev En : Env 𝓤 H
-        En = (Vd′.mir, l₀) ∷ (Tm′.mir, l₁) ∷ (slice-queries, l₂) ∷ (slice-words, l₃) ∷ (slice-marks, l₄) ∷ (slice-codes, l₅) ∷ (slice-vectors, l₆) ∷ (slice-answers, l₇) ∷ (slice-entries, l₈) ∷ (slice-reads, l₉) ∷ (Ln′.mir, l₁₀) ∷ (Vd′.mir, l₁₁) ∷ (word, l₁₂) ∷ (bytes-type, l₁₃) ∷ (word, l₁₄) ∷ (Tn′.mir, l₁₅) ∷ (word, l₁₆) ∷ (word, l₁₇) ∷ (word, l₁₈) ∷ (word, l₁₉) ∷ (word, l₂₀) ∷ (word, l₂₁) ∷ (tyBool, l₂₂) ∷ (tyRef erased mut (pointee (u32 .written)), l₂₃) ∷ (sliceTy (tyRef erased mut (pointee (u32 .written))), l₂₄) ∷ (word, l₂₅) ∷ (tyPtr, l₂₆) ∷ (tyUnit, l₂₇) ∷ (tyRef erased mut (pointee (R .written)), l₂₈) ∷ (sliceTy (tyRef erased mut (pointee (R .written))), l₂₉) ∷ []
+        exits : (j : Upto) → j .0 ≡ end
+            → ent 𝓤 (⋆ 𝓤 H A (‵ (fobs (name answers) (codedHoleys RA .code (heres RA (ans (j .0))))) ∷ ‵ (fbor κ-answers (Held RA (length (ans (j .0))) (answers .ptr .0) (answers .ptr .1) (name answers))) ∷ ‵ (fobs (name entries) (codedHoleys R .code (heres R (es (j .0))))) ∷ ‵ (fbor κ-entries (Held R (length (es (j .0))) (entries .ptr .0) (entries .ptr .1) (name entries))) ∷ ‵ (fobs (name reads) (codedHoleys u32 .code (heres u32 (rs (j .0))))) ∷ ‵ (fbor κ-reads (Held u32 (length (rs (j .0))) (reads .ptr .0) (reads .ptr .1) (name reads))) ∷ ‵ (Row .own v (u ∷ [])) ∷ ‵ (flft κ-queries q-queries) ∷ ‵ (flft κ-words q-words) ∷ ‵ (flft κ-marks q-marks) ∷ ‵ (flft κ-codes q-codes) ∷ ‵ (flft κ-vectors q-vectors) ∷ ‵ (flft κ-answers q-answers) ∷ ‵ (flft κ-entries q-entries) ∷ ‵ (flft κ-reads q-reads) ∷ [])) (Post u)
+        exits j all =
+            qed W (‵ (fobs (name answers) (codedHoleys RA .code (heres RA (ans (j .0))))) ∷ ‵ (fbor κ-answers (Held RA (length (ans (j .0))) (answers .ptr .0) (answers .ptr .1) (name answers))) ∷ ‵ (fobs (name entries) (codedHoleys R .code (heres R (es (j .0))))) ∷ ‵ (fbor κ-entries (Held R (length (es (j .0))) (entries .ptr .0) (entries .ptr .1) (name entries))) ∷ ‵ (fobs (name reads) (codedHoleys u32 .code (heres u32 (rs (j .0))))) ∷ ‵ (fbor κ-reads (Held u32 (length (rs (j .0))) (reads .ptr .0) (reads .ptr .1) (name reads))) ∷ ‵ (Row .own v (u ∷ [])) ∷ ‵ (flft κ-queries q-queries) ∷ ‵ (flft κ-words q-words) ∷ ‵ (flft κ-marks q-marks) ∷ ‵ (flft κ-codes q-codes) ∷ ‵ (flft κ-vectors q-vectors) ∷ ‵ (flft κ-answers q-answers) ∷ ‵ (flft κ-entries q-entries) ∷ ‵ (flft κ-reads q-reads) ∷ []) ∵
+            suffices ! _ (ends-at 𝓤 H A face.ended stayed (face.clauses 𝓤 H A mem run) W bound u v (tt, (tt, (tt, (tt, (tt, (tt, (ans (j .0), (es (j .0), (rs (j .0), tt)))))))))
+            (tt, (tt, (tt, (tt, (tt, (tt, (size-answers j, (size-entries j, (size-reads j, tt)))))))))) $
+            (let last = ended batch (now answers) (now entries) (now reads) end last-is (j .0) all in says ! (told, last .0, last .1, last .2)) $
+            nothing ! $
+            move ! (8 ∷ 9 ∷ 10 ∷ 11 ∷ 12 ∷ 13 ∷ 14 ∷ 15 ∷ 0 ∷ []) $
+            group ! 9 $
+            frame ! $
+            use2 W (‵ (MutSlice (named 5) κ-answers RA .own (record { ptr = answers .ptr; name = name answers; now = ans (j .0) }) (slice-vals answers))) (slice-own 𝓤 H A W RA (named 5) κ-answers answers (ans (j .0)) (size-answers j) room-answers) $
+            move ! (1 ∷ 2 ∷ []) $
+            use2 W (‵ (MutSlice (named 6) κ-entries R .own (record { ptr = entries .ptr; name = name entries; now = es (j .0) }) (slice-vals entries))) (slice-own 𝓤 H A W R (named 6) κ-entries entries (es (j .0)) (size-entries j) room-entries) $
+            move ! (2 ∷ 3 ∷ []) $
+            use2 W (‵ (MutSlice (named 7) κ-reads u32 .own (record { ptr = reads .ptr; name = name reads; now = rs (j .0) }) (slice-vals reads))) (slice-own 𝓤 H A W u32 (named 7) κ-reads reads (rs (j .0)) (size-reads j) room-reads) $
+            nothing ! $
+            nothing ! $
+            nothing ! $
+            nothing ! $
+            nothing ! $
+            nothing ! $
+            nothing ! $
+            move ! (6 ∷ 5 ∷ 4 ∷ 3 ∷ 2 ∷ 1 ∷ 9 ∷ 8 ∷ 7 ∷ 0 ∷ []) $
+            group ! 10 $
+            frame ! $ done !
 
         -- the rows, the open borrows, the shared slices, the tokens, and the locals
         abbrev At : Upto → List (Item 𝓤)
-        At j = ‵ (row RA fullShare (as (j .0)) (answers .ptr .0) (answers .ptr .1)) ∷ ‵ (fobor κ-answers q-answers (Held RA (length (now answers)) (answers .ptr .0) (answers .ptr .1) (name answers))) ∷ ‵ (fobs (name answers) (codedHoleys RA .code (heres RA (now answers)))) ∷ ‵ (fauth (name answers) (codedHoleys RA .code (heres RA (now answers)))) ∷ ‵ (row R fullShare (es (j .0)) (entries .ptr .0) (entries .ptr .1)) ∷ ‵ (fobor κ-entries q-entries (Held R (length (now entries)) (entries .ptr .0) (entries .ptr .1) (name entries))) ∷ ‵ (fobs (name entries) (codedHoleys R .code (heres R (now entries)))) ∷ ‵ (fauth (name entries) (codedHoleys R .code (heres R (now entries)))) ∷ ‵ (row u32 fullShare (rs (j .0)) (reads .ptr .0) (reads .ptr .1)) ∷ ‵ (fobor κ-reads q-reads (Held u32 (length (now reads)) (reads .ptr .0) (reads .ptr .1) (name reads))) ∷ ‵ (fobs (name reads) (codedHoleys u32 .code (heres u32 (now reads)))) ∷ ‵ (fauth (name reads) (codedHoleys u32 .code (heres u32 (now reads)))) ∷ ‵ (ShrSlice (named 0) κ-queries i32 .own queries (slice-vals queries)) ∷ ‵ (ShrSlice (named 1) κ-words u32 .own words (slice-vals words)) ∷ ‵ (ShrSlice (named 2) κ-marks i32 .own marks (slice-vals marks)) ∷ ‵ (ShrSlice (named 3) κ-codes u8 .own codes (slice-vals codes)) ∷ ‵ (ShrSlice (named 4) κ-vectors i32 .own vectors (slice-vals vectors)) ∷ ‵ (flft κ-queries q-queries) ∷ ‵ (flft κ-words q-words) ∷ ‵ (flft κ-marks q-marks) ∷ ‵ (flft κ-codes q-codes) ∷ ‵ (flft κ-vectors q-vectors) ∷ ‵ (froom (sliceTy (tyRef erased mut (pointee (R .written)))) l₂₉ 0) ∷ ‵ (fdies (sliceTy (tyRef erased mut (pointee (R .written)))) l₂₉) ∷ ‵ (froom (tyRef erased mut (pointee (R .written))) l₂₈ 0) ∷ ‵ (fdies (tyRef erased mut (pointee (R .written))) l₂₈) ∷ ‵ (froom tyUnit l₂₇ 0) ∷ ‵ (fdies tyUnit l₂₇) ∷ ‵ (froom tyPtr l₂₆ 0) ∷ ‵ (fdies tyPtr l₂₆) ∷ ‵ (froom word l₂₅ 0) ∷ ‵ (fdies word l₂₅) ∷ ‵ (froom (sliceTy (tyRef erased mut (pointee (u32 .written)))) l₂₄ 0) ∷ ‵ (fdies (sliceTy (tyRef erased mut (pointee (u32 .written)))) l₂₄) ∷ ‵ (froom (tyRef erased mut (pointee (u32 .written))) l₂₃ 0) ∷ ‵ (fdies (tyRef erased mut (pointee (u32 .written))) l₂₃) ∷ ‵ (froom tyBool l₂₂ 0) ∷ ‵ (fdies tyBool l₂₂) ∷ ‵ (fat fullShare word l₂₁ 0 (vint w64 (length (now reads)))) ∷ ‵ (fdies word l₂₁) ∷ ‵ (fat fullShare word l₂₀ 0 (vint w64 (length (now entries)))) ∷ ‵ (fdies word l₂₀) ∷ ‵ (fat fullShare word l₁₉ 0 (vint w64 (length (now answers)))) ∷ ‵ (fdies word l₁₉) ∷ ‵ (fat fullShare word l₁₈ 0 (vint w64 (length (now vectors)))) ∷ ‵ (fdies word l₁₈) ∷ ‵ (fat fullShare word l₁₇ 0 (vint w64 (length (now words)))) ∷ ‵ (fdies word l₁₇) ∷ ‵ (fat fullShare word l₁₆ 0 (vint w64 (length (now queries)))) ∷ ‵ (fdies word l₁₆) ∷ ‵ (froom Tn′.mir l₁₅ 0) ∷ ‵ (fdies Tn′.mir l₁₅) ∷ ‵ (fat fullShare word l₁₄ 0 (vint w64 (j .0))) ∷ ‵ (fdies word l₁₄) ∷ ‵ (fat fullShare bytes-type l₁₃ 0 (u₃)) ∷ ‵ (fdies bytes-type l₁₃) ∷ ‵ (fat fullShare word l₁₂ 0 (vint w64 end)) ∷ ‵ (fdies word l₁₂) ∷ ‵ (fat fullShare Vd′.mir l₁₁ 0 (u)) ∷ ‵ (fdies Vd′.mir l₁₁) ∷ ‵ (fat fullShare Ln′.mir l₁₀ 0 (lengths-val lengths)) ∷ ‵ (fdies Ln′.mir l₁₀) ∷ ‵ (fat fullShare slice-reads l₉ 0 (sliceVal (reads .ptr) (length (now reads)))) ∷ ‵ (fdies slice-reads l₉) ∷ ‵ (fat fullShare slice-entries l₈ 0 (sliceVal (entries .ptr) (length (now entries)))) ∷ ‵ (fdies slice-entries l₈) ∷ ‵ (fat fullShare slice-answers l₇ 0 (sliceVal (answers .ptr) (length (now answers)))) ∷ ‵ (fdies slice-answers l₇) ∷ ‵ (fat fullShare slice-vectors l₆ 0 (sliceVal (vectors .ptr) (length (now vectors)))) ∷ ‵ (fdies slice-vectors l₆) ∷ ‵ (fat fullShare slice-codes l₅ 0 (sliceVal (codes .ptr) (length (now codes)))) ∷ ‵ (fdies slice-codes l₅) ∷ ‵ (fat fullShare slice-marks l₄ 0 (sliceVal (marks .ptr) (length (now marks)))) ∷ ‵ (fdies slice-marks l₄) ∷ ‵ (fat fullShare slice-words l₃ 0 (sliceVal (words .ptr) (length (now words)))) ∷ ‵ (fdies slice-words l₃) ∷ ‵ (fat fullShare slice-queries l₂ 0 (sliceVal (queries .ptr) (length (now queries)))) ∷ ‵ (fdies slice-queries l₂) ∷ ‵ (fat fullShare Tm′.mir l₁ 0 (terms-val terms)) ∷ ‵ (fdies Tm′.mir l₁) ∷ ‵ (froom Vd′.mir l₀ 0) ∷ ‵ (fdies Vd′.mir l₀) ∷ []
+        At j = ‵ (row RA fullShare (ans (j .0)) (answers .ptr .0) (answers .ptr .1)) ∷ ‵ (fobor κ-answers q-answers (Held RA (length (now answers)) (answers .ptr .0) (answers .ptr .1) (name answers))) ∷ ‵ (fobs (name answers) (codedHoleys RA .code (heres RA (now answers)))) ∷ ‵ (fauth (name answers) (codedHoleys RA .code (heres RA (now answers)))) ∷ ‵ (row R fullShare (es (j .0)) (entries .ptr .0) (entries .ptr .1)) ∷ ‵ (fobor κ-entries q-entries (Held R (length (now entries)) (entries .ptr .0) (entries .ptr .1) (name entries))) ∷ ‵ (fobs (name entries) (codedHoleys R .code (heres R (now entries)))) ∷ ‵ (fauth (name entries) (codedHoleys R .code (heres R (now entries)))) ∷ ‵ (row u32 fullShare (rs (j .0)) (reads .ptr .0) (reads .ptr .1)) ∷ ‵ (fobor κ-reads q-reads (Held u32 (length (now reads)) (reads .ptr .0) (reads .ptr .1) (name reads))) ∷ ‵ (fobs (name reads) (codedHoleys u32 .code (heres u32 (now reads)))) ∷ ‵ (fauth (name reads) (codedHoleys u32 .code (heres u32 (now reads)))) ∷ ‵ (ShrSlice (named 0) κ-queries i32 .own queries (slice-vals queries)) ∷ ‵ (ShrSlice (named 1) κ-words u32 .own words (slice-vals words)) ∷ ‵ (ShrSlice (named 2) κ-marks i32 .own marks (slice-vals marks)) ∷ ‵ (ShrSlice (named 3) κ-codes u8 .own codes (slice-vals codes)) ∷ ‵ (ShrSlice (named 4) κ-vectors i32 .own vectors (slice-vals vectors)) ∷ ‵ (flft κ-queries q-queries) ∷ ‵ (flft κ-words q-words) ∷ ‵ (flft κ-marks q-marks) ∷ ‵ (flft κ-codes q-codes) ∷ ‵ (flft κ-vectors q-vectors) ∷ ‵ (froom (sliceTy (tyRef erased mut (pointee (R .written)))) l₂₉ 0) ∷ ‵ (fdies (sliceTy (tyRef erased mut (pointee (R .written)))) l₂₉) ∷ ‵ (froom (tyRef erased mut (pointee (R .written))) l₂₈ 0) ∷ ‵ (fdies (tyRef erased mut (pointee (R .written))) l₂₈) ∷ ‵ (froom tyUnit l₂₇ 0) ∷ ‵ (fdies tyUnit l₂₇) ∷ ‵ (froom tyPtr l₂₆ 0) ∷ ‵ (fdies tyPtr l₂₆) ∷ ‵ (froom word l₂₅ 0) ∷ ‵ (fdies word l₂₅) ∷ ‵ (froom (sliceTy (tyRef erased mut (pointee (u32 .written)))) l₂₄ 0) ∷ ‵ (fdies (sliceTy (tyRef erased mut (pointee (u32 .written)))) l₂₄) ∷ ‵ (froom (tyRef erased mut (pointee (u32 .written))) l₂₃ 0) ∷ ‵ (fdies (tyRef erased mut (pointee (u32 .written))) l₂₃) ∷ ‵ (froom tyBool l₂₂ 0) ∷ ‵ (fdies tyBool l₂₂) ∷ ‵ (fat fullShare word l₂₁ 0 (vint w64 (length (now reads)))) ∷ ‵ (fdies word l₂₁) ∷ ‵ (fat fullShare word l₂₀ 0 (vint w64 (length (now entries)))) ∷ ‵ (fdies word l₂₀) ∷ ‵ (fat fullShare word l₁₉ 0 (vint w64 (length (now answers)))) ∷ ‵ (fdies word l₁₉) ∷ ‵ (fat fullShare word l₁₈ 0 (vint w64 (length (now vectors)))) ∷ ‵ (fdies word l₁₈) ∷ ‵ (fat fullShare word l₁₇ 0 (vint w64 (length (now words)))) ∷ ‵ (fdies word l₁₇) ∷ ‵ (fat fullShare word l₁₆ 0 (vint w64 (length (now queries)))) ∷ ‵ (fdies word l₁₆) ∷ ‵ (froom Tn′.mir l₁₅ 0) ∷ ‵ (fdies Tn′.mir l₁₅) ∷ ‵ (fat fullShare word l₁₄ 0 (vint w64 (j .0))) ∷ ‵ (fdies word l₁₄) ∷ ‵ (fat fullShare bytes-type l₁₃ 0 (u₃)) ∷ ‵ (fdies bytes-type l₁₃) ∷ ‵ (fat fullShare word l₁₂ 0 (vint w64 end)) ∷ ‵ (fdies word l₁₂) ∷ ‵ (fat fullShare Vd′.mir l₁₁ 0 (u)) ∷ ‵ (fdies Vd′.mir l₁₁) ∷ ‵ (fat fullShare Ln′.mir l₁₀ 0 (lengths-val lengths)) ∷ ‵ (fdies Ln′.mir l₁₀) ∷ ‵ (fat fullShare slice-reads l₉ 0 (sliceVal (reads .ptr) (length (now reads)))) ∷ ‵ (fdies slice-reads l₉) ∷ ‵ (fat fullShare slice-entries l₈ 0 (sliceVal (entries .ptr) (length (now entries)))) ∷ ‵ (fdies slice-entries l₈) ∷ ‵ (fat fullShare slice-answers l₇ 0 (sliceVal (answers .ptr) (length (now answers)))) ∷ ‵ (fdies slice-answers l₇) ∷ ‵ (fat fullShare slice-vectors l₆ 0 (sliceVal (vectors .ptr) (length (now vectors)))) ∷ ‵ (fdies slice-vectors l₆) ∷ ‵ (fat fullShare slice-codes l₅ 0 (sliceVal (codes .ptr) (length (now codes)))) ∷ ‵ (fdies slice-codes l₅) ∷ ‵ (fat fullShare slice-marks l₄ 0 (sliceVal (marks .ptr) (length (now marks)))) ∷ ‵ (fdies slice-marks l₄) ∷ ‵ (fat fullShare slice-words l₃ 0 (sliceVal (words .ptr) (length (now words)))) ∷ ‵ (fdies slice-words l₃) ∷ ‵ (fat fullShare slice-queries l₂ 0 (sliceVal (queries .ptr) (length (now queries)))) ∷ ‵ (fdies slice-queries l₂) ∷ ‵ (fat fullShare Tm′.mir l₁ 0 (terms-val terms)) ∷ ‵ (fdies Tm′.mir l₁) ∷ ‵ (froom Vd′.mir l₀ 0) ∷ ‵ (fdies Vd′.mir l₀) ∷ []
 
         -- a turn ends nearer to the end, or the loop is left and the rest of the body runs
         abbrev Turned-out : Upto → Out → SProp 𝓤
@@ -443,10 +443,10 @@ module _ {M : Type 1} (𝓤 : URA M) (H : Heap 𝓤) (A : Atoms 𝓤) (W : Given
           all-done over = le-antisymm (j .1) (nltb→le i end over)
 
           module _ (less : T (ltb i end)) where
-            abbrev is-turn-of : _
+            is-turn-of : Turning batch (now answers) (now entries) (now reads) end last-is i
             is-turn-of = turning batch (now answers) (now entries) (now reads) end last-is i (below less)
 
-            within-answers : i < length (as i)
+            within-answers : i < length (ans i)
             within-answers = omega (arith, is-turn-of .below, is-turn-of .ready .of-answers, size-answers j)
 
             fits-i : i < 2 ^ 64
@@ -462,7 +462,7 @@ module _ {M : Type 1} (𝓤 : URA M) (H : Heap 𝓤) (A : Atoms 𝓤) (W : Given
               reads-step : after ≡ rs (i + 1)
               reads-step = reads-next batch (now answers) (now entries) (now reads) (is-turn-of .ready) i (is-turn-of .below) turned
 
-              answers-step : set (as i) i (turn .answer) ≡ as (i + 1)
+              answers-step : set (ans i) i (turn .answer) ≡ ans (i + 1)
               answers-step = answers-next batch (now answers) (now entries) (now reads) (is-turn-of .ready) i (is-turn-of .below) turned
 
               entries-step : filled (turn .entries) (es i) (turn .start) (fitting (length (es i)) (turn .start) (turn .count)) ≡ es (i + 1)
@@ -481,9 +481,6 @@ module _ {M : Type 1} (𝓤 : URA M) (H : Heap 𝓤) (A : Atoms 𝓤) (W : Given
 
             abbrev passed-answer : Vals answer.signature lfts-answer
             passed-answer = (terms-val terms ∷ [], (vint w64 i ∷ [], (slice-vals queries, (slice-vals words, (slice-vals marks, (slice-vals codes, (slice-vals vectors, (u₃ ∷ [], (sliceVal (reads .ptr) (length (now reads)) ∷ [], tt)))))))))
-
-            abbrev shares-answer : _
-            shares-answer = (q-queries, (q-words, (q-marks, (q-codes, (q-vectors, (fullShare, tt))))))
 
             abbrev to-answer : Answered 𝓤 H A mem run .Ghost
             to-answer = ((lfts-answer, (q-queries, (q-words, (q-marks, (q-codes, (q-vectors, (fullShare, tt)))))), tt, given-answer, passed-answer), tt)
@@ -507,186 +504,302 @@ module _ {M : Type 1} (𝓤 : URA M) (H : Heap 𝓤) (A : Atoms 𝓤) (W : Given
           turns : Sq W (At j) (runs C Λ En turn-1 (anyQ (Turned-out j)))
           unfolding afterTurn
           turns =
-                assigns ! (bin ! (load ! (from ! (stop !)) (look ! 52 refl)) (load ! (from ! (stop !)) (look ! 56 refl)) tt) (from ! (stop !)) (init ! 36 refl (tt, tt)) $
-                tests ! (load ! (from ! (stop !)) (look ! 36 refl)) (λ less.
-                -- the query is answered
-                assigns ! (addr ! (from ! (fld ! refl (hop ! (look-in ! 62 (sub ! 0 refl (whole !))) (stop !))))) (from ! (stop !)) (init ! 34 refl (tt, tt)) $
-                assigns ! (agg ! (and-then ! (load ! (from ! (stop !)) (look ! 34 refl)) (and-then ! (load ! (from ! (fld ! refl (stop !))) (look-in ! 62 (sub ! 1 refl (whole !)))) (no-more !)))) (from ! (stop !)) (init ! 32 refl (tt, (tt, (record { fits = room-reads .0 }, tt)))) $
-                lft-new ! tt (λ α.
-                move ! (9 ∷ []) $
-                use1 W (later (some (λ (γ : GName). ‵ (MutSlice (named 0) (α ∷ []) u32 .own (record { ptr = reads .ptr; name = γ; now = rs i }) (sliceVal (reads .ptr) (length (rs i)) ∷ [])) ⊛ ‵ (flent (α ∷ []) (Held u32 (length (rs i)) (reads .ptr .0) (reads .ptr .1) γ))))) (lend-row 𝓤 H A W u32 (named 0) (α ∷ []) (rs i) (reads .ptr .0) (reads .ptr .1) (room-after-reads j)) $ await ! tt $
-                pick ! (λ γ.
-                split ! $
-                rewrite ! 0 (λ (size : ℕ). ‵ (MutSlice (named 0) (α ∷ []) u32 .own (record { ptr = reads .ptr; name = γ; now = rs i }) (sliceVal (reads .ptr) size ∷ []))) (size-reads j) refl $
-                nothing ! $
-                nothing ! $
-                move ! (16 ∷ []) $
-                use1 W (‵ (ShrSlice (named 0) κ-queries i32 .own queries (slice-vals queries)) ⊛ ‵ (ShrSlice (named 0) κ-queries i32 .own queries (slice-vals queries))) (shr-slice-copy 𝓤 H A W (named 0) κ-queries i32 .twice queries (slice-vals queries)) $
-                split ! $
-                move ! (18 ∷ []) $
-                use1 W (‵ (ShrSlice (named 1) κ-words u32 .own words (slice-vals words)) ⊛ ‵ (ShrSlice (named 1) κ-words u32 .own words (slice-vals words))) (shr-slice-copy 𝓤 H A W (named 1) κ-words u32 .twice words (slice-vals words)) $
-                split ! $
-                move ! (20 ∷ []) $
-                use1 W (‵ (ShrSlice (named 2) κ-marks i32 .own marks (slice-vals marks)) ⊛ ‵ (ShrSlice (named 2) κ-marks i32 .own marks (slice-vals marks))) (shr-slice-copy 𝓤 H A W (named 2) κ-marks i32 .twice marks (slice-vals marks)) $
-                split ! $
-                move ! (22 ∷ []) $
-                use1 W (‵ (ShrSlice (named 3) κ-codes u8 .own codes (slice-vals codes)) ⊛ ‵ (ShrSlice (named 3) κ-codes u8 .own codes (slice-vals codes))) (shr-slice-copy 𝓤 H A W (named 3) κ-codes u8 .twice codes (slice-vals codes)) $
-                split ! $
-                move ! (24 ∷ []) $
-                use1 W (‵ (ShrSlice (named 4) κ-vectors i32 .own vectors (slice-vals vectors)) ⊛ ‵ (ShrSlice (named 4) κ-vectors i32 .own vectors (slice-vals vectors))) (shr-slice-copy 𝓤 H A W (named 4) κ-vectors i32 .twice vectors (slice-vals vectors)) $
-                split ! $
-                owned ! Bytes (Is Bytes) regions-made regions _ is-regions $
-                owned ! usize (Is usize) (uint-makes 𝓤 H A W w64) i _ (refl, fits-i less) $
-                owned ! Terms-row (Is Terms-row) terms-made terms _ terms-is $
-                move ! (0 ∷ 1 ∷ 11 ∷ 9 ∷ 7 ∷ 5 ∷ 3 ∷ 2 ∷ 15 ∷ 13 ∷ []) $
-                group ! 10 $
-                move ! (20 ∷ 21 ∷ 22 ∷ 23 ∷ 24 ∷ 8 ∷ 6 ∷ []) $
-                group ! 7 $
-                join ! $
-                use1 W (raw (Answered 𝓤 H A mem run .pre (to-answer α γ))) (asked-answer α γ less) $
-                calls-at ! fm (Answered 𝓤 H A mem run) known-answer (to-answer α γ) (and-then ! (load ! (from ! (stop !)) (look ! 74 refl)) (and-then ! (load ! (from ! (stop !)) (look ! 48 refl)) (and-then ! (load ! (from ! (stop !)) (look ! 72 refl)) (and-then ! (load ! (from ! (stop !)) (look ! 70 refl)) (and-then ! (load ! (from ! (stop !)) (look ! 68 refl)) (and-then ! (load ! (from ! (stop !)) (look ! 66 refl)) (and-then ! (load ! (from ! (stop !)) (look ! 64 refl)) (and-then ! (load ! (from ! (stop !)) (look ! 50 refl)) (and-then ! (load ! (from ! (stop !)) (look ! 28 refl)) (no-more !)))))))))) (λ u₄.
-                use1 W (later (some (λ (turn : Turn). (TokensAnswer α ⊛ ‵ (Turn-row .own turn (u₄ ∷ []))) ⊛ some (λ (ws : Lasts answer.ended (lfts-answer α) (given-answer γ)). ‵ (lasts answer.ended (lfts-answer α) (given-answer γ) ws) ⊛ raw (fact 𝓤 (Turned batch i turn (rs i) (ws .1 .1 .1 .1 .1 .1 .1 .1 .0))))))) (id⊢ 𝓤 _) $ await ! tt $
-                pick ! (λ turn.
-                split ! $
-                move ! (1 ∷ []) $
-                pick ! (λ ws.
-                split ! $
-                move ! (1 ∷ []) $
-                heard ! (Turned batch i turn (rs i) (ws .1 .1 .1 .1 .1 .1 .1 .1 .0)) (λ turned.
-                fsplit ! $
-                drop ! $
-                fsplit ! $
-                drop ! $
-                fsplit ! $
-                drop ! $
-                fsplit ! $
-                drop ! $
-                fsplit ! $
-                drop ! $
-                fsplit ! $
-                drop ! $
-                fsplit ! $
-                drop ! $
-                fsplit ! $
-                drop ! $
-                fsplit ! $
-                move ! (1 ∷ []) $
-                drop ! $
-                fsplit ! $
-                move ! (1 ∷ []) $
-                feqL ! (λ size-then.
-                move ! (1 ∷ []) $
-                split ! $
-                split ! $
-                move ! (1 ∷ []) $
-                split ! $
-                move ! (1 ∷ []) $
-                split ! $
-                move ! (1 ∷ []) $
-                split ! $
-                move ! (1 ∷ []) $
-                split ! $
-                move ! (1 ∷ []) $
-                split ! $
-                move ! (1 ∷ []) $
-                drop ! $
-                lft-end ! tt $
-                move ! (0 ∷ 13 ∷ 7 ∷ []) $
-                use3 W (later (‵ (row u32 fullShare (ws .1 .1 .1 .1 .1 .1 .1 .1 .0) (reads .ptr .0) (reads .ptr .1)))) (row-back 𝓤 H A W u32 (α ∷ []) γ (ws .1 .1 .1 .1 .1 .1 .1 .1 .0) (length (rs i)) (reads .ptr .0) (reads .ptr .1)) $ await ! tt $
-                rewrite ! 0 (λ (zs : List ℕ). ‵ (row u32 fullShare zs (reads .ptr .0) (reads .ptr .1))) (reads-step less turned) refl $
-                move ! (6 ∷ []) $
-                peeks ! Turn-row (Is Turn-row) (shows 𝓤 H A Turn-row) turn (u₄ ∷ []) (λ is-turn.
-                land ! (from ! (stop !)) (init ! 51 refl (turn-typed turn u₄ is-turn)) $
-                drop ! $
-                rewrite ! 50 (λ (y : Val). ‵ (fat fullShare Tn′.mir l₁₅ 0 y)) (spelled turn u₄ is-turn) refl $
-                -- its answer is stored
-                assigns ! (bin ! (load ! (from ! (stop !)) (look ! 52 refl)) (lit ! tt) (record { fits = bytes less })) (from ! (stop !)) (init ! 30 refl (tt, record { fits = bytes less })) $
-                assigns ! (bin ! (load ! (from ! (fld ! refl (stop !))) (look-in ! 66 (sub ! 0 refl (whole !)))) (load ! (from ! (stop !)) (look ! 30 refl)) tt) (from ! (stop !)) (init ! 28 refl (tt, tt)) $
-                rewrite ! 28 (λ (p : ℕ). ‵ (fat fullShare tyPtr l₂₆ 0 (vptr (answers .ptr .0) p))) (sym (place-is 16 (answers .ptr .1) i)) refl $
-                move ! (11 ∷ []) $
-                elem-out ! RA (Is RA) (shows 𝓤 H A RA) answer-vals answer-tells fullShare (as i) i noAnswer (answers .ptr .0) (answers .ptr .1) (within-answers less) (λ _.
-                assigns ! (of-opd ! (load ! (from ! (fld ! refl (stop !))) (look-in ! 52 (sub ! 1 refl (whole !))))) (from ! (hop ! (look ! 30 refl) (stop !))) (store-raw ! 0 refl (answer-typed turn u₄ is-turn)) $
-                move ! (1 ∷ []) $
-                drop ! $
-                owned ! RA (Is RA) answer-made (turn .answer) (answer-vals (turn .answer)) (answer-is turn u₄ is-turn) $
-                move ! (1 ∷ 0 ∷ 2 ∷ []) $
-                elem-put ! RA fullShare (as i) i (turn .answer) (answer-vals (turn .answer)) (answers .ptr .0) (answers .ptr .1) (within-answers less) $
-                rewrite ! 0 (λ (zs : List Answer). ‵ (row RA fullShare zs (answers .ptr .0) (answers .ptr .1))) (answers-step less turned) refl $
-                -- and its entries are filled
-                assigns ! (addr ! (from ! (fld ! refl (hop ! (look-in ! 64 (sub ! 0 refl (whole !))) (stop !))))) (from ! (stop !)) (init ! 24 refl (tt, tt)) $
-                assigns ! (agg ! (and-then ! (load ! (from ! (stop !)) (look ! 24 refl)) (and-then ! (load ! (from ! (fld ! refl (stop !))) (look-in ! 64 (sub ! 1 refl (whole !)))) (no-more !)))) (from ! (stop !)) (init ! 22 refl (tt, (tt, (record { fits = room-entries .0 }, tt)))) $
-                lft-new ! tt (λ α₂.
-                move ! (16 ∷ []) $
-                use1 W (later (some (λ (γ₂ : GName). ‵ (MutSlice (named 0) (α₂ ∷ []) R .own (record { ptr = entries .ptr; name = γ₂; now = es i }) (sliceVal (entries .ptr) (length (es i)) ∷ [])) ⊛ ‵ (flent (α₂ ∷ []) (Held R (length (es i)) (entries .ptr .0) (entries .ptr .1) γ₂))))) (lend-row 𝓤 H A W R (named 0) (α₂ ∷ []) (es i) (entries .ptr .0) (entries .ptr .1) (room-after-entries j)) $ await ! tt $
-                pick ! (λ γ₂.
-                split ! $
-                rewrite ! 0 (λ (size : ℕ). ‵ (MutSlice (named 0) (α₂ ∷ []) R .own (record { ptr = entries .ptr; name = γ₂; now = es i }) (sliceVal (entries .ptr) size ∷ []))) (size-entries j) refl $
-                nothing ! $
-                nothing ! $
-                owned ! usize (Is usize) (uint-makes 𝓤 H A W w64) (turn .count) _ (refl, fits-count turn u₄ is-turn) $
-                owned ! Entries (Is Entries) (entries-make 𝓤 H A W) (turn .entries) _ (entries-are turn u₄ is-turn) $
-                owned ! usize (Is usize) (uint-makes 𝓤 H A W w64) (turn .start) _ (refl, fits-start turn u₄ is-turn) $
-                move ! (5 ∷ 0 ∷ 1 ∷ 2 ∷ 3 ∷ []) $
-                group ! 5 $
-                move ! (3 ∷ 1 ∷ []) $
-                group ! 2 $
-                join ! $
-                use1 W (raw (Fill 𝓤 H A mem run .pre (to-fill (α₂ ∷ []) fullShare (lent-entries γ₂) (turn .start) (turn .entries) (entries-val turn) (turn .count) (vint w64 (turn .count)) 𝓤 H A mem run))) (asked-fill (α₂ ∷ []) fullShare (lent-entries γ₂) (turn .start) (turn .entries) (entries-val turn) (turn .count) (vint w64 (turn .count)) 𝓤 H A mem run W) $
-                calls-at ! fm (Fill 𝓤 H A mem run) known-fill (to-fill (α₂ ∷ []) fullShare (lent-entries γ₂) (turn .start) (turn .entries) (entries-val turn) (turn .count) (vint w64 (turn .count)) 𝓤 H A mem run) (and-then ! (load ! (from ! (stop !)) (look ! 23 refl)) (and-then ! (load ! (from ! (fld ! refl (stop !))) (look-in ! 51 (sub ! 2 refl (whole !)))) (and-then ! (load ! (from ! (fld ! refl (stop !))) (look-in ! 51 (sub ! 0 refl (whole !)))) (and-then ! (load ! (from ! (fld ! refl (stop !))) (look-in ! 51 (sub ! 3 refl (whole !)))) (no-more !))))) (λ u₅.
-                use1 W (later (some (λ (z : Unit {0}). (TokensFill 𝓤 (α₂ ∷ []) fullShare ⊛ ‵ (unit .own z (u₅ ∷ []))) ⊛ some (λ (zs : Filled α₂ γ₂ turn). ‵ (lasts fill.ended ((α₂ ∷ []), tt) (lent-entries γ₂, (turn .start, (turn .entries, (turn .count, tt)))) zs) ⊛ raw (fact 𝓤 (zs .0 ≡ filled (turn .entries) (es i) (turn .start) (fitting (length (es i)) (turn .start) (turn .count)))))))) (id⊢ 𝓤 _) $ await ! tt $
-                pick ! (λ z.
-                split ! $
-                move ! (1 ∷ []) $
-                pick ! (λ zs.
-                split ! $
-                move ! (1 ∷ []) $
-                heard ! (zs .0 ≡ filled (turn .entries) (es i) (turn .start) (fitting (length (es i)) (turn .start) (turn .count))) (λ e-fill.
-                fsplit ! $
-                move ! (1 ∷ []) $
-                drop ! $
-                fsplit ! $
-                move ! (1 ∷ []) $
-                drop ! $
-                move ! (1 ∷ []) $
-                split ! $
-                split ! $
-                move ! (1 ∷ []) $
-                drop ! $
-                lft-end ! tt $
-                move ! (0 ∷ 3 ∷ 2 ∷ []) $
-                use3 W (later (‵ (row R fullShare (zs .0) (entries .ptr .0) (entries .ptr .1)))) (row-back 𝓤 H A W R (α₂ ∷ []) γ₂ (zs .0) (length (es i)) (entries .ptr .0) (entries .ptr .1)) $ await ! tt $
-                rewrite ! 0 (λ (zs : List Entry). ‵ (row R fullShare zs (entries .ptr .0) (entries .ptr .1))) (e-fill ∙ entries-step less turned) refl $
-                move ! (1 ∷ []) $
-                peeks ! unit (Is unit) (shows 𝓤 H A unit) z (u₅ ∷ []) (λ is-unit.
-                land ! (from ! (stop !)) (init ! 27 refl (nothing-lawful 𝓤 H A W .typed z _ is-unit .0)) $
-                drop ! $
-                assigns-last ! (bin ! (load ! (from ! (stop !)) (look ! 52 refl)) (lit ! tt) (record { fits = more less })) (from ! (stop !)) (store ! 52 refl (tt, record { fits = more less })) $
-                forget ! 50 refl $
-                forget ! 36 refl $
-                forget ! 34 refl $
-                forget ! 32 refl $
-                forget ! 30 refl $
-                forget ! 28 refl $
-                forget ! 26 refl $
-                forget ! 24 refl $
-                forget ! 22 refl $
-                keep ! (1 ∷ 13 ∷ 14 ∷ 15 ∷ 0 ∷ 16 ∷ 17 ∷ 18 ∷ 2 ∷ 19 ∷ 20 ∷ 21 ∷ 12 ∷ 11 ∷ 10 ∷ 9 ∷ 8 ∷ 7 ∷ 6 ∷ 5 ∷ 4 ∷ 3 ∷ 22 ∷ 23 ∷ 24 ∷ 25 ∷ 26 ∷ 27 ∷ 28 ∷ 29 ∷ 30 ∷ 31 ∷ 32 ∷ 33 ∷ 34 ∷ 35 ∷ 36 ∷ 37 ∷ 38 ∷ 39 ∷ 40 ∷ 41 ∷ 42 ∷ 43 ∷ 44 ∷ 45 ∷ 46 ∷ 47 ∷ 48 ∷ 49 ∷ 50 ∷ 51 ∷ 52 ∷ 53 ∷ 54 ∷ 55 ∷ 56 ∷ 57 ∷ 58 ∷ 59 ∷ 60 ∷ 61 ∷ 62 ∷ 63 ∷ 64 ∷ 65 ∷ 66 ∷ 67 ∷ 68 ∷ 69 ∷ 70 ∷ 71 ∷ 72 ∷ 73 ∷ 74 ∷ 75 ∷ 76 ∷ 77 ∷ 78 ∷ 79 ∷ 80 ∷ 81 ∷ []) $
-                again ! Nearer At j (one-more less) (nearer less))))))))))))))))))
-                (λ over.
-                -- all are answered: the borrows are closed
-                exec ! C Λ En t-13 (atRet En Post) $
-                closes-slice ! tt RA (now answers) (as i) (size-answers j) (answers .ptr .0) (answers .ptr .1) $
-                move ! (3 ∷ 4 ∷ 5 ∷ 6 ∷ []) $
-                closes-slice ! tt R (now entries) (es i) (size-entries j) (entries .ptr .0) (entries .ptr .1) $
-                move ! (6 ∷ 7 ∷ 8 ∷ 9 ∷ []) $
-                closes-slice ! tt u32 (now reads) (rs i) (size-reads j) (reads .ptr .0) (reads .ptr .1) $
-                assigns ! (of-opd ! (load ! (from ! (stop !)) (look ! 55 refl))) (from ! (stop !)) (init ! 77 refl (verdict-typed v u is-verdict)) $
-                returns ! (look ! 77 refl) $
-                forget ! 33 refl $ forget ! 49 refl $ forget ! 51 refl $ forget ! 53 refl $ forget ! 55 refl $ forget ! 57 refl $ forget ! 59 refl $ forget ! 61 refl $ forget ! 63 refl $ forget ! 65 refl $ forget ! 67 refl $ forget ! 69 refl $ forget ! 71 refl $ forget ! 73 refl $ forget ! 75 refl $ forget ! 77 refl $
-                move ! (77 ∷ 78 ∷ []) $ free1 ! $ move ! (75 ∷ 76 ∷ []) $ free1 ! $ move ! (73 ∷ 74 ∷ []) $ free1 ! $ move ! (71 ∷ 72 ∷ []) $ free1 ! $ move ! (69 ∷ 70 ∷ []) $ free1 ! $ move ! (67 ∷ 68 ∷ []) $ free1 ! $ move ! (65 ∷ 66 ∷ []) $ free1 ! $ move ! (63 ∷ 64 ∷ []) $ free1 ! $ move ! (61 ∷ 62 ∷ []) $ free1 ! $ move ! (59 ∷ 60 ∷ []) $ free1 ! $ move ! (57 ∷ 58 ∷ []) $ free1 ! $ move ! (55 ∷ 56 ∷ []) $ free1 ! $ move ! (53 ∷ 54 ∷ []) $ free1 ! $ move ! (51 ∷ 52 ∷ []) $ free1 ! $ move ! (49 ∷ 50 ∷ []) $ free1 ! $ move ! (47 ∷ 48 ∷ []) $ free1 ! $ move ! (45 ∷ 46 ∷ []) $ free1 ! $ move ! (43 ∷ 44 ∷ []) $ free1 ! $ move ! (41 ∷ 42 ∷ []) $ free1 ! $ move ! (39 ∷ 40 ∷ []) $ free1 ! $ move ! (37 ∷ 38 ∷ []) $ free1 ! $ move ! (35 ∷ 36 ∷ []) $ free1 ! $ move ! (33 ∷ 34 ∷ []) $ free1 ! $ move ! (31 ∷ 32 ∷ []) $ free1 ! $ move ! (29 ∷ 30 ∷ []) $ free1 ! $ move ! (27 ∷ 28 ∷ []) $ free1 ! $ move ! (25 ∷ 26 ∷ []) $ free1 ! $ move ! (23 ∷ 24 ∷ []) $ free1 ! $ move ! (21 ∷ 22 ∷ []) $ free1 ! $ move ! (19 ∷ 20 ∷ []) $ free1 ! $ free0 ! $
-                owned ! Row (Is Row) verdict-made v _ is-verdict $
-                keep ! (7 ∷ 8 ∷ 4 ∷ 5 ∷ 1 ∷ 2 ∷ 0 ∷ 15 ∷ 16 ∷ 17 ∷ 18 ∷ 19 ∷ 9 ∷ 6 ∷ 3 ∷ []) $
-                by ! (exits j (all-done over)))
+              assigns ! (bin ! (load ! (from ! (stop !)) (look ! 52 refl)) (load ! (from ! (stop !)) (look ! 56 refl)) tt) (from ! (stop !)) (init ! 36 refl (tt, tt)) $
+              tests ! (load ! (from ! (stop !)) (look ! 36 refl)) (λ less.
+              -- the query is answered
+              assigns ! (addr ! (from ! (fld ! refl (hop ! (look-in ! 62 (sub ! 0 refl (whole !))) (stop !))))) (from ! (stop !)) (init ! 34 refl (tt, tt)) $
+              assigns ! (agg ! (and-then ! (load ! (from ! (stop !)) (look ! 34 refl)) (and-then ! (load ! (from ! (fld ! refl (stop !))) (look-in ! 62 (sub ! 1 refl (whole !)))) (no-more !)))) (from ! (stop !)) (init ! 32 refl (tt, (tt, (record { fits = room-reads .0 }, tt)))) $
+              lft-new ! tt (λ α.
+              move ! (9 ∷ []) $
+              use1 W (later (some (λ (γ : GName). ‵ (MutSlice (named 0) (α ∷ []) u32 .own (record { ptr = reads .ptr; name = γ; now = rs i }) (sliceVal (reads .ptr) (length (rs i)) ∷ [])) ⊛ ‵ (flent (α ∷ []) (Held u32 (length (rs i)) (reads .ptr .0) (reads .ptr .1) γ))))) (lend-row 𝓤 H A W u32 (named 0) (α ∷ []) (rs i) (reads .ptr .0) (reads .ptr .1) (room-after-reads j)) $ await ! tt $
+              pick ! (λ γ.
+              split ! $
+              rewrite ! 0 (λ (size : ℕ). ‵ (MutSlice (named 0) (α ∷ []) u32 .own (record { ptr = reads .ptr; name = γ; now = rs i }) (sliceVal (reads .ptr) size ∷ []))) (size-reads j) refl $
+              nothing ! $
+              nothing ! $
+              move ! (16 ∷ []) $
+              use1 W (‵ (ShrSlice (named 0) κ-queries i32 .own queries (slice-vals queries)) ⊛ ‵ (ShrSlice (named 0) κ-queries i32 .own queries (slice-vals queries))) (shr-slice-copy 𝓤 H A W (named 0) κ-queries i32 .twice queries (slice-vals queries)) $
+              split ! $
+              move ! (18 ∷ []) $
+              use1 W (‵ (ShrSlice (named 1) κ-words u32 .own words (slice-vals words)) ⊛ ‵ (ShrSlice (named 1) κ-words u32 .own words (slice-vals words))) (shr-slice-copy 𝓤 H A W (named 1) κ-words u32 .twice words (slice-vals words)) $
+              split ! $
+              move ! (20 ∷ []) $
+              use1 W (‵ (ShrSlice (named 2) κ-marks i32 .own marks (slice-vals marks)) ⊛ ‵ (ShrSlice (named 2) κ-marks i32 .own marks (slice-vals marks))) (shr-slice-copy 𝓤 H A W (named 2) κ-marks i32 .twice marks (slice-vals marks)) $
+              split ! $
+              move ! (22 ∷ []) $
+              use1 W (‵ (ShrSlice (named 3) κ-codes u8 .own codes (slice-vals codes)) ⊛ ‵ (ShrSlice (named 3) κ-codes u8 .own codes (slice-vals codes))) (shr-slice-copy 𝓤 H A W (named 3) κ-codes u8 .twice codes (slice-vals codes)) $
+              split ! $
+              move ! (24 ∷ []) $
+              use1 W (‵ (ShrSlice (named 4) κ-vectors i32 .own vectors (slice-vals vectors)) ⊛ ‵ (ShrSlice (named 4) κ-vectors i32 .own vectors (slice-vals vectors))) (shr-slice-copy 𝓤 H A W (named 4) κ-vectors i32 .twice vectors (slice-vals vectors)) $
+              split ! $
+              owned ! Bytes (Is Bytes) regions-made regions _ is-regions $
+              owned ! usize (Is usize) (uint-makes 𝓤 H A W w64) i _ (refl, fits-i less) $
+              owned ! Terms-row (Is Terms-row) terms-made terms _ terms-is $
+              move ! (0 ∷ 1 ∷ 11 ∷ 9 ∷ 7 ∷ 5 ∷ 3 ∷ 2 ∷ 15 ∷ 13 ∷ []) $
+              group ! 10 $
+              move ! (20 ∷ 21 ∷ 22 ∷ 23 ∷ 24 ∷ 8 ∷ 6 ∷ []) $
+              group ! 7 $
+              join ! $
+              use1 W (raw (Answered 𝓤 H A mem run .pre (to-answer α γ))) (asked-answer α γ less) $
+              calls-at ! fm (Answered 𝓤 H A mem run) known-answer (to-answer α γ) (and-then ! (load ! (from ! (stop !)) (look ! 74 refl)) (and-then ! (load ! (from ! (stop !)) (look ! 48 refl)) (and-then ! (load ! (from ! (stop !)) (look ! 72 refl)) (and-then ! (load ! (from ! (stop !)) (look ! 70 refl)) (and-then ! (load ! (from ! (stop !)) (look ! 68 refl)) (and-then ! (load ! (from ! (stop !)) (look ! 66 refl)) (and-then ! (load ! (from ! (stop !)) (look ! 64 refl)) (and-then ! (load ! (from ! (stop !)) (look ! 50 refl)) (and-then ! (load ! (from ! (stop !)) (look ! 28 refl)) (no-more !)))))))))) (λ u₄.
+              use1 W (later (some (λ (turn : Turn). (TokensAnswer α ⊛ ‵ (Turn-row .own turn (u₄ ∷ []))) ⊛ some (λ (ws : Lasts answer.ended (lfts-answer α γ) (given-answer α γ)). ‵ (lasts answer.ended (lfts-answer α γ) (given-answer α γ) ws) ⊛ raw (fact 𝓤 (Turned batch i turn (rs i) (ws .1 .1 .1 .1 .1 .1 .1 .1 .0))))))) (id⊢ 𝓤 _) $ await ! tt $
+              pick ! (λ turn.
+              split ! $
+              move ! (1 ∷ []) $
+              pick ! (λ ws.
+              split ! $
+              move ! (1 ∷ []) $
+              heard ! (Turned batch i turn (rs i) (ws .1 .1 .1 .1 .1 .1 .1 .1 .0)) (λ turned.
+              fsplit ! $
+              drop ! $
+              fsplit ! $
+              drop ! $
+              fsplit ! $
+              drop ! $
+              fsplit ! $
+              drop ! $
+              fsplit ! $
+              drop ! $
+              fsplit ! $
+              drop ! $
+              fsplit ! $
+              drop ! $
+              fsplit ! $
+              drop ! $
+              fsplit ! $
+              move ! (1 ∷ []) $
+              drop ! $
+              fsplit ! $
+              move ! (1 ∷ []) $
+              feqL ! (λ size-then.
+              move ! (1 ∷ []) $
+              split ! $
+              split ! $
+              move ! (1 ∷ []) $
+              split ! $
+              move ! (1 ∷ []) $
+              split ! $
+              move ! (1 ∷ []) $
+              split ! $
+              move ! (1 ∷ []) $
+              split ! $
+              move ! (1 ∷ []) $
+              split ! $
+              move ! (1 ∷ []) $
+              drop ! $
+              lft-end ! tt $
+              move ! (0 ∷ 13 ∷ 7 ∷ []) $
+              use3 W (later (‵ (row u32 fullShare (ws .1 .1 .1 .1 .1 .1 .1 .1 .0) (reads .ptr .0) (reads .ptr .1)))) (row-back 𝓤 H A W u32 (α ∷ []) γ (ws .1 .1 .1 .1 .1 .1 .1 .1 .0) (length (rs i)) (reads .ptr .0) (reads .ptr .1)) $ await ! tt $
+              rewrite ! 0 (λ (zs : List ℕ). ‵ (row u32 fullShare zs (reads .ptr .0) (reads .ptr .1))) (reads-step less turned) refl $
+              move ! (6 ∷ []) $
+              peeks ! Turn-row (Is Turn-row) (shows 𝓤 H A Turn-row) turn (u₄ ∷ []) (λ is-turn.
+              land ! (from ! (stop !)) (init ! 51 refl (turn-typed turn u₄ is-turn)) $
+              drop ! $
+              rewrite ! 50 (λ (y : Val). ‵ (fat fullShare Tn′.mir l₁₅ 0 y)) (spelled turn u₄ is-turn) refl $
+              -- its answer is stored
+              assigns ! (bin ! (load ! (from ! (stop !)) (look ! 52 refl)) (lit ! tt) (record { fits = bytes less })) (from ! (stop !)) (init ! 30 refl (tt, record { fits = bytes less })) $
+              assigns ! (bin ! (load ! (from ! (fld ! refl (stop !))) (look-in ! 66 (sub ! 0 refl (whole !)))) (load ! (from ! (stop !)) (look ! 30 refl)) tt) (from ! (stop !)) (init ! 28 refl (tt, tt)) $
+              rewrite ! 28 (λ (p : ℕ). ‵ (fat fullShare tyPtr l₂₆ 0 (vptr (answers .ptr .0) p))) (sym (place-is 16 (answers .ptr .1) i)) refl $
+              move ! (11 ∷ []) $
+              elem-out ! RA (Is RA) (shows 𝓤 H A RA) answer-vals answer-tells fullShare (ans i) i noAnswer (answers .ptr .0) (answers .ptr .1) (within-answers less) (λ _.
+              assigns ! (of-opd ! (load ! (from ! (fld ! refl (stop !))) (look-in ! 52 (sub ! 1 refl (whole !))))) (from ! (hop ! (look ! 30 refl) (stop !))) (store-raw ! 0 refl (answer-typed turn u₄ is-turn)) $
+              move ! (1 ∷ []) $
+              drop ! $
+              owned ! RA (Is RA) answer-made (turn .answer) (answer-vals (turn .answer)) (answer-is turn u₄ is-turn) $
+              move ! (1 ∷ 0 ∷ 2 ∷ []) $
+              elem-put ! RA fullShare (ans i) i (turn .answer) (answer-vals (turn .answer)) (answers .ptr .0) (answers .ptr .1) (within-answers less) $
+              rewrite ! 0 (λ (zs : List Answer). ‵ (row RA fullShare zs (answers .ptr .0) (answers .ptr .1))) (answers-step less turned) refl $
+              -- and its entries are filled
+              assigns ! (addr ! (from ! (fld ! refl (hop ! (look-in ! 64 (sub ! 0 refl (whole !))) (stop !))))) (from ! (stop !)) (init ! 24 refl (tt, tt)) $
+              assigns ! (agg ! (and-then ! (load ! (from ! (stop !)) (look ! 24 refl)) (and-then ! (load ! (from ! (fld ! refl (stop !))) (look-in ! 64 (sub ! 1 refl (whole !)))) (no-more !)))) (from ! (stop !)) (init ! 22 refl (tt, (tt, (record { fits = room-entries .0 }, tt)))) $
+              lft-new ! tt (λ α₂.
+              move ! (16 ∷ []) $
+              use1 W (later (some (λ (γ₂ : GName). ‵ (MutSlice (named 0) (α₂ ∷ []) R .own (record { ptr = entries .ptr; name = γ₂; now = es i }) (sliceVal (entries .ptr) (length (es i)) ∷ [])) ⊛ ‵ (flent (α₂ ∷ []) (Held R (length (es i)) (entries .ptr .0) (entries .ptr .1) γ₂))))) (lend-row 𝓤 H A W R (named 0) (α₂ ∷ []) (es i) (entries .ptr .0) (entries .ptr .1) (room-after-entries j)) $ await ! tt $
+              pick ! (λ γ₂.
+              split ! $
+              rewrite ! 24 (λ (size : ℕ). ‵ (fat fullShare (sliceTy (tyRef erased mut (pointee (R .written)))) l₂₉ 0 (sliceVal (entries .ptr) size))) (sym (size-entries j)) refl $
+              nothing ! $
+              nothing ! $
+              owned ! usize (Is usize) (uint-makes 𝓤 H A W w64) (turn .count) _ (refl, fits-count turn u₄ is-turn) $
+              owned ! Entries (Is Entries) (entries-make 𝓤 H A W) (turn .entries) _ (entries-are turn u₄ is-turn) $
+              owned ! usize (Is usize) (uint-makes 𝓤 H A W w64) (turn .start) _ (refl, fits-start turn u₄ is-turn) $
+              move ! (5 ∷ 0 ∷ 1 ∷ 2 ∷ 3 ∷ []) $
+              group ! 5 $
+              move ! (3 ∷ 1 ∷ []) $
+              group ! 2 $
+              join ! $
+              use1 W (raw (Fill 𝓤 H A mem run .pre (to-fill (α₂ ∷ []) fullShare (lent-entries γ₂) (turn .start) (turn .entries) (entries-val turn) (turn .count) (vint w64 (turn .count)) 𝓤 H A mem run))) (asked-fill (α₂ ∷ []) fullShare (lent-entries γ₂) (turn .start) (turn .entries) (entries-val turn) (turn .count) (vint w64 (turn .count)) 𝓤 H A mem run W) $
+              calls-at ! fm (Fill 𝓤 H A mem run) known-fill (to-fill (α₂ ∷ []) fullShare (lent-entries γ₂) (turn .start) (turn .entries) (entries-val turn) (turn .count) (vint w64 (turn .count)) 𝓤 H A mem run) (and-then ! (load ! (from ! (stop !)) (look ! 23 refl)) (and-then ! (load ! (from ! (fld ! refl (stop !))) (look-in ! 51 (sub ! 2 refl (whole !)))) (and-then ! (load ! (from ! (fld ! refl (stop !))) (look-in ! 51 (sub ! 0 refl (whole !)))) (and-then ! (load ! (from ! (fld ! refl (stop !))) (look-in ! 51 (sub ! 3 refl (whole !)))) (no-more !))))) (λ u₅.
+              use1 W (later (some (λ (z : Unit {0}). (TokensFill 𝓤 (α₂ ∷ []) fullShare ⊛ ‵ (unit .own z (u₅ ∷ []))) ⊛ some (λ (zs : Filled α₂ γ₂ turn). ‵ (lasts fill.ended ((α₂ ∷ []), tt) (lent-entries γ₂, (turn .start, (turn .entries, (turn .count, tt)))) zs) ⊛ raw (fact 𝓤 (zs .0 ≡ filled (turn .entries) (es i) (turn .start) (fitting (length (es i)) (turn .start) (turn .count)))))))) (id⊢ 𝓤 _) $ await ! tt $
+              pick ! (λ z.
+              split ! $
+              move ! (1 ∷ []) $
+              pick ! (λ zs.
+              split ! $
+              move ! (1 ∷ []) $
+              heard ! (zs .0 ≡ filled (turn .entries) (es i) (turn .start) (fitting (length (es i)) (turn .start) (turn .count))) (λ e-fill.
+              fsplit ! $
+              move ! (1 ∷ []) $
+              drop ! $
+              fsplit ! $
+              move ! (1 ∷ []) $
+              drop ! $
+              move ! (1 ∷ []) $
+              split ! $
+              split ! $
+              move ! (1 ∷ []) $
+              drop ! $
+              lft-end ! tt $
+              move ! (0 ∷ 3 ∷ 2 ∷ []) $
+              use3 W (later (‵ (row R fullShare (zs .0) (entries .ptr .0) (entries .ptr .1)))) (row-back 𝓤 H A W R (α₂ ∷ []) γ₂ (zs .0) (length (es i)) (entries .ptr .0) (entries .ptr .1)) $ await ! tt $
+              rewrite ! 0 (λ (zs : List Entry). ‵ (row R fullShare zs (entries .ptr .0) (entries .ptr .1))) (e-fill ∙ entries-step less turned) refl $
+              move ! (1 ∷ []) $
+              peeks ! unit (Is unit) (shows 𝓤 H A unit) z (u₅ ∷ []) (λ is-unit.
+              land ! (from ! (stop !)) (init ! 27 refl (nothing-lawful 𝓤 H A W .typed z _ is-unit .0)) $
+              drop ! $
+              assigns-last ! (bin ! (load ! (from ! (stop !)) (look ! 52 refl)) (lit ! tt) (record { fits = more less })) (from ! (stop !)) (store ! 52 refl (tt, record { fits = more less })) $
+              forget ! 50 refl $
+              forget ! 36 refl $
+              forget ! 34 refl $
+              forget ! 32 refl $
+              forget ! 30 refl $
+              forget ! 28 refl $
+              forget ! 26 refl $
+              forget ! 24 refl $
+              forget ! 22 refl $
+              keep ! (1 ∷ 13 ∷ 14 ∷ 15 ∷ 0 ∷ 16 ∷ 17 ∷ 18 ∷ 2 ∷ 19 ∷ 20 ∷ 21 ∷ 12 ∷ 11 ∷ 10 ∷ 9 ∷ 8 ∷ 7 ∷ 6 ∷ 5 ∷ 4 ∷ 3 ∷ 22 ∷ 23 ∷ 24 ∷ 25 ∷ 26 ∷ 27 ∷ 28 ∷ 29 ∷ 30 ∷ 31 ∷ 32 ∷ 33 ∷ 34 ∷ 35 ∷ 36 ∷ 37 ∷ 38 ∷ 39 ∷ 40 ∷ 41 ∷ 42 ∷ 43 ∷ 44 ∷ 45 ∷ 46 ∷ 47 ∷ 48 ∷ 49 ∷ 50 ∷ 51 ∷ 52 ∷ 53 ∷ 54 ∷ 55 ∷ 56 ∷ 57 ∷ 58 ∷ 59 ∷ 60 ∷ 61 ∷ 62 ∷ 63 ∷ 64 ∷ 65 ∷ 66 ∷ 67 ∷ 68 ∷ 69 ∷ 70 ∷ 71 ∷ 72 ∷ 73 ∷ 74 ∷ 75 ∷ 76 ∷ 77 ∷ 78 ∷ 79 ∷ 80 ∷ 81 ∷ []) $
+              again ! Nearer At j (one-more less) (nearer less))))))))))))))))))
+              (λ over.
+              -- all are answered: the borrows are closed
+              exec ! C Λ En t-13 (atRet En Post) $
+              closes-slice ! tt RA (now answers) (ans i) (size-answers j) (answers .ptr .0) (answers .ptr .1) $
+              move ! (3 ∷ 4 ∷ 5 ∷ 6 ∷ []) $
+              closes-slice ! tt R (now entries) (es i) (size-entries j) (entries .ptr .0) (entries .ptr .1) $
+              move ! (6 ∷ 7 ∷ 8 ∷ 9 ∷ []) $
+              closes-slice ! tt u32 (now reads) (rs i) (size-reads j) (reads .ptr .0) (reads .ptr .1) $
+              assigns ! (of-opd ! (load ! (from ! (stop !)) (look ! 55 refl))) (from ! (stop !)) (init ! 77 refl (verdict-typed v u is-verdict)) $
+              returns ! (look ! 77 refl) $
+              forget ! 33 refl $ forget ! 35 refl $ forget ! 37 refl $ forget ! 39 refl $ forget ! 41 refl $ forget ! 43 refl $ forget ! 45 refl $ forget ! 49 refl $ forget ! 51 refl $ forget ! 53 refl $ forget ! 55 refl $ forget ! 57 refl $ forget ! 59 refl $ forget ! 61 refl $ forget ! 63 refl $ forget ! 65 refl $ forget ! 67 refl $ forget ! 69 refl $ forget ! 71 refl $ forget ! 73 refl $ forget ! 75 refl $ forget ! 77 refl $
+              move ! (77 ∷ 78 ∷ []) $ free1 ! $ move ! (75 ∷ 76 ∷ []) $ free1 ! $ move ! (73 ∷ 74 ∷ []) $ free1 ! $ move ! (71 ∷ 72 ∷ []) $ free1 ! $ move ! (69 ∷ 70 ∷ []) $ free1 ! $ move ! (67 ∷ 68 ∷ []) $ free1 ! $ move ! (65 ∷ 66 ∷ []) $ free1 ! $ move ! (63 ∷ 64 ∷ []) $ free1 ! $ move ! (61 ∷ 62 ∷ []) $ free1 ! $ move ! (59 ∷ 60 ∷ []) $ free1 ! $ move ! (57 ∷ 58 ∷ []) $ free1 ! $ move ! (55 ∷ 56 ∷ []) $ free1 ! $ move ! (53 ∷ 54 ∷ []) $ free1 ! $ move ! (51 ∷ 52 ∷ []) $ free1 ! $ move ! (49 ∷ 50 ∷ []) $ free1 ! $ move ! (47 ∷ 48 ∷ []) $ free1 ! $ move ! (45 ∷ 46 ∷ []) $ free1 ! $ move ! (43 ∷ 44 ∷ []) $ free1 ! $ move ! (41 ∷ 42 ∷ []) $ free1 ! $ move ! (39 ∷ 40 ∷ []) $ free1 ! $ move ! (37 ∷ 38 ∷ []) $ free1 ! $ move ! (35 ∷ 36 ∷ []) $ free1 ! $ move ! (33 ∷ 34 ∷ []) $ free1 ! $ move ! (31 ∷ 32 ∷ []) $ free1 ! $ move ! (29 ∷ 30 ∷ []) $ free1 ! $ move ! (27 ∷ 28 ∷ []) $ free1 ! $ move ! (25 ∷ 26 ∷ []) $ free1 ! $ move ! (23 ∷ 24 ∷ []) $ free1 ! $ move ! (21 ∷ 22 ∷ []) $ free1 ! $ move ! (19 ∷ 20 ∷ []) $ free1 ! $ free0 ! $
+              owned ! Row (Is Row) verdict-made v _ is-verdict $
+              keep ! (7 ∷ 8 ∷ 4 ∷ 5 ∷ 1 ∷ 2 ∷ 0 ∷ 15 ∷ 16 ∷ 17 ∷ 18 ∷ 19 ∷ 9 ∷ 6 ∷ 3 ∷ []) $
+              by ! (exits j (all-done over)))
+
+      begins : (v : Verdict) (u : Val) → Is Row v (u ∷ []) → v ≡ verdict → (end : ℕ) → end ≡ outcome v m (λ _. 0)
+          → Sq W (‵ (flft κ-codes q-codes) ∷ ‵ (flft κ-marks q-marks) ∷ ‵ (ShrSlice (named 3) κ-codes u8 .own codes (slice-vals codes)) ∷ ‵ (ShrSlice (named 2) κ-marks i32 .own marks (slice-vals marks)) ∷ ‵ (flft κ-reads q-reads) ∷ ‵ (flft κ-entries q-entries) ∷ ‵ (flft κ-answers q-answers) ∷ ‵ (flft κ-vectors q-vectors) ∷ ‵ (flft κ-words q-words) ∷ ‵ (flft κ-queries q-queries) ∷ ‵ (froom (sliceTy (tyRef erased mut (pointee (R .written)))) l₂₉ 0) ∷ ‵ (fdies (sliceTy (tyRef erased mut (pointee (R .written)))) l₂₉) ∷ ‵ (froom (tyRef erased mut (pointee (R .written))) l₂₈ 0) ∷ ‵ (fdies (tyRef erased mut (pointee (R .written))) l₂₈) ∷ ‵ (froom tyUnit l₂₇ 0) ∷ ‵ (fdies tyUnit l₂₇) ∷ ‵ (froom tyPtr l₂₆ 0) ∷ ‵ (fdies tyPtr l₂₆) ∷ ‵ (froom word l₂₅ 0) ∷ ‵ (fdies word l₂₅) ∷ ‵ (froom (sliceTy (tyRef erased mut (pointee (u32 .written)))) l₂₄ 0) ∷ ‵ (fdies (sliceTy (tyRef erased mut (pointee (u32 .written)))) l₂₄) ∷ ‵ (froom (tyRef erased mut (pointee (u32 .written))) l₂₃ 0) ∷ ‵ (fdies (tyRef erased mut (pointee (u32 .written))) l₂₃) ∷ ‵ (froom tyBool l₂₂ 0) ∷ ‵ (fdies tyBool l₂₂) ∷ ‵ (fat fullShare word l₂₁ 0 (vint w64 (length (now reads)))) ∷ ‵ (fdies word l₂₁) ∷ ‵ (fat fullShare word l₂₀ 0 (vint w64 (length (now entries)))) ∷ ‵ (fdies word l₂₀) ∷ ‵ (fat fullShare word l₁₉ 0 (vint w64 (length (now answers)))) ∷ ‵ (fdies word l₁₉) ∷ ‵ (fat fullShare word l₁₈ 0 (vint w64 (length (now vectors)))) ∷ ‵ (fdies word l₁₈) ∷ ‵ (fat fullShare word l₁₇ 0 (vint w64 (length (now words)))) ∷ ‵ (fdies word l₁₇) ∷ ‵ (fat fullShare word l₁₆ 0 (vint w64 (length (now queries)))) ∷ ‵ (fdies word l₁₆) ∷ ‵ (froom Tn′.mir l₁₅ 0) ∷ ‵ (fdies Tn′.mir l₁₅) ∷ ‵ (froom word l₁₄ 0) ∷ ‵ (fdies word l₁₄) ∷ ‵ (froom bytes-type l₁₃ 0) ∷ ‵ (fdies bytes-type l₁₃) ∷ ‵ (fat fullShare word l₁₂ 0 (vint w64 end)) ∷ ‵ (fdies word l₁₂) ∷ ‵ (fat fullShare Vd′.mir l₁₁ 0 (u)) ∷ ‵ (fdies Vd′.mir l₁₁) ∷ ‵ (fat fullShare Ln′.mir l₁₀ 0 (lengths-val lengths)) ∷ ‵ (fdies Ln′.mir l₁₀) ∷ ‵ (fat fullShare slice-reads l₉ 0 (sliceVal (reads .ptr) (length (now reads)))) ∷ ‵ (fdies slice-reads l₉) ∷ ‵ (fat fullShare slice-entries l₈ 0 (sliceVal (entries .ptr) (length (now entries)))) ∷ ‵ (fdies slice-entries l₈) ∷ ‵ (fat fullShare slice-answers l₇ 0 (sliceVal (answers .ptr) (length (now answers)))) ∷ ‵ (fdies slice-answers l₇) ∷ ‵ (fat fullShare slice-vectors l₆ 0 (sliceVal (vectors .ptr) (length (now vectors)))) ∷ ‵ (fdies slice-vectors l₆) ∷ ‵ (fat fullShare slice-codes l₅ 0 (sliceVal (codes .ptr) (length (now codes)))) ∷ ‵ (fdies slice-codes l₅) ∷ ‵ (fat fullShare slice-marks l₄ 0 (sliceVal (marks .ptr) (length (now marks)))) ∷ ‵ (fdies slice-marks l₄) ∷ ‵ (fat fullShare slice-words l₃ 0 (sliceVal (words .ptr) (length (now words)))) ∷ ‵ (fdies slice-words l₃) ∷ ‵ (fat fullShare slice-queries l₂ 0 (sliceVal (queries .ptr) (length (now queries)))) ∷ ‵ (fdies slice-queries l₂) ∷ ‵ (fat fullShare Tm′.mir l₁ 0 (terms-val terms)) ∷ ‵ (fdies Tm′.mir l₁) ∷ ‵ (froom Vd′.mir l₀ 0) ∷ ‵ (fdies Vd′.mir l₀) ∷ ‵ (ShrSlice (named 0) κ-queries i32 .own queries (slice-vals queries)) ∷ ‵ (ShrSlice (named 1) κ-words u32 .own words (slice-vals words)) ∷ ‵ (ShrSlice (named 4) κ-vectors i32 .own vectors (slice-vals vectors)) ∷ ‵ (MutSlice (named 5) κ-answers RA .own answers (slice-vals answers)) ∷ ‵ (MutSlice (named 6) κ-entries R .own entries (slice-vals entries)) ∷ ‵ (MutSlice (named 7) κ-reads u32 .own reads (slice-vals reads)) ∷ []) (runs C Λ En t-10 (atRet En Post))
+      begins v u is e end e₂ =
+          -- the region numbers
+          nothing ! $
+          nothing ! $
+          move ! (4 ∷ []) $
+          use1 W (‵ (ShrSlice (named 3) κ-codes u8 .own codes (slice-vals codes)) ⊛ ‵ (ShrSlice (named 3) κ-codes u8 .own codes (slice-vals codes))) (shr-slice-copy 𝓤 H A W (named 3) κ-codes u8 .twice codes (slice-vals codes)) $
+          split ! $
+          owned ! Terms-row (Is Terms-row) terms-made terms _ terms-is $
+          move ! (0 ∷ 1 ∷ 3 ∷ []) $
+          group ! 3 $
+          move ! (3 ∷ 2 ∷ []) $
+          group ! 2 $
+          join ! $
+          use1 W (raw (Regions 𝓤 H A mem run .pre to-regions)) (asked-regions) $
+          calls-at ! fm (Regions 𝓤 H A mem run) known-regions to-regions (and-then ! (load ! (from ! (stop !)) (look ! 66 refl)) (and-then ! (load ! (from ! (stop !)) (look ! 58 refl)) (no-more !))) (λ u₃.
+          use1 W (later (some (λ (regions : List ℕ). ((‵ (flft κ-codes q-codes) ⊛ ‵ ftrue) ⊛ ‵ (Bytes .own regions (u₃ ∷ []))) ⊛ raw (ensured 𝓤 H A regions-of.ended (regions-of.clauses 𝓤 H A mem run) lfts-regions given-regions tt regions)))) (id⊢ 𝓤 _) $ await ! tt $
+          pick ! (λ regions.
+          split ! $
+          move ! (1 ∷ []) $
+          use1 W (raw (fact 𝓤 (RegionsIn (terms .d) (terms .b) (terms .n) (now codes) regions))) (said-regions regions) $
+          heard ! (RegionsIn (terms .d) (terms .b) (terms .n) (now codes) regions) (λ e₃.
+          split ! $
+          split ! $
+          move ! (1 ∷ []) $
+          drop ! $
+          move ! (1 ∷ []) $
+          peeks ! Bytes (Is Bytes) (shows 𝓤 H A Bytes) regions (u₃ ∷ []) (λ is₃.
+          land ! (from ! (stop !)) (init ! 43 refl (regions-typed regions u₃ is₃)) $
+          drop ! $
+          assigns ! (of-opd ! (lit ! tt)) (from ! (stop !)) (init ! 40 refl (tt, record { fits = lit< tt })) $
+          -- the borrows are opened
+          move ! (73 ∷ []) $
+          fsplit ! $
+          drop ! $
+          fsplit ! $
+          move ! (0 ∷ 1 ∷ 8 ∷ []) $
+          opens-slice ! tt RA (now answers) (answers .ptr .0) (answers .ptr .1) $
+          move ! (76 ∷ []) $
+          fsplit ! $
+          drop ! $
+          fsplit ! $
+          move ! (0 ∷ 1 ∷ 11 ∷ []) $
+          opens-slice ! tt R (now entries) (entries .ptr .0) (entries .ptr .1) $
+          rewrite ! 0 (λ (zs : List Entry). ‵ (row R fullShare zs (entries .ptr .0) (entries .ptr .1))) (sym (entries-begun batch (now answers) (now entries) (now reads))) refl $
+          move ! (79 ∷ []) $
+          fsplit ! $
+          drop ! $
+          fsplit ! $
+          move ! (0 ∷ 1 ∷ 14 ∷ []) $
+          opens-slice ! tt u32 (now reads) (reads .ptr .0) (reads .ptr .1) $
+          rewrite ! 0 (λ (zs : List ℕ). ‵ (row u32 fullShare zs (reads .ptr .0) (reads .ptr .1))) (sym (reads-begun batch (now answers) (now entries) (now reads))) refl $
+          keep ! (8 ∷ 9 ∷ 10 ∷ 11 ∷ 4 ∷ 5 ∷ 6 ∷ 7 ∷ 0 ∷ 1 ∷ 2 ∷ 3 ∷ 79 ∷ 80 ∷ 15 ∷ 13 ∷ 81 ∷ 18 ∷ 17 ∷ 14 ∷ 12 ∷ 16 ∷ 19 ∷ 20 ∷ 21 ∷ 22 ∷ 23 ∷ 24 ∷ 25 ∷ 26 ∷ 27 ∷ 28 ∷ 29 ∷ 30 ∷ 31 ∷ 32 ∷ 33 ∷ 34 ∷ 35 ∷ 36 ∷ 37 ∷ 38 ∷ 39 ∷ 40 ∷ 41 ∷ 42 ∷ 43 ∷ 44 ∷ 45 ∷ 46 ∷ 47 ∷ 48 ∷ 49 ∷ 50 ∷ 51 ∷ 52 ∷ 53 ∷ 54 ∷ 55 ∷ 56 ∷ 57 ∷ 58 ∷ 59 ∷ 60 ∷ 61 ∷ 62 ∷ 63 ∷ 64 ∷ 65 ∷ 66 ∷ 67 ∷ 68 ∷ 69 ∷ 70 ∷ 71 ∷ 72 ∷ 73 ∷ 74 ∷ 75 ∷ 76 ∷ 77 ∷ 78 ∷ []) $
+          first ! $ blocks ! $ loops ! 𝓣 (Nearer v u is e end e₂ regions u₃ is₃ e₃) (Nearer-wf v u is e end e₂ regions u₃ is₃ e₃) (At v u is e end e₂ regions u₃ is₃ e₃) (turns v u is e end e₂ regions u₃ is₃ e₃) (0, zero-le)))))
+
+      checks : Sq W (‵ (flft κ-reads q-reads) ∷ ‵ (flft κ-entries q-entries) ∷ ‵ (flft κ-answers q-answers) ∷ ‵ (flft κ-vectors q-vectors) ∷ ‵ (flft κ-codes q-codes) ∷ ‵ (flft κ-marks q-marks) ∷ ‵ (flft κ-words q-words) ∷ ‵ (flft κ-queries q-queries) ∷ ‵ (froom (sliceTy (tyRef erased mut (pointee (R .written)))) l₂₉ 0) ∷ ‵ (fdies (sliceTy (tyRef erased mut (pointee (R .written)))) l₂₉) ∷ ‵ (froom (tyRef erased mut (pointee (R .written))) l₂₈ 0) ∷ ‵ (fdies (tyRef erased mut (pointee (R .written))) l₂₈) ∷ ‵ (froom tyUnit l₂₇ 0) ∷ ‵ (fdies tyUnit l₂₇) ∷ ‵ (froom tyPtr l₂₆ 0) ∷ ‵ (fdies tyPtr l₂₆) ∷ ‵ (froom word l₂₅ 0) ∷ ‵ (fdies word l₂₅) ∷ ‵ (froom (sliceTy (tyRef erased mut (pointee (u32 .written)))) l₂₄ 0) ∷ ‵ (fdies (sliceTy (tyRef erased mut (pointee (u32 .written)))) l₂₄) ∷ ‵ (froom (tyRef erased mut (pointee (u32 .written))) l₂₃ 0) ∷ ‵ (fdies (tyRef erased mut (pointee (u32 .written))) l₂₃) ∷ ‵ (froom tyBool l₂₂ 0) ∷ ‵ (fdies tyBool l₂₂) ∷ ‵ (fat fullShare word l₂₁ 0 (vint w64 (length (now reads)))) ∷ ‵ (fdies word l₂₁) ∷ ‵ (fat fullShare word l₂₀ 0 (vint w64 (length (now entries)))) ∷ ‵ (fdies word l₂₀) ∷ ‵ (fat fullShare word l₁₉ 0 (vint w64 (length (now answers)))) ∷ ‵ (fdies word l₁₉) ∷ ‵ (fat fullShare word l₁₈ 0 (vint w64 (length (now vectors)))) ∷ ‵ (fdies word l₁₈) ∷ ‵ (fat fullShare word l₁₇ 0 (vint w64 (length (now words)))) ∷ ‵ (fdies word l₁₇) ∷ ‵ (fat fullShare word l₁₆ 0 (vint w64 (length (now queries)))) ∷ ‵ (fdies word l₁₆) ∷ ‵ (froom Tn′.mir l₁₅ 0) ∷ ‵ (fdies Tn′.mir l₁₅) ∷ ‵ (froom word l₁₄ 0) ∷ ‵ (fdies word l₁₄) ∷ ‵ (froom bytes-type l₁₃ 0) ∷ ‵ (fdies bytes-type l₁₃) ∷ ‵ (froom word l₁₂ 0) ∷ ‵ (fdies word l₁₂) ∷ ‵ (froom Vd′.mir l₁₁ 0) ∷ ‵ (fdies Vd′.mir l₁₁) ∷ ‵ (fat fullShare Ln′.mir l₁₀ 0 (lengths-val lengths)) ∷ ‵ (fdies Ln′.mir l₁₀) ∷ ‵ (fat fullShare slice-reads l₉ 0 (sliceVal (reads .ptr) (length (now reads)))) ∷ ‵ (fdies slice-reads l₉) ∷ ‵ (fat fullShare slice-entries l₈ 0 (sliceVal (entries .ptr) (length (now entries)))) ∷ ‵ (fdies slice-entries l₈) ∷ ‵ (fat fullShare slice-answers l₇ 0 (sliceVal (answers .ptr) (length (now answers)))) ∷ ‵ (fdies slice-answers l₇) ∷ ‵ (fat fullShare slice-vectors l₆ 0 (sliceVal (vectors .ptr) (length (now vectors)))) ∷ ‵ (fdies slice-vectors l₆) ∷ ‵ (fat fullShare slice-codes l₅ 0 (sliceVal (codes .ptr) (length (now codes)))) ∷ ‵ (fdies slice-codes l₅) ∷ ‵ (fat fullShare slice-marks l₄ 0 (sliceVal (marks .ptr) (length (now marks)))) ∷ ‵ (fdies slice-marks l₄) ∷ ‵ (fat fullShare slice-words l₃ 0 (sliceVal (words .ptr) (length (now words)))) ∷ ‵ (fdies slice-words l₃) ∷ ‵ (fat fullShare slice-queries l₂ 0 (sliceVal (queries .ptr) (length (now queries)))) ∷ ‵ (fdies slice-queries l₂) ∷ ‵ (fat fullShare Tm′.mir l₁ 0 (terms-val terms)) ∷ ‵ (fdies Tm′.mir l₁) ∷ ‵ (froom Vd′.mir l₀ 0) ∷ ‵ (fdies Vd′.mir l₀) ∷ ‵ (ShrSlice (named 0) κ-queries i32 .own queries (slice-vals queries)) ∷ ‵ (ShrSlice (named 1) κ-words u32 .own words (slice-vals words)) ∷ ‵ (ShrSlice (named 2) κ-marks i32 .own marks (slice-vals marks)) ∷ ‵ (ShrSlice (named 3) κ-codes u8 .own codes (slice-vals codes)) ∷ ‵ (ShrSlice (named 4) κ-vectors i32 .own vectors (slice-vals vectors)) ∷ ‵ (MutSlice (named 5) κ-answers RA .own answers (slice-vals answers)) ∷ ‵ (MutSlice (named 6) κ-entries R .own entries (slice-vals entries)) ∷ ‵ (MutSlice (named 7) κ-reads u32 .own reads (slice-vals reads)) ∷ []) (runs C Λ En t-8 (atRet En Post))
+      checks =
+          -- the verdict on the batch
+          nothing ! $
+          nothing ! $
+          move ! (72 ∷ []) $
+          use1 W (‵ (ShrSlice (named 2) κ-marks i32 .own marks (slice-vals marks)) ⊛ ‵ (ShrSlice (named 2) κ-marks i32 .own marks (slice-vals marks))) (shr-slice-copy 𝓤 H A W (named 2) κ-marks i32 .twice marks (slice-vals marks)) $
+          split ! $
+          move ! (74 ∷ []) $
+          use1 W (‵ (ShrSlice (named 3) κ-codes u8 .own codes (slice-vals codes)) ⊛ ‵ (ShrSlice (named 3) κ-codes u8 .own codes (slice-vals codes))) (shr-slice-copy 𝓤 H A W (named 3) κ-codes u8 .twice codes (slice-vals codes)) $
+          split ! $
+          owned ! Lengths-row (Is Lengths-row) lengths-made lengths _ lengths-is $
+          owned ! Terms-row (Is Terms-row) terms-made terms _ terms-is $
+          move ! (0 ∷ 1 ∷ 4 ∷ 2 ∷ 6 ∷ []) $
+          group ! 5 $
+          move ! (9 ∷ 8 ∷ 3 ∷ []) $
+          group ! 3 $
+          join ! $
+          use1 W (raw (Check 𝓤 H A mem run .pre to-check)) (asked-check) $
+          calls-at ! fm (Check 𝓤 H A mem run) known-check to-check (and-then ! (load ! (from ! (stop !)) (look ! 65 refl)) (and-then ! (load ! (from ! (stop !)) (look ! 47 refl)) (and-then ! (load ! (from ! (stop !)) (look ! 59 refl)) (and-then ! (load ! (from ! (stop !)) (look ! 57 refl)) (no-more !))))) (λ u.
+          use1 W (later (some (λ (v : Verdict). ((‵ (flft κ-marks q-marks) ⊛ (‵ (flft κ-codes q-codes) ⊛ ‵ ftrue)) ⊛ ‵ (Row .own v (u ∷ []))) ⊛ raw (ensured 𝓤 H A check.ended (check.clauses 𝓤 H A mem run) lfts-check given-check tt v)))) (id⊢ 𝓤 _) $ await ! tt $
+          pick ! (λ v.
+          split ! $
+          move ! (1 ∷ []) $
+          use1 W (raw (fact 𝓤 (v ≡ verdict))) (said-check v) $
+          heard ! (v ≡ verdict) (λ e.
+          split ! $
+          split ! $
+          move ! (1 ∷ []) $
+          split ! $
+          move ! (1 ∷ []) $
+          drop ! $
+          move ! (2 ∷ []) $
+          peeks ! Row (Is Row) (shows 𝓤 H A Row) v (u ∷ []) (λ is.
+          land ! (from ! (stop !)) (init ! 47 refl (verdict-typed v u is)) $
+          drop ! $
+          -- so many queries are answered
+          nothing ! $
+          nothing ! $
+          owned ! usize (Is usize) (uint-makes 𝓤 H A W w64) m _ (refl, fits-m) $
+          owned ! Row (Is Row) verdict-made v _ is $
+          group ! 3 $
+          move ! (1 ∷ 0 ∷ []) $
+          join ! $
+          use1 W (raw (Count 𝓤 H A mem run .pre (to-count v u))) (asked-count v u) $
+          calls-at ! fm (Count 𝓤 H A mem run) known-count (to-count v u) (and-then ! (load ! (from ! (stop !)) (look ! 47 refl)) (and-then ! (load ! (from ! (fld ! refl (stop !))) (look-in ! 67 (sub ! 4 refl (whole !)))) (no-more !))) (λ u₂.
+          use1 W (later (some (λ (end : ℕ). (‵ ftrue ⊛ ‵ (usize .own end (u₂ ∷ []))) ⊛ raw (ensured 𝓤 H A count.ended (count.clauses 𝓤 H A mem run) tt (given-count v) tt end)))) (id⊢ 𝓤 _) $ await ! tt $
+          pick ! (λ end.
+          split ! $
+          move ! (1 ∷ []) $
+          use1 W (raw (fact 𝓤 (end ≡ outcome v m (λ _. 0)))) (said-count v end) $
+          heard ! (end ≡ outcome v m (λ _. 0)) (λ e₂.
+          split ! $
+          drop ! $
+          peeks ! usize (Is usize) (shows 𝓤 H A usize) end (u₂ ∷ []) (λ is₂.
+          land ! (from ! (stop !)) (init ! 45 refl (uint-lawful 𝓤 H A W w64 .typed end _ is₂ .0)) $
+          drop ! $
+          rewrite ! 44 (λ (y : Val). ‵ (fat fullShare (tyInt w64) l₁₂ 0 y)) (head-eq-of-cons-eq (uint-tells w64 end (u₂ ∷ []) is₂)) refl $
+          begins v u is e end e₂))))))))
 
     walk : (𝓣 : Tables 𝓤 H) (known-check : Triple 𝓤 (𝓣 .C #check) (Check 𝓤 H A mem run)) (known-count : Triple 𝓤 (𝓣 .C #count) (Count 𝓤 H A mem run))
         (known-regions : Triple 𝓤 (𝓣 .C #regions) (Regions 𝓤 H A mem run)) (known-answer : Triple 𝓤 (𝓣 .C #answer) (Answered 𝓤 H A mem run))
@@ -694,7 +807,6 @@ module _ {M : Type 1} (𝓤 : URA M) (H : Heap 𝓤) (A : Atoms 𝓤) (W : Given
         → ent 𝓤 (onEntry 𝓤 H A face.signature (κ-queries, (κ-words, (κ-marks, (κ-codes, (κ-vectors, (κ-answers, (κ-entries, (κ-reads, tt)))))))) (q-queries, (q-words, (q-marks, (q-codes, (q-vectors, (q-answers, (q-entries, (q-reads, tt)))))))) (terms, (queries, (words, (marks, (codes, (vectors, (answers, (entries, (reads, tt))))))))) at)
         (WpFn 𝓤 H (𝓣 .C) (𝓣 .Λ) code.function (terms-val terms ∷ sliceVal (queries .ptr) (length (now queries)) ∷ sliceVal (words .ptr) (length (now words)) ∷ sliceVal (marks .ptr) (length (now marks)) ∷ sliceVal (codes .ptr) (length (now codes)) ∷ sliceVal (vectors .ptr) (length (now vectors)) ∷ sliceVal (answers .ptr) (length (now answers)) ∷ sliceVal (entries .ptr) (length (now entries)) ∷ sliceVal (reads .ptr) (length (now reads)) ∷ []) Post)
     walk 𝓣 known-check known-count known-regions known-answer known-fill =
-        let fm : FmC 𝓤 H (W .laws) (𝓣 .C) = fmOf 𝓤 H (W .laws) 𝓣 in
         qed W ((‵ (flft κ-queries q-queries) ⊛ (‵ (flft κ-words q-words) ⊛ (‵ (flft κ-marks q-marks) ⊛ (‵ (flft κ-codes q-codes) ⊛ (‵ (flft κ-vectors q-vectors) ⊛ (‵ (flft κ-answers q-answers) ⊛ (‵ (flft κ-entries q-entries) ⊛ (‵ (flft κ-reads q-reads) ⊛ ‵ ftrue)))))))) ∷ ‵ (Terms-row .own terms (terms-val terms ∷ [])) ∷ ‵ (ShrSlice (named 0) κ-queries i32 .own queries (slice-vals queries)) ∷ ‵ (ShrSlice (named 1) κ-words u32 .own words (slice-vals words)) ∷ ‵ (ShrSlice (named 2) κ-marks i32 .own marks (slice-vals marks)) ∷ ‵ (ShrSlice (named 3) κ-codes u8 .own codes (slice-vals codes)) ∷ ‵ (ShrSlice (named 4) κ-vectors i32 .own vectors (slice-vals vectors)) ∷ ‵ (MutSlice (named 5) κ-answers RA .own answers (slice-vals answers)) ∷ ‵ (MutSlice (named 6) κ-entries R .own entries (slice-vals entries)) ∷ ‵ (MutSlice (named 7) κ-reads u32 .own reads (slice-vals reads)) ∷ ‵ ftrue ∷ []) ∵
         enter ! (𝓣 .C) (𝓣 .Λ) code.function (terms-val terms ∷ sliceVal (queries .ptr) (length (now queries)) ∷ sliceVal (words .ptr) (length (now words)) ∷ sliceVal (marks .ptr) (length (now marks)) ∷ sliceVal (codes .ptr) (length (now codes)) ∷ sliceVal (vectors .ptr) (length (now vectors)) ∷ sliceVal (answers .ptr) (length (now answers)) ∷ sliceVal (entries .ptr) (length (now entries)) ∷ sliceVal (reads .ptr) (length (now reads)) ∷ []) _ $
         alloc1 ! (λ l₀.
@@ -764,118 +876,11 @@ module _ {M : Type 1} (𝓤 : URA M) (H : Heap 𝓤) (A : Atoms 𝓤) (W : Given
         split ! $
         move ! (1 ∷ []) $
         drop ! $
-        -- the verdict on the batch
-        nothing ! $
-        nothing ! $
-        move ! (73 ∷ []) $
-        use1 W (‵ (ShrSlice (named 2) κ-marks i32 .own marks (slice-vals marks)) ⊛ ‵ (ShrSlice (named 2) κ-marks i32 .own marks (slice-vals marks))) (shr-slice-copy 𝓤 H A W (named 2) κ-marks i32 .twice marks (slice-vals marks)) $
-        split ! $
-        move ! (75 ∷ []) $
-        use1 W (‵ (ShrSlice (named 3) κ-codes u8 .own codes (slice-vals codes)) ⊛ ‵ (ShrSlice (named 3) κ-codes u8 .own codes (slice-vals codes))) (shr-slice-copy 𝓤 H A W (named 3) κ-codes u8 .twice codes (slice-vals codes)) $
-        split ! $
-        owned ! Lengths-row (Is Lengths-row) lengths-made lengths _ lengths-is $
-        owned ! Terms-row (Is Terms-row) terms-made terms _ terms-is $
-        move ! (0 ∷ 1 ∷ 4 ∷ 2 ∷ 6 ∷ []) $
-        group ! 5 $
-        move ! (9 ∷ 8 ∷ 3 ∷ []) $
-        group ! 3 $
-        join ! $
-        use1 W (raw (Check 𝓤 H A mem run .pre to-check)) (asked-check) $
-        calls-at ! fm (Check 𝓤 H A mem run) known-check to-check (and-then ! (load ! (from ! (stop !)) (look ! 65 refl)) (and-then ! (load ! (from ! (stop !)) (look ! 47 refl)) (and-then ! (load ! (from ! (stop !)) (look ! 59 refl)) (and-then ! (load ! (from ! (stop !)) (look ! 57 refl)) (no-more !))))) (λ u.
-        use1 W (later (some (λ (v : Verdict). ((‵ (flft κ-marks q-marks) ⊛ (‵ (flft κ-codes q-codes) ⊛ ‵ ftrue)) ⊛ ‵ (Row .own v (u ∷ []))) ⊛ raw (ensured 𝓤 H A check.ended (check.clauses 𝓤 H A mem run) lfts-check given-check tt v)))) (id⊢ 𝓤 _) $ await ! tt $
-        pick ! (λ v.
-        split ! $
-        move ! (1 ∷ []) $
-        use1 W (raw (fact 𝓤 (v ≡ verdict))) (said-check v) $
-        heard ! (v ≡ verdict) (λ e.
-        split ! $
-        split ! $
-        move ! (1 ∷ []) $
-        split ! $
-        move ! (1 ∷ []) $
+        move ! (68 ∷ []) $
         drop ! $
-        move ! (2 ∷ []) $
-        peeks ! Row (Is Row) (shows 𝓤 H A Row) v (u ∷ []) (λ is.
-        land ! (from ! (stop !)) (init ! 47 refl (verdict-typed v u is)) $
+        move ! (76 ∷ []) $
         drop ! $
-        -- so many queries are answered
-        nothing ! $
-        nothing ! $
-        owned ! usize (Is usize) (uint-makes 𝓤 H A W w64) m _ (refl, fits-m) $
-        owned ! Row (Is Row) verdict-made v _ is $
-        group ! 3 $
-        move ! (1 ∷ 0 ∷ []) $
-        join ! $
-        use1 W (raw (Count 𝓤 H A mem run .pre (to-count v u))) (asked-count v u) $
-        calls-at ! fm (Count 𝓤 H A mem run) known-count (to-count v u) (and-then ! (load ! (from ! (stop !)) (look ! 47 refl)) (and-then ! (load ! (from ! (fld ! refl (stop !))) (look-in ! 67 (sub ! 4 refl (whole !)))) (no-more !))) (λ u₂.
-        use1 W (later (some (λ (end : ℕ). (‵ ftrue ⊛ ‵ (usize .own end (u₂ ∷ []))) ⊛ raw (ensured 𝓤 H A count.ended (count.clauses 𝓤 H A mem run) tt (given-count v) tt end)))) (id⊢ 𝓤 _) $ await ! tt $
-        pick ! (λ end.
-        split ! $
-        move ! (1 ∷ []) $
-        use1 W (raw (fact 𝓤 (end ≡ outcome v m (λ _. 0)))) (said-count v end) $
-        heard ! (end ≡ outcome v m (λ _. 0)) (λ e₂.
-        split ! $
-        drop ! $
-        peeks ! usize (Is usize) (shows 𝓤 H A usize) end (u₂ ∷ []) (λ is₂.
-        land ! (from ! (stop !)) (init ! 45 refl (uint-lawful 𝓤 H A W w64 .typed end _ is₂ .0)) $
-        drop ! $
-        rewrite ! 44 (λ (y : Val). ‵ (fat fullShare (tyInt w64) l₁₂ 0 y)) (head-eq-of-cons-eq (uint-tells w64 end (u₂ ∷ []) is₂)) refl $
-        -- the region numbers
-        nothing ! $
-        nothing ! $
-        move ! (4 ∷ []) $
-        use1 W (‵ (ShrSlice (named 3) κ-codes u8 .own codes (slice-vals codes)) ⊛ ‵ (ShrSlice (named 3) κ-codes u8 .own codes (slice-vals codes))) (shr-slice-copy 𝓤 H A W (named 3) κ-codes u8 .twice codes (slice-vals codes)) $
-        split ! $
-        owned ! Terms-row (Is Terms-row) terms-made terms _ terms-is $
-        move ! (0 ∷ 1 ∷ 3 ∷ []) $
-        group ! 3 $
-        move ! (3 ∷ 2 ∷ []) $
-        group ! 2 $
-        join ! $
-        use1 W (raw (Regions 𝓤 H A mem run .pre to-regions)) (asked-regions) $
-        calls-at ! fm (Regions 𝓤 H A mem run) known-regions to-regions (and-then ! (load ! (from ! (stop !)) (look ! 66 refl)) (and-then ! (load ! (from ! (stop !)) (look ! 58 refl)) (no-more !))) (λ u₃.
-        use1 W (later (some (λ (regions : List ℕ). ((‵ (flft κ-codes q-codes) ⊛ ‵ ftrue) ⊛ ‵ (Bytes .own regions (u₃ ∷ []))) ⊛ raw (ensured 𝓤 H A regions-of.ended (regions-of.clauses 𝓤 H A mem run) lfts-regions given-regions tt regions)))) (id⊢ 𝓤 _) $ await ! tt $
-        pick ! (λ regions.
-        split ! $
-        move ! (1 ∷ []) $
-        use1 W (raw (fact 𝓤 (RegionsIn (terms .d) (terms .b) (terms .n) (now codes) regions))) (said-regions regions) $
-        heard ! (RegionsIn (terms .d) (terms .b) (terms .n) (now codes) regions) (λ e₃.
-        split ! $
-        split ! $
-        move ! (1 ∷ []) $
-        drop ! $
-        move ! (1 ∷ []) $
-        peeks ! Bytes (Is Bytes) (shows 𝓤 H A Bytes) regions (u₃ ∷ []) (λ is₃.
-        land ! (from ! (stop !)) (init ! 43 refl (regions-typed regions u₃ is₃)) $
-        drop ! $
-        assigns ! (of-opd ! (lit ! tt)) (from ! (stop !)) (init ! 40 refl (tt, record { fits = lit< tt })) $
-        -- the borrows are opened
-        move ! (74 ∷ []) $
-        fsplit ! $
-        drop ! $
-        fsplit ! $
-        move ! (0 ∷ 1 ∷ 8 ∷ []) $
-        opens-slice ! tt RA (now answers) (answers .ptr .0) (answers .ptr .1) $
-        move ! (77 ∷ []) $
-        fsplit ! $
-        drop ! $
-        fsplit ! $
-        move ! (0 ∷ 1 ∷ 11 ∷ []) $
-        opens-slice ! tt R (now entries) (entries .ptr .0) (entries .ptr .1) $
-        rewrite ! 0 (λ (zs : List Entry). ‵ (row R fullShare zs (entries .ptr .0) (entries .ptr .1))) (sym (entries-begun batch (now answers) (now entries) (now reads))) refl $
-        move ! (80 ∷ []) $
-        fsplit ! $
-        drop ! $
-        fsplit ! $
-        move ! (0 ∷ 1 ∷ 14 ∷ []) $
-        opens-slice ! tt u32 (now reads) (reads .ptr .0) (reads .ptr .1) $
-        rewrite ! 0 (λ (zs : List ℕ). ‵ (row u32 fullShare zs (reads .ptr .0) (reads .ptr .1))) (sym (reads-begun batch (now answers) (now entries) (now reads))) refl $
-        move ! (79 ∷ []) $
-        drop ! $
-        move ! (82 ∷ []) $
-        drop ! $
-        keep ! (8 ∷ 9 ∷ 10 ∷ 11 ∷ 4 ∷ 5 ∷ 6 ∷ 7 ∷ 0 ∷ 1 ∷ 2 ∷ 3 ∷ 79 ∷ 80 ∷ 15 ∷ 13 ∷ 81 ∷ 18 ∷ 17 ∷ 14 ∷ 12 ∷ 16 ∷ 19 ∷ 20 ∷ 21 ∷ 22 ∷ 23 ∷ 24 ∷ 25 ∷ 26 ∷ 27 ∷ 28 ∷ 29 ∷ 30 ∷ 31 ∷ 32 ∷ 33 ∷ 34 ∷ 35 ∷ 36 ∷ 37 ∷ 38 ∷ 39 ∷ 40 ∷ 41 ∷ 42 ∷ 43 ∷ 44 ∷ 45 ∷ 46 ∷ 47 ∷ 48 ∷ 49 ∷ 50 ∷ 51 ∷ 52 ∷ 53 ∷ 54 ∷ 55 ∷ 56 ∷ 57 ∷ 58 ∷ 59 ∷ 60 ∷ 61 ∷ 62 ∷ 63 ∷ 64 ∷ 65 ∷ 66 ∷ 67 ∷ 68 ∷ 69 ∷ 70 ∷ 71 ∷ 72 ∷ 73 ∷ 74 ∷ 75 ∷ 76 ∷ 77 ∷ 78 ∷ []) $
-        first ! $ blocks ! $ loops ! 𝓣 (Nearer v u is e end e₂ regions u₃ is₃ e₃) (Nearer-wf v u is e end e₂ regions u₃ is₃ e₃) (At v u is e end e₂ regions u₃ is₃ e₃ 𝓣 known-answer known-fill l₀ l₁ l₂ l₃ l₄ l₅ l₆ l₇ l₈ l₉ l₁₀ l₁₁ l₁₂ l₁₃ l₁₄ l₁₅ l₁₆ l₁₇ l₁₈ l₁₉ l₂₀ l₂₁ l₂₂ l₂₃ l₂₄ l₂₅ l₂₆ l₂₇ l₂₈ l₂₉) (turns v u is e end e₂ regions u₃ is₃ e₃ 𝓣 known-answer known-fill l₀ l₁ l₂ l₃ l₄ l₅ l₆ l₇ l₈ l₉ l₁₀ l₁₁ l₁₂ l₁₃ l₁₄ l₁₅ l₁₆ l₁₇ l₁₈ l₁₉ l₂₀ l₂₁ l₂₂ l₂₃ l₂₄ l₂₅ l₂₆ l₂₇ l₂₈ l₂₉) (0, zero-le)))))))))))))))))))))))))))))))))))))))))))
+        checks 𝓣 known-check known-count known-regions known-answer known-fill l₀ l₁ l₂ l₃ l₄ l₅ l₆ l₇ l₈ l₉ l₁₀ l₁₁ l₁₂ l₁₃ l₁₄ l₁₅ l₁₆ l₁₇ l₁₈ l₁₉ l₂₀ l₂₁ l₂₂ l₂₃ l₂₄ l₂₅ l₂₆ l₂₇ l₂₈ l₂₉))))))))))))))))))))))))))))))
 
 module _ {M : Type 1} (𝓤 : URA M) (H : Heap 𝓤) (A : Atoms 𝓤) (W : Given 𝓤 H A) (mem : Memory → SProp 𝓤) (run : Routine → Fun 𝓤)
     (𝓣 : Tables 𝓤 H) (known-check : Triple 𝓤 (𝓣 .C #check) (Check 𝓤 H A mem run)) (known-count : Triple 𝓤 (𝓣 .C #count) (Count 𝓤 H A mem run)) (known-regions : Triple 𝓤 (𝓣 .C #regions) (Regions 𝓤 H A mem run)) (known-answer : Triple 𝓤 (𝓣 .C #answer) (Answered 𝓤 H A mem run)) (known-fill : Triple 𝓤 (𝓣 .C #fill) (Fill 𝓤 H A mem run)) where
