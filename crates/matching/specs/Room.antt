@@ -14,7 +14,7 @@ use lib.ListN.{length, getD, drop, length-append}
 use Rattle.refusal.specs.declared.Refusal.{Refusal}
 use Rattle.refusal.specs.declared.Refusal.the-variants.{Dimension, Bits, Count, Neighbours, Length, Component, Mark, Outside, Code, Cell}
 use Rattle.refusal.specs.declared.Refusal.the-variants.{Kind, Truncated, Stale, NotANumber, OutOfRange, Trailing, Misplaced}
-use Rattle.refusal.specs.declared.Refusal.the-variants.{TooFewPresent, PresenceBit, Full, NotRemovable}
+use Rattle.refusal.specs.declared.Refusal.the-variants.{TooFewPresent, PresenceBit, Full, NotRemovable, TooManyQueries}
 use Rattle.refusal.specs.declared.Verdict.{Verdict}
 use Rattle.refusal.specs.declared.Verdict.the-variants.{Accepted, Refused}
 use Rattle.refusal.specs.Refusal.{numberOf}
@@ -134,6 +134,7 @@ number-small TooFewPresent = lit< tt
 number-small PresenceBit = lit< tt
 number-small Full = lit< tt
 number-small NotRemovable = lit< tt
+number-small TooManyQueries = lit< tt
 
 refused-room : (cause : Refusal) → length (refusedText cause) ≤ textRoom
 unfolding line
