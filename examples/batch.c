@@ -203,7 +203,7 @@ int main(int argc, char **argv)
     if (number != MATCHER_ACCEPTED)
         return refused(number);
     size_t k = to_k(argv[2]);
-    /* there is room for no more */
+    /* there is no room for more entries than vectors */
     if (k == 0 || k > library.n)
         return refused(MATCHER_NEIGHBOURS);
     return match_all(argv[3], k);

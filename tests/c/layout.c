@@ -1,6 +1,6 @@
 /*
- * How C lays out an entry and an answer: the sizes and offsets that the interface relies on. The tests read them off the
- * arrays below.
+ * How C lays out an entry and an answer: the sizes and offsets that the interface relies on. The tests read them off
+ * the arrays below.
  */
 #include "matcher.h"
 
@@ -51,8 +51,8 @@ int layout_scan_from_c(void) {
 }
 
 /*
- * Whether a batch from C over the same vectors in one cell, for the nearest to 5, for a query whose word is wrong, and for
- * the nearest to 9, gives the entry (1, 1) with all three read, the refusal 19, and the entry (0, 0) with the first
+ * Whether a batch from C over the same vectors in one cell, for the nearest to 5, for a query whose word is wrong, and
+ * for the nearest to 9, gives the entry (1, 1) with all three read, the refusal 19, and the entry (0, 0) with the first
  * read.
  */
 int layout_batch_from_c(void);
@@ -65,8 +65,8 @@ int layout_batch_from_c(void) {
     struct matcher_answer answers[3] = {{7, 7}, {7, 7}, {7, 7}};
     struct matcher_entry entries[3] = {{7, 7}, {7, 7}, {7, 7}};
     uint32_t reads[9] = {7, 7, 7, 7, 7, 7, 7, 7, 7};
-    if (matcher_batch(1, 0, 3, 1, 3, queries, 3, words, 3, marks, 2, codes, 0, vectors, 3, answers, 3, entries, 3, reads,
-                      9) != 0) {
+    if (matcher_batch(1, 0, 3, 1, 3, queries, 3, words, 3, marks, 2, codes, 0, vectors, 3, answers, 3, entries, 3,
+                      reads, 9) != 0) {
         return 0;
     }
     return answers[0].status == 0 && answers[0].count == 3 && answers[1].status == 19 && answers[1].count == 0
