@@ -20,6 +20,9 @@ use Rattle.batch.specs.declared.Answer.{Answer}
 use Rattle.batch.specs.declared.BatchTerms.{BatchTerms}
 use Rattle.batch.specs.Parts.{partAt, partsFrom, eachFrom}
 
+abbrev pub batchTerms : ℕ → ℕ → ℕ → ℕ → ℕ → BatchTerms
+batchTerms d b n k m = record { d = d; b = b; n = n; k = k; m = m }
+
 -- a library, and m queries of d components with their presence words
 pub record Batch : Type 0 where
   pub terms : BatchTerms
