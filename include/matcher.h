@@ -71,7 +71,8 @@ enum matcher_refusal {
     MATCHER_TOO_FEW_PRESENT = 18, /* fewer than four dimensions present, or fewer than d where d is below four */
     MATCHER_PRESENCE_BIT = 19,    /* a bit of the presence word at or above d */
     MATCHER_FULL = 20,            /* adding to a library of 512 vectors */
-    MATCHER_NOT_REMOVABLE = 21    /* removing a number that is not stored, or the only vector */
+    MATCHER_NOT_REMOVABLE = 21,   /* removing a number that is not stored, or the only vector */
+    MATCHER_TOO_MANY_QUERIES = 22 /* a batch of more than 64 queries */
 };
 
 /* ---- limits */
@@ -80,6 +81,7 @@ enum matcher_refusal {
 #define MATCHER_MAX_DIMENSION_BITS 6   /* b is 0 to this times d */
 #define MATCHER_MAX_VECTORS 512        /* n is 1 to this; k is 1 to n */
 #define MATCHER_MAX_NEIGHBOURS 512     /* k is 1 to n, and never above this */
+#define MATCHER_MAX_QUERIES 64         /* a batch has 0 to this */
 #define MATCHER_KIT_VECTORS 512        /* the most vectors of matcher_match's library */
 #define MATCHER_LEAST_COMPONENT (-32768)
 #define MATCHER_GREATEST_COMPONENT 32767
@@ -378,6 +380,38 @@ uint32_t matcher_search(size_t d, size_t b, size_t n, size_t k, uint32_t word, c
                         const int32_t *marks, size_t marks_len, const uint8_t *codes, size_t codes_len,
                         const int32_t *vectors, size_t vectors_len, struct matcher_entry *entries, size_t entries_len,
                         uint32_t *reads, size_t reads_len, size_t *count);
+
+/* What a batch gives for one of its queries: 0 or the number of its refusal, and the count of the vectors read. */
+struct matcher_answer {
+    uint32_t status;
+    size_t count;
+};
+
+/*
+ * The search for each of m queries, 0 to MATCHER_MAX_QUERIES, with one k. Each query has its part of the buffers, and
+ * the parts stand one behind the other. Those of query i, from 0:
+ *
+ *     queries    d from element i d on: its components
+ *     words      element i: its presence word
+ *     answers    element i: its status and its count
+ *     entries    k from element i k on
+ *     reads      n from element i n on: its read list
+ *
+ * The call is refused for what is wrong with the library, with k or with a length, and then it writes nothing. Else it
+ * gives 0, and each query has what matcher_search gives for it with its parts as buffers, whatever the other queries
+ * are. An answered query has the status 0, its count, its k entries and the front of its read list, which keeps its
+ * content past the count. A refused one has its number as the status and the count 0, and its entries and its read
+ * list stay as they were. With m 0 nothing is written; the library, k and the lengths are tested all the same.
+ * Lengths: queries m d; words m; marks MATCHER_MARKS(d, b); codes MATCHER_CODES(b, n); vectors n d; answers m;
+ * entries m k; reads m n.
+ * Refusals: 22, 1, 2, 3, 4, 5, 7, 9 (any code). Those of a query, in its status: 19, 18, 6 (its components, absent
+ * ones too), 10 (in any dimension).
+ */
+uint32_t matcher_batch(size_t d, size_t b, size_t n, size_t k, size_t m, const int32_t *queries, size_t queries_len,
+                       const uint32_t *words, size_t words_len, const int32_t *marks, size_t marks_len,
+                       const uint8_t *codes, size_t codes_len, const int32_t *vectors, size_t vectors_len,
+                       struct matcher_answer *answers, size_t answers_len, struct matcher_entry *entries,
+                       size_t entries_len, uint32_t *reads, size_t reads_len);
 
 /*
  * ---- the library file and a query from bytes

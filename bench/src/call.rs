@@ -2,6 +2,7 @@
 
 use crate::data::Data;
 use crate::matcher;
+use crate::matcher::batch::{self, Batch};
 use crate::matcher::Entry;
 use crate::peer::file::{self, Loaded};
 use crate::peer::updates::{self, Stock};
@@ -11,6 +12,7 @@ use std::hint::black_box;
 #[derive(Clone, Copy, PartialEq, Debug)]
 pub enum Call {
     Search,
+    Batch,
     Scan,
     Marks,
     Pack,
@@ -26,7 +28,8 @@ pub enum Call {
 #[derive(Clone, Copy, PartialEq, Debug)]
 pub enum Side {
     Matcher,
-    Rust,
+    /// The same work in plain Rust; for a batch, single searches by the matcher.
+    Other,
 }
 
 /// What a call writes.
@@ -35,6 +38,7 @@ pub struct Answer {
     pub entries: Vec<Entry>,
     pub reads: Vec<u32>,
     pub count: usize,
+    batch: Batch,
     marks: Vec<i32>,
     codes: Vec<u8>,
     regions: Vec<u8>,
@@ -49,11 +53,12 @@ impl Answer {
     /// The room for the text of a match.
     const TEXT_ROOM: usize = 14_344;
 
-    pub fn new(data: &Data, k: usize) -> Answer {
+    pub fn new(call: Call, data: &Data, k: usize) -> Answer {
         Answer {
             entries: vec![Entry::default(); k],
             reads: vec![0; data.n],
             count: 0,
+            batch: Batch::room(data, k, call.queries()),
             marks: vec![0; data.marks.len()],
             codes: vec![0; data.codes.len()],
             regions: vec![0; data.regions.len()],
@@ -67,12 +72,12 @@ impl Answer {
 }
 
 impl Side {
-    pub const BOTH: [Side; 2] = [Side::Matcher, Side::Rust];
+    pub const BOTH: [Side; 2] = [Side::Matcher, Side::Other];
 
     pub fn name(self) -> &'static str {
         match self {
             Side::Matcher => "matcher",
-            Side::Rust => "rust",
+            Side::Other => "other",
         }
     }
 }
@@ -80,6 +85,7 @@ impl Side {
 impl Call {
     pub const ALL: &[Call] = &[
         Call::Search,
+        Call::Batch,
         Call::Scan,
         Call::Marks,
         Call::Pack,
@@ -95,6 +101,7 @@ impl Call {
     pub fn name(self) -> &'static str {
         match self {
             Call::Search => "search",
+            Call::Batch => "batch",
             Call::Scan => "scan",
             Call::Marks => "marks",
             Call::Pack => "pack",
@@ -112,6 +119,7 @@ impl Call {
     pub fn target(self) -> Option<f64> {
         match self {
             Call::Search | Call::Scan => Some(1.2),
+            Call::Batch => Some(0.9),
             Call::Pack => Some(1.5),
             Call::Marks | Call::Unpack | Call::Codes | Call::Match => None,
             Call::Add | Call::Remove => Some(0.5),
@@ -130,8 +138,24 @@ impl Call {
     /// The numbers of neighbours that are asked for: any one where the call asks for none.
     pub fn neighbours(self) -> &'static [usize] {
         match self {
-            Call::Search | Call::Scan | Call::Match => &[1, 10, 512],
+            Call::Search | Call::Batch | Call::Scan | Call::Match => &[1, 10, 512],
             _ => &[1],
+        }
+    }
+
+    /// How many queries one call is for. Costs are told of one.
+    pub fn queries(self) -> usize {
+        match self {
+            Call::Batch => Data::BATCH,
+            _ => 1,
+        }
+    }
+
+    /// How many calls are measured together: one for each query of the data, or the batch.
+    pub fn calls(self) -> usize {
+        match self {
+            Call::Batch => 1,
+            _ => Data::QUERIES,
         }
     }
 
@@ -141,7 +165,7 @@ impl Call {
         let data = black_box(data);
         match side {
             Side::Matcher => self.by_matcher(data, i, answer),
-            Side::Rust => self.by_rust(data, i, answer),
+            Side::Other => self.by_other(data, i, answer),
         }
         black_box(answer);
     }
@@ -151,6 +175,10 @@ impl Call {
         let Answer { entries, reads, .. } = answer;
         match self {
             Call::Search => answer.count = matcher::search(data, query, entries, reads),
+            Call::Batch => {
+                batch::in_one_call(data, &mut answer.batch);
+                answer.count = answer.batch.read();
+            }
             Call::Scan => matcher::scan(data, query, entries),
             Call::Marks => matcher::make_marks(data, &data.others[i], &mut answer.marks),
             Call::Pack => matcher::pack(data, &mut answer.codes),
@@ -164,7 +192,7 @@ impl Call {
         }
     }
 
-    fn by_rust(self, data: &Data, i: usize, answer: &mut Answer) {
+    fn by_other(self, data: &Data, i: usize, answer: &mut Answer) {
         let query = &data.queries[i];
         let Answer { entries, reads, .. } = answer;
         let &Data { d, b, word, ref vectors, .. } = data;
@@ -172,6 +200,10 @@ impl Call {
             Call::Search => {
                 let library = Library { d, b, marks: &data.marks, codes: &data.codes, vectors };
                 answer.count = library.search(word, query, entries, reads);
+            }
+            Call::Batch => {
+                batch::in_single_searches(data, &mut answer.batch);
+                answer.count = answer.batch.read();
             }
             Call::Scan => scan::scan(d, word, query, vectors, entries),
             Call::Marks => marks::make(d, b, &data.others[i], &mut answer.marks),
@@ -192,14 +224,14 @@ impl Call {
 
     /// Both sides give the same for each query; the mean count of vectors read.
     pub fn agrees(self, data: &Data, k: usize) -> f64 {
-        let (mut ours, mut theirs) = (Answer::new(data, k), Answer::new(data, k));
+        let (mut ours, mut theirs) = (Answer::new(self, data, k), Answer::new(self, data, k));
         let mut read = 0;
-        for i in 0..Data::QUERIES {
+        for i in 0..self.calls() {
             self.run(Side::Matcher, data, i, &mut ours);
-            self.run(Side::Rust, data, i, &mut theirs);
+            self.run(Side::Other, data, i, &mut theirs);
             assert!(ours == theirs, "{}, d {} b {} n {} k {k}: the sides differ", self.name(), data.d, data.b, data.n);
             read += ours.count;
         }
-        read as f64 / data.queries.len() as f64
+        read as f64 / (self.calls() * self.queries()) as f64
     }
 }

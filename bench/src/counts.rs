@@ -2,7 +2,7 @@
 //! the calls.
 
 use crate::call::{Answer, Call, Side};
-use crate::data::{Data, Spread};
+use crate::data::Spread;
 use crate::table::{print_growth, Row};
 use std::collections::HashMap;
 use std::env;
@@ -16,9 +16,9 @@ pub fn work(words: &[&str]) {
     let side = Side::BOTH.into_iter().find(|s| s.name() == side).expect("a side");
     let spread = Spread::ALL.into_iter().find(|s| s.name() == spread).expect("a spread");
     let data = Row { call, d: number(d), n: number(n), spread, k: number(k) }.data();
-    let mut answer = Answer::new(&data, number(k));
+    let mut answer = Answer::new(call, &data, number(k));
     for _ in 0..number(times) {
-        (0..Data::QUERIES).for_each(|i| call.run(side, &data, i, &mut answer));
+        (0..call.calls()).for_each(|i| call.run(side, &data, i, &mut answer));
     }
 }
 
@@ -42,27 +42,33 @@ fn instructions(row: &Row, side: Side, times: usize) -> f64 {
     count.trim().parse().expect("a count")
 }
 
+/// What is done before the calls depends on these: d, n, the spread, and how many entries there is room for.
+type Before = (usize, usize, &'static str, usize);
+
 /// Thousands of instructions of a call, the mean over the queries, on either side. What is done before the calls is counted once for
-/// each library.
-fn thousands(row: &Row, before: &mut HashMap<(usize, usize, &str), f64>) -> [f64; 2] {
-    let before = *before.entry((row.d, row.n, row.spread.name())).or_insert_with(|| instructions(row, Side::Rust, 0));
-    Side::BOTH.map(|side| (instructions(row, side, 1) - before) / Data::QUERIES as f64 / 1000.0)
+/// each library and room.
+fn thousands(row: &Row, before: &mut HashMap<Before, f64>) -> [f64; 2] {
+    let &Row { call, d, n, spread, k } = row;
+    let room = call.queries() * k;
+    let before = *before.entry((d, n, spread.name(), room)).or_insert_with(|| instructions(row, Side::Other, 0));
+    let queries = (call.calls() * call.queries()) as f64;
+    Side::BOTH.map(|side| (instructions(row, side, 1) - before) / queries / 1000.0)
 }
 
 pub fn print() {
     let mut before = HashMap::new();
-    println!("\nInstructions of a call by callgrind, thousands");
+    println!("\nInstructions of a call, of a query in a batch, by callgrind, thousands");
     Row::print_heads("k");
     for row in Row::all(Call::ALL) {
-        let [matcher, rust] = thousands(&row, &mut before);
-        row.print(row.call.agrees(&row.data(), row.k), matcher, rust);
+        let [matcher, other] = thousands(&row, &mut before);
+        row.print(row.call.agrees(&row.data(), row.k), matcher, other);
     }
     println!("\nInstructions as a multiple of n log n, n 64 being 1: d 8, uniform, k 10");
     for rows in Row::growing().chunks(4) {
         let costs: Vec<_> = rows.iter().map(|row| (row.n, thousands(row, &mut before))).collect();
-        for (i, side) in Side::BOTH.into_iter().enumerate() {
+        for (i, side) in ["matcher", "rust"].into_iter().enumerate() {
             let costs: Vec<_> = costs.iter().map(|(n, cost)| (*n, cost[i])).collect();
-            print_growth(&format!("{} by {}", rows[0].call.name(), side.name()), &costs);
+            print_growth(&format!("{} by {side}", rows[0].call.name()), &costs);
         }
     }
 }

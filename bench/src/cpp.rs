@@ -82,7 +82,7 @@ pub fn print() {
         println!(" d  data       k      matcher  {:>11}   ratio", peer.name);
         for row in Row::all(&[Call::Search]) {
             let data = row.data();
-            let (mut answer, mut index) = (Answer::new(&data, row.k), Index::new(peer, &data, row.k));
+            let (mut answer, mut index) = (Answer::new(row.call, &data, row.k), Index::new(peer, &data, row.k));
             index.agrees(&data, &mut answer);
             let times = in_turns(
                 ROUNDS,

@@ -36,6 +36,9 @@ pub struct Data {
     pub queries: Vec<Vec<i32>>,
     /// The queries' presence word: every dimension is present.
     pub word: u32,
+    /// Other fresh queries one behind the other, as many as go into one batch, and their words.
+    pub batch: Vec<i32>,
+    pub words: Vec<u32>,
     /// As many other sets of vectors as there are queries: marks are made from another set each time, since a processor learns the
     /// branches of a sort that it sees again.
     pub others: Vec<Vec<i32>>,
@@ -45,6 +48,7 @@ pub struct Data {
 
 impl Data {
     pub const QUERIES: usize = 32;
+    pub const BATCH: usize = 64;
     const CENTRES: usize = 16;
     const REACH: i32 = 1024;
 
@@ -69,6 +73,8 @@ impl Data {
         let vectors: Vec<i32> = (0..n).flat_map(|_| vector()).collect();
         let queries = (0..Self::QUERIES).map(|_| vector()).collect();
         let others = (0..Self::QUERIES).map(|_| (0..n).flat_map(|_| vector()).collect()).collect();
+        let batch = (0..Self::BATCH).flat_map(|_| vector()).collect();
+        let word = u32::MAX >> (32 - d);
         let mut data = Data {
             d,
             b,
@@ -80,7 +86,9 @@ impl Data {
             settings: (1..=n as u32).collect(),
             bytes: Vec::new(),
             queries,
-            word: u32::MAX >> (32 - d),
+            word,
+            batch,
+            words: vec![word; Self::BATCH],
             others,
             matches: Vec::new(),
         };

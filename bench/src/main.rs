@@ -30,13 +30,17 @@ fn main() {
 }
 
 fn measure(row: &Row, data: &Data) -> Times {
-    let (mut ours, mut theirs) = (Answer::new(data, row.k), Answer::new(data, row.k));
-    let all = |side, answer: &mut Answer| (0..Data::QUERIES).for_each(|i| row.call.run(side, data, i, answer));
-    timing::in_turns(ROUNDS, Data::QUERIES, || all(Side::Matcher, &mut ours), || all(Side::Rust, &mut theirs))
+    let [mut ours, mut theirs] = Side::BOTH.map(|_| Answer::new(row.call, data, row.k));
+    let all = |side, answer: &mut Answer| (0..row.call.calls()).for_each(|i| row.call.run(side, data, i, answer));
+    let queries = row.call.calls() * row.call.queries();
+    timing::in_turns(ROUNDS, queries, || all(Side::Matcher, &mut ours), || all(Side::Other, &mut theirs))
 }
 
 fn print_times() {
-    println!("\nTimes of a call, microseconds, {ROUNDS} rounds in turns, medians");
+    println!(
+        "\nTimes of a call, of a query in a batch of {}, microseconds, {ROUNDS} rounds in turns, medians",
+        Data::BATCH
+    );
     Row::print_heads("us");
     for row in Row::all(Call::ALL) {
         let data = row.data();

@@ -1,5 +1,6 @@
 //! The matcher's C interface. Safe for each call: a pointer leads to as many elements as are named with it, or to one.
 
+pub mod batch;
 pub mod files;
 pub mod updates;
 

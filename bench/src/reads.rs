@@ -19,7 +19,7 @@ fn library(row: &Row, divisor: i32, make: fn(usize, usize, &[i32], &mut [i32])) 
 /// The codes are the same with both marks, and so are a search's entries for each query.
 fn agree(k: usize, former: &Data, made: &Data) {
     assert!(former.codes == made.codes, "the codes differ");
-    let [mut before, mut now] = [former, made].map(|data| Answer::new(data, k));
+    let [mut before, mut now] = [former, made].map(|data| Answer::new(Call::Search, data, k));
     for i in 0..Data::QUERIES {
         Call::Search.run(Side::Matcher, former, i, &mut before);
         Call::Search.run(Side::Matcher, made, i, &mut now);

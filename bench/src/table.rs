@@ -40,23 +40,25 @@ impl Row {
     }
 
     pub fn print_heads(unit: &str) {
+        println!("The other side is plain Rust; for a batch it is the matcher, by single searches.");
         println!(
             "call     d  n   data      k    read  {:>11} {:>11}  ratio target",
             format!("matcher {unit}"),
-            format!("rust {unit}")
+            format!("other {unit}")
         );
     }
 
     /// The two costs, in a unit that `print_heads` names, with their ratio as a bar: a mark for each tenth, `|` at the target.
-    pub fn print(&self, read: f64, matcher: f64, rust: f64) {
-        let ratio = matcher / rust;
+    pub fn print(&self, read: f64, matcher: f64, other: f64) {
+        let ratio = matcher / other;
         let (target, verdict) = match self.call.target() {
             Some(target) => (format!("{target:.1}"), if ratio <= target { "" } else { " over" }),
             None => (String::new(), ""),
         };
-        let read = if self.call == Call::Search { format!("{read:.1}") } else { String::new() };
+        let reads = [Call::Search, Call::Batch].contains(&self.call);
+        let read = if reads { format!("{read:.1}") } else { String::new() };
         println!(
-            "{:7} {:2} {:3}  {:9} {:3} {read:>6}  {matcher:11.1} {rust:11.1} {ratio:6.2} {target:>6}  {}{verdict}",
+            "{:7} {:2} {:3}  {:9} {:3} {read:>6}  {matcher:11.1} {other:11.1} {ratio:6.2} {target:>6}  {}{verdict}",
             self.call.name(),
             self.d,
             self.n,

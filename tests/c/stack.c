@@ -28,6 +28,10 @@ static uint8_t codes[MATCHER_MAX_CODES], regions[MATCHER_MAX_COMPONENTS];
 static int32_t new_vectors[MATCHER_MAX_COMPONENTS];
 static uint32_t new_settings[MATCHER_MAX_VECTORS];
 static uint8_t new_codes[MATCHER_MAX_CODES];
+static int32_t queries[MATCHER_MAX_QUERIES * MATCHER_MAX_DIMENSIONS];
+static uint32_t words[MATCHER_MAX_QUERIES], batch_reads[MATCHER_MAX_QUERIES * MATCHER_MAX_VECTORS];
+static struct matcher_answer answers[MATCHER_MAX_QUERIES];
+static struct matcher_entry batch_entries[MATCHER_MAX_QUERIES * MATCHER_MAX_NEIGHBOURS];
 
 #define MARKS marks, MATCHER_MARKS(d, b)
 #define VECTORS vectors, n * d
@@ -81,6 +85,10 @@ CALL(distance, query, d, vectors, d, &distance)
 CALL(bounds, d, b, n, word, query, d, MARKS, CODES, lowers, n, uppers, n)
 CALL(scan, d, n, n, word, query, d, VECTORS, entries, n)
 CALL(search, d, b, n, n, word, query, d, MARKS, CODES, VECTORS, entries, n, reads, n, &place)
+/* as many queries as there can be, each the one of the input */
+CALL(batch, d, b, n, n, MATCHER_MAX_QUERIES, queries, MATCHER_MAX_QUERIES * d, words, MATCHER_MAX_QUERIES, MARKS, CODES,
+     VECTORS, answers, MATCHER_MAX_QUERIES, batch_entries, MATCHER_MAX_QUERIES * n, batch_reads,
+     MATCHER_MAX_QUERIES * n)
 CALL(match, input, length, output, MATCHER_MAX_TEXT, &place)
 
 static void *run_nothing(void *argument)
@@ -158,6 +166,14 @@ int main(void)
     MEASURE(bounds);
     MEASURE(scan);
     MEASURE(search);
+    for (size_t i = 0; i < MATCHER_MAX_QUERIES; i++) {
+        memcpy(queries + i * d, query, d * sizeof query[0]);
+        words[i] = word;
+    }
+    MEASURE(batch);
+    for (size_t i = 0; i < MATCHER_MAX_QUERIES; i++)
+        if (answers[i].status != 0 || answers[i].count != n)
+            return 2;
     MEASURE(match);
     return 0;
 }

@@ -6,6 +6,8 @@ use std::fmt::Debug;
 /// One thing that calls are given.
 #[derive(Clone, Copy, PartialEq, Eq, Debug)]
 pub enum Given {
+    /// the number of a batch's queries
+    M,
     D,
     B,
     N,
@@ -36,6 +38,10 @@ pub enum Given {
     Number,
     /// vectors that the call reads if the reading order does
     Cells,
+    /// the queries of a batch, one behind the other
+    Queries,
+    /// their presence words
+    Words,
     RoomMarks,
     RoomRegions,
     RoomCodes,
@@ -47,6 +53,9 @@ pub enum Given {
     RoomNewVectors,
     RoomNewSettings,
     RoomNewCodes,
+    RoomAnswers,
+    RoomBatchEntries,
+    RoomBatchReads,
 }
 
 /// A call, in the interface and in the reference.
@@ -128,11 +137,17 @@ pub const SEARCH: Call = call!(
     [D, B, N, K, Word, Query, Marks, Codes, Vectors, Cells, RoomEntries, RoomReads],
     [1, 2, 3, 4, 19, 18, 5, 6, 7, 9, 10]
 );
+/// The causes are those of the whole batch; a query's own are in its status.
+pub const BATCH: Call = call!(
+    batch,
+    [M, D, B, N, K, Queries, Words, Marks, Codes, Vectors, RoomAnswers, RoomBatchEntries, RoomBatchReads],
+    [22, 1, 2, 3, 4, 5, 7, 9]
+);
 pub const WRITE: Call = call!(write, [D, B, N, Marks, Settings, Vectors, Components, RoomBytes], [1, 2, 3, 5, 6, 7, 8]);
 pub const LIBRARY_LENGTH: Call = call!(library_length, [D, B, N], [1, 2, 3]);
 
 /// All of them.
-pub const ALL: [&Call; 19] = [
+pub const ALL: [&Call; 20] = [
     &STRETCH,
     &CHECK_MARKS,
     &PART,
@@ -150,6 +165,7 @@ pub const ALL: [&Call; 19] = [
     &BOUNDS,
     &SCAN,
     &SEARCH,
+    &BATCH,
     &WRITE,
     &LIBRARY_LENGTH,
 ];

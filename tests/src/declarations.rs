@@ -42,6 +42,7 @@ fn c_type(name: &str) -> Option<&'static str> {
         "usize" => "size_t",
         "f32" => "float",
         "Entry" => "struct matcher_entry",
+        "Answer" => "struct matcher_answer",
         _ => return None,
     })
 }

@@ -1,16 +1,17 @@
 //! What can be wrong with an input, each fault with its cause's number, and the calls held to the order of the causes.
 
 use crate::{
-    calls::{Call, Given},
+    calls::{Call, Given, BATCH, SEARCH},
     input::Input,
-    reference,
+    interface, reference,
     samples::{GREATEST, LEAST},
 };
 use Given::*;
 
 /// The causes of calls on numbers, in the order in which they are tested: that of document 01's table, with "18 .. after 19
-/// in search and scan" and "19 .. after 4" (document 02, Slip 1), and with 20 and 21, "both straight after 5" (Slip 3).
-const ORDER: [u32; 14] = [1, 2, 3, 4, 19, 18, 5, 20, 21, 6, 7, 8, 9, 10];
+/// in search and scan" and "19 .. after 4" (document 02, Slip 1), with 20 and 21, "both straight after 5" (Slip 3), and with
+/// 22, "before all else" (Slip 5).
+const ORDER: [u32; 15] = [22, 1, 2, 3, 4, 19, 18, 5, 20, 21, 6, 7, 8, 9, 10];
 
 /// A cause's place in the order.
 fn place_of(cause: u32) -> usize {
@@ -33,7 +34,7 @@ impl Fault {
 }
 
 /// Buffers whose length is fixed by the other numbers.
-const BUFFERS: [Given; 19] = [
+const BUFFERS: [Given; 24] = [
     Query,
     Marks,
     DimensionMarks,
@@ -53,6 +54,11 @@ const BUFFERS: [Given; 19] = [
     RoomNewVectors,
     RoomNewSettings,
     RoomNewCodes,
+    Queries,
+    Words,
+    RoomAnswers,
+    RoomBatchEntries,
+    RoomBatchReads,
 ];
 
 fn length(input: &Input, buffer: Given) -> usize {
@@ -75,6 +81,11 @@ fn length(input: &Input, buffer: Given) -> usize {
         RoomNewVectors => input.room.new_vectors,
         RoomNewSettings => input.room.new_settings,
         RoomNewCodes => input.room.new_codes,
+        Queries => input.batch.queries.len(),
+        Words => input.batch.words.len(),
+        RoomAnswers => input.room.answers,
+        RoomBatchEntries => input.room.batch_entries,
+        RoomBatchReads => input.room.batch_reads,
         Pair | NewVector => input.one.vector.len(),
         other => panic!("{other:?} is no buffer"),
     }
@@ -102,6 +113,11 @@ fn resize(input: &mut Input, buffer: Given, length: usize) {
         RoomNewVectors => input.room.new_vectors = length,
         RoomNewSettings => input.room.new_settings = length,
         RoomNewCodes => input.room.new_codes = length,
+        Queries => input.batch.queries.resize(length, 0),
+        Words => input.batch.words.resize(length, reference::full_word(input.d)),
+        RoomAnswers => input.room.answers = length,
+        RoomBatchEntries => input.room.batch_entries = length,
+        RoomBatchReads => input.room.batch_reads = length,
         Pair | NewVector => input.one.vector.resize(length, 0),
         other => panic!("{other:?} is no buffer"),
     }
@@ -168,6 +184,8 @@ fn faults(input: &Input) -> Vec<Fault> {
     let mut faults = Faults(vec![]);
     let Input { d, b, n, k, j, .. } = *input;
 
+    let too_many = [65, 66, 128, input.batch.m + WIDE, input.batch.m + (1 << 58), 1 << 63, usize::MAX];
+    faults.counts(22, &[M], &too_many, |input| &mut input.batch.m);
     faults.counts(1, &[D], &[0, 33, 64, d + WIDE, 1 << 63, usize::MAX], |input| &mut input.d);
     faults.counts(1, &[J], &[0, d + 1, 33, j + WIDE, usize::MAX], |input| &mut input.j);
     for length in [0, 33, 64] {
@@ -354,6 +372,69 @@ pub fn assert_same_refusals(call: &Call, pairs: &[[Input; 2]]) {
         causes.extend(faults.iter().map(|fault| fault.cause));
     }
     assert_tried(call, causes, &due);
+}
+
+/// The causes that are a query's own in a batch, in the order in which they are tested.
+const OF_A_QUERY: [u32; 4] = [19, 18, 6, 10];
+
+/// The faults of a batch that is right which refuse one of its queries: those of a single search for it that are the query's
+/// own.
+fn faults_of_query(input: &Input, i: usize) -> Vec<Fault> {
+    let own = faults_for(&SEARCH, &input.single(i)).into_iter().filter(|fault| OF_A_QUERY.contains(&fault.cause));
+    let in_batch = |Fault { cause, name, of, make }: Fault| {
+        let make = move |input: &mut Input| {
+            let mut single = input.single(i);
+            make(&mut single);
+            input.batch.queries[i * input.d..(i + 1) * input.d].copy_from_slice(&single.query);
+            (input.batch.words[i], input.vectors) = (single.word, single.vectors);
+        };
+        Fault { cause, name: format!("query {i}: {name}"), of, make: Box::new(make) }
+    };
+    own.map(in_batch).collect()
+}
+
+/// Each fault of each query refuses it with its number, and not the batch. Of any two faults of a query the one whose cause
+/// is tested first decides. The other queries have what they had, unless a vector is another. Each cause of a query is
+/// there.
+pub fn assert_query_refusals(inputs: &[Input]) {
+    let mut causes = vec![];
+    for input in inputs {
+        for i in 0..input.batch.m {
+            let faults = faults_of_query(input, i);
+            for (place, second) in faults.iter().enumerate() {
+                assert_query_refused(input, i, &[second]);
+                faults[..place].iter().for_each(|first| assert_query_refused(input, i, &[second, first]));
+            }
+            causes.extend(faults.iter().map(|fault| fault.cause));
+        }
+    }
+    causes.sort_by_key(|&cause| place_of(cause));
+    causes.dedup();
+    assert_eq!(causes, OF_A_QUERY, "the causes of a query that were tried");
+}
+
+fn assert_query_refused(input: &Input, i: usize, faults: &[&Fault]) {
+    let faulty = spoilt(input, faults);
+    BATCH.gives(0, &faulty);
+    let _told = faulty.told();
+    let outcomes = interface::batch(&faulty).expect("the batch is not refused");
+    let cause = faults.iter().map(|fault| fault.cause).min_by_key(|&cause| place_of(cause));
+    assert_eq!(outcomes[i].as_ref().err(), cause.as_ref(), "query {i}: the number due is on the right");
+    if faulty.vectors == input.vectors {
+        let mut others = interface::batch(input).expect("the input is right");
+        others[i] = outcomes[i].clone();
+        assert_eq!(outcomes, others, "the other queries before are on the right");
+    }
+}
+
+/// With any fault of a query, each fault of the batch refuses it whole, with its number.
+pub fn assert_refused_whole(inputs: &[Input]) {
+    for input in inputs {
+        let whole = faults_for(&BATCH, input);
+        for of_query in (0..input.batch.m).flat_map(|i| faults_of_query(input, i)) {
+            whole.iter().for_each(|fault| BATCH.gives(fault.cause, &spoilt(input, &[&of_query, fault])));
+        }
+    }
 }
 
 fn assert_in_order(call: &Call, input: &Input, faults: &[Fault]) {

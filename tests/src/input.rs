@@ -23,6 +23,7 @@ pub struct Input {
     pub regions: Vec<u8>,
     pub codes: Vec<u8>,
     pub one: One,
+    pub batch: Batch,
     pub room: Room,
 }
 
@@ -62,6 +63,14 @@ pub struct One {
     pub value: i32,
 }
 
+/// What a batch is given beside the library and k: so many queries, each of d components, and their presence words.
+#[derive(Clone, PartialEq, Eq, Debug)]
+pub struct Batch {
+    pub m: usize,
+    pub queries: Vec<i32>,
+    pub words: Vec<u32>,
+}
+
 /// The lengths of the buffers that calls fill.
 #[derive(Clone, PartialEq, Eq, Debug)]
 pub struct Room {
@@ -77,6 +86,10 @@ pub struct Room {
     pub new_vectors: usize,
     pub new_settings: usize,
     pub new_codes: usize,
+    /// for all queries of a batch
+    pub answers: usize,
+    pub batch_entries: usize,
+    pub batch_reads: usize,
 }
 
 /// The lengths of the buffers that loading fills.
@@ -114,6 +127,14 @@ pub struct Entry {
     pub distance: u64,
 }
 
+/// A query's status in a batch and the count of the vectors read, laid out as in C; `layout.c` holds C to the same.
+#[repr(C)]
+#[derive(Clone, Copy, PartialEq, Eq, Debug)]
+pub struct Answer {
+    pub status: u32,
+    pub count: usize,
+}
+
 /// A search's answer, and the numbers read, in reading order.
 #[derive(Clone, PartialEq, Eq, Debug)]
 pub struct Found {
@@ -121,7 +142,7 @@ pub struct Found {
     pub reads: Vec<u32>,
 }
 
-/// A query that was taken in by the second intake: its components, 0 where absent, and its presence word.
+/// A query: its components and its presence word. Where the second intake took it in, absent components are 0.
 #[derive(Clone, PartialEq, Eq, Debug)]
 pub struct Query {
     pub components: Vec<i32>,

@@ -1,8 +1,9 @@
-//! Document 01 in Rust, with the change requests of document 02 that have landed (the first three), written from the
+//! Document 01 in Rust, with the change requests of document 02 that have landed (the first five), written from the
 //! documents alone: what the matcher's answers are held to. Where there is an obvious method, this is another one. A
 //! call's outcome is what it answers, or the number of the refusal.
 
 mod approximation;
+mod batch;
 mod causes;
 mod distance;
 mod library;
@@ -14,6 +15,7 @@ mod search;
 mod updates;
 
 pub use approximation::{check_codes, codes_length, pack, pack_vectors, packed, regions_of, unpack};
+pub use batch::batch;
 pub use distance::{bounds, cell_vectors, distance, distance_between};
 pub use library::{bytes_length, library_length, load, query, query_present, write};
 pub use partition::{

@@ -1,7 +1,7 @@
 //! Inputs that no call refuses: document 01's own, and random ones.
 
 use crate::{
-    input::{Input, Loaded, One, Room},
+    input::{Batch, Input, Loaded, One, Query, Room},
     random::Random,
     reference,
 };
@@ -46,6 +46,9 @@ pub fn input(d: usize, b: usize, marks: &[i32], vectors: &[i32], query: &[i32], 
         new_vectors: 0,
         new_settings: 0,
         new_codes: 0,
+        answers: 0,
+        batch_entries: 0,
+        batch_reads: 0,
     };
     Input {
         origin: String::new(),
@@ -62,6 +65,7 @@ pub fn input(d: usize, b: usize, marks: &[i32], vectors: &[i32], query: &[i32], 
         regions,
         codes,
         one,
+        batch: Batch { m: 0, queries: vec![], words: vec![] },
         room,
     }
 }
@@ -69,7 +73,7 @@ pub fn input(d: usize, b: usize, marks: &[i32], vectors: &[i32], query: &[i32], 
 impl Input {
     /// The same for the k nearest.
     pub fn with_k(mut self, k: usize) -> Input {
-        (self.k, self.room.entries) = (k, k);
+        (self.k, self.room.entries, self.room.batch_entries) = (k, k, self.batch.m * k);
         self
     }
 
@@ -118,6 +122,33 @@ impl Input {
         let codes = reference::codes_length(count, self.b);
         (self.room.new_vectors, self.room.new_settings, self.room.new_codes) = (count * self.d, count, codes);
         self
+    }
+
+    /// The same with a batch of these queries, and the room for it.
+    pub fn with_batch(mut self, queries: &[Query]) -> Input {
+        let m = queries.len();
+        let components = queries.iter().flat_map(|query| query.components.clone()).collect();
+        let words = queries.iter().map(|query| query.word).collect();
+        self.batch = Batch { m, queries: components, words };
+        (self.room.answers, self.room.batch_entries, self.room.batch_reads) = (m, m * self.k, m * self.n);
+        self
+    }
+
+    /// The batch's query of this number, from 0.
+    pub fn query_of(&self, i: usize) -> Query {
+        let components = self.batch.queries[i * self.d..(i + 1) * self.d].to_vec();
+        Query { components, word: self.batch.words[i] }
+    }
+
+    /// The batch's queries.
+    pub fn queries(&self) -> Vec<Query> {
+        (0..self.batch.m).map(|i| self.query_of(i)).collect()
+    }
+
+    /// The same for a search by one of the batch's queries.
+    pub fn single(&self, i: usize) -> Input {
+        let Query { components, word } = self.query_of(i);
+        Input { query: components, word, ..self.clone() }
     }
 
     pub fn from(mut self, origin: String) -> Input {
@@ -189,6 +220,16 @@ pub fn random_word_of(random: &mut Random, d: usize, count: usize) -> u32 {
     let mut dimensions: Vec<usize> = (0..d).collect();
     let chosen: Vec<usize> = (0..count).map(|_| dimensions.swap_remove(random.below(dimensions.len()))).collect();
     reference::word_of((0..d).map(|dimension| chosen.contains(&dimension)))
+}
+
+/// So many random queries of a library, each with a word that is allowed.
+pub fn random_queries(random: &mut Random, input: &Input, m: usize) -> Vec<Query> {
+    let &Input { d, b, ref vectors, ref marks, .. } = input;
+    let mut query = |_| {
+        let components = random_query(random, d, b, vectors, marks);
+        Query { components, word: random_word(random, d) }
+    };
+    (0..m).map(&mut query).collect()
 }
 
 /// A random library of this shape, with a query.

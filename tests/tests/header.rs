@@ -60,7 +60,7 @@ fn no_refusal_has_another_number() {
     let (_, rest) = header.split_once("enum matcher_refusal {").expect("the header has the refusals");
     let (listed, _) = rest.split_once('}').expect("the list ends");
     let listed: Vec<&str> = listed.split(',').map(str::trim).collect();
-    assert_eq!(listed.len(), 22);
+    assert_eq!(listed.len(), 23);
     assert_eq!(listed, numbers, "the header, and crates/refusal");
 }
 
@@ -157,7 +157,7 @@ fn no_limit_is_another() {
     let print = |(name, _): &(String, String)| format!("    printf(\"%lld\\n\", (long long)(MATCHER_{name}));\n");
     let lines = printed("limits.c", &limits.iter().map(print).collect::<String>());
     let named: Vec<(String, String)> = limits.iter().map(|(name, _)| name.clone()).zip(lines).collect();
-    assert_eq!(named.len(), 12);
+    assert_eq!(named.len(), 13);
     assert_eq!(named, limits, "the header, and crates/limits, crates/reading and crates/presence");
 }
 

@@ -75,6 +75,21 @@ fn no_command_in_the_yard_prints_otherwise_than_the_readme_shows() {
     assert_eq!(c::output(shell.current_dir(beside_the_repository("readme"))), *shown, "README.md is on the right");
 }
 
+/// README.md's commands for the workshop. One of the queries is refused, and the exit status says so.
+#[test]
+fn no_command_in_the_workshop_prints_otherwise_than_the_readme_shows() {
+    let readme = read("README.md");
+    let in_the_workshop = blocks(section(&readme, "In the workshop"));
+    let [compile, commands, shown] = &in_the_workshop[..] else {
+        panic!("other blocks: {in_the_workshop:?}");
+    };
+    let mut shell = Command::new("/bin/sh");
+    shell.args(["-e", "-c", &[&compile[..], commands].concat()]);
+    let output = shell.current_dir(beside_the_repository("readme_workshop")).output().expect("the shell runs");
+    let printed = (c::text(&output), output.status.code());
+    assert_eq!(printed, (shown.clone(), Some(1)), "README.md is on the right: {output:?}");
+}
+
 /// The rows `| cell | cell | ..` of a text that begin with a number, by their first two cells.
 fn numbered(text: &str) -> Vec<String> {
     let cells = text.lines().filter_map(|line| line.strip_prefix("| ")).map(|row| row.split(" | "));
@@ -90,7 +105,7 @@ fn no_refusal_has_another_number() {
     let rows =
         source.lines().filter_map(|line| line.trim().strip_prefix("Refusal::")?.strip_suffix(',')?.split_once(" => "));
     let numbers: Vec<String> = rows.map(|(name, number)| format!("`{name}` {number}")).collect();
-    assert_eq!(numbers.len(), 21);
+    assert_eq!(numbers.len(), 22);
     assert_eq!(numbered(told), numbers, "docs/FORMAT.md, and crates/refusal");
 }
 

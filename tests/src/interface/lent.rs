@@ -1,9 +1,9 @@
 //! Buffers lent to a call: after it, what it had no right to change is as it was.
 
-use crate::input::Entry;
+use crate::input::{Answer, Entry};
 use std::fmt::Debug;
 
-/// Numbers that a buffer can hold, and entries of them.
+/// Numbers that a buffer can hold, and entries and answers of them.
 pub trait Number: Copy + PartialEq + Debug {
     fn of_bits(bits: u64) -> Self;
 }
@@ -17,6 +17,12 @@ number!(u8, u32, i32, u64, usize);
 impl Number for Entry {
     fn of_bits(bits: u64) -> Entry {
         Entry { number: u32::of_bits(bits), distance: bits.rotate_left(32) }
+    }
+}
+
+impl Number for Answer {
+    fn of_bits(bits: u64) -> Answer {
+        Answer { status: u32::of_bits(bits), count: usize::of_bits(bits.rotate_left(32)) }
     }
 }
 
@@ -85,6 +91,23 @@ impl<T: Number> Lent<T> {
     #[track_caller]
     pub fn filled(&self, number: u32) -> Result<Vec<T>, u32> {
         self.filled_to(self.len(), number)
+    }
+
+    /// What the call wrote of a buffer in parts of a length each: in each part so many of the first elements. All else is
+    /// as it was.
+    #[track_caller]
+    pub fn filled_parts(&self, length: usize, written: &[usize]) -> Vec<Vec<T>> {
+        assert_eq!(self.len(), length * written.len(), "{} parts of {length} elements", written.len());
+        let mut due = self.before.clone();
+        let mut parts = vec![];
+        for (part, &written) in written.iter().enumerate() {
+            assert!(written <= length, "{written} elements are more than part {part} of {length}");
+            let front = Self::MARGIN + part * length..Self::MARGIN + part * length + written;
+            due[front.clone()].copy_from_slice(&self.all[front.clone()]);
+            parts.push(self.all[front].to_vec());
+        }
+        assert_eq!(self.all, due, "written past the first {written:?} of parts of {length}");
+        parts
     }
 }
 

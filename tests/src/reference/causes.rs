@@ -133,3 +133,8 @@ pub fn room_for_one_more(n: usize) -> Checked {
 pub fn removable(n: usize, number: usize) -> Checked {
     refused_unless(n > 1 && (0..n).contains(&number), 21)
 }
+
+/// 22 (document 02, Slip 5): "more than 64 queries".
+pub fn queries(m: usize) -> Checked {
+    refused_unless(m <= 64, 22)
+}
