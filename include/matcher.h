@@ -35,7 +35,8 @@
  * stands with it.
  *
  * The calls use no heap, keep nothing from one call to the next, and do no input or output. So they can run at the
- * same time, each on what it is given. A call uses at most 51 KiB of stack, matcher_match at most 160 KiB.
+ * same time, each on what it is given. A call uses at most 69 KiB of stack, matcher_batch at most 93 KiB,
+ * matcher_match at most 160 KiB.
  */
 #ifndef MATCHER_H
 #define MATCHER_H

@@ -8,9 +8,10 @@ use tests::{
     matches::Match,
 };
 
-/// What the header says: "A call uses at most .. KiB of stack, matcher_match at most .. KiB."
+/// What the header says: "A call uses at most .. KiB of stack, matcher_batch at most .. KiB, matcher_match at most .. KiB."
 struct Stated {
     any: usize,
+    batch: usize,
     whole_match: usize,
 }
 
@@ -23,14 +24,18 @@ impl Stated {
             let (number, _) = rest.split_once(" KiB").expect("a number of KiB stands there");
             1024 * number.parse::<usize>().expect("a number of KiB stands there")
         };
-        Stated { any: kib("A call uses at most "), whole_match: kib("matcher_match at most ") }
+        Stated {
+            any: kib("A call uses at most "),
+            batch: kib("matcher_batch at most "),
+            whole_match: kib("matcher_match at most "),
+        }
     }
 
     fn most(&self, name: &str) -> usize {
-        if name == "matcher_match" {
-            self.whole_match
-        } else {
-            self.any
+        match name {
+            "matcher_match" => self.whole_match,
+            "matcher_batch" => self.batch,
+            _ => self.any,
         }
     }
 }

@@ -1,15 +1,15 @@
 -- What holds where a batch is not refused whole: each of its queries has the single search's verdict by its own causes alone, and finds its
 -- library ready. Assumes nothing.
-use mathlib.Core.Path.{_≡_, refl, sym, ap, _∙_}
-use mathlib.Core.Bool.{true, _&&_, and-eq-true-iff}
-use mathlib.Core.List.{List, _++_}
-use Prim.Native.Nat.{ℕ, _*_, _≤_, _<_, min}
+use mathlib.Core.Path.{_≡_, refl, ap, _∙_}
+use mathlib.Core.Bool.{true, and-eq-true-iff}
+use mathlib.Core.List.{List}
+use Prim.Native.Nat.{ℕ, _*_, _≤_, _<_}
 use native.Mathlib.Omega.{arith}
 use borrow.Author.Tests.{not-false, leb-true, eqb-true}
-use lib.ListN.{length, take, drop, length-append, length-drop, length-take}
+use lib.ListN.{length, drop, length-append, length-drop, length-take}
 use Rattle.refusal.specs.declared.Verdict.{Verdict}
 use Rattle.refusal.specs.declared.Verdict.the-variants.{Accepted, Refused}
-use Rattle.refusal.specs.First.{first, passed, outcome, accepted-front, accepted-behind}
+use Rattle.refusal.specs.First.{first, passed, accepted-front, accepted-behind}
 use Rattle.limits.specs.Limits.{maxVectors, maxQueries, isVectorCount, isNeighbourCount, isDimensionCount, isBits}
 use Rattle.limits.specs.Tests.{between, neighbours}
 use Rattle.presence.specs.Presence.{wordCauses}
@@ -26,7 +26,6 @@ use Rattle.search.specs.Search.{Index, Query, numbersIn, lowIn, searched}
 use Rattle.search.specs.Accepted.{lengths-exact, best-size}
 use Rattle.search.specs.Ready.{Ready}
 use Rattle.search.specs.Theorems.{reads-are-the-order}
-use Rattle.batch.specs.Parts.{partAt}
 use Rattle.batch.specs.PartLaws.{part-length}
 use Rattle.batch.specs.Batch.{Batch, libraryIn, queryIn, partRoom, verdictIn, entriesIn, readsIn, queryCausesIn}
 use Rattle.batch.specs.BatchCauses.{lengthsOf, exactBatch, shapedBatchCauses, batchCauses}
@@ -148,7 +147,8 @@ reads-few l query k =
     let count = ap length (reads-are-the-order l query k) ∙ length-take (length (searched l query k .reads)) _ in
     omega (arith, order, count)
 
-pub entries-part : (batch : Batch) (i : ℕ) (part : List Entry) → length part ≡ batch .terms .k → length (entriesIn batch i part) ≡ batch .terms .k
+pub entries-part : (batch : Batch) (i : ℕ) (part : List Entry) → length part ≡ batch .terms .k → length (entriesIn batch i part) ≡ batch
+    .terms .k
 entries-part batch i part size = go (verdictIn batch i) refl
   where
     go : (v : Verdict) → verdictIn batch i ≡ v → length (entriesIn batch i part) ≡ batch .terms .k

@@ -2,7 +2,7 @@
 use mathlib.Core.Path.{_≡_, refl, sym, ap, _∙_}
 use mathlib.Core.List.{List, [], _∷_, _++_, append-assoc, append-nil}
 use Prim.Native.Nat.{ℕ, zero, suc, _+_, _*_, _≤_, _<_}
-use native.Mathlib.Nat.{zero-mul, suc-mul, mul-le-mul-right, le-of-eq, add-zero}
+use native.Mathlib.Nat.{zero-mul, suc-mul, mul-le-mul-right, le-of-eq}
 use native.Mathlib.Numerals.{add-one}
 use native.Mathlib.Omega.{arith}
 use lib.ListN.{length, take, drop, getD, set, length-append, length-drop}
@@ -112,7 +112,8 @@ pub changed-one : {A : Type 0} (i : ℕ) (new old : List A) (none : A) → i < l
     → set (changed i new old) i (getD new i none) ≡ changed (i + 1) new old
 changed-one i new old none more room = rw add-one (go i new old more room)
   where
-    go : (i : ℕ) (new old : List _) → i < length new → i < length old → set (changed i new old) i (getD new i none) ≡ changed (suc i) new old
+    go : (i : ℕ) (new old : List _) → i < length new → i < length old → set (changed i new old) i (getD new i none) ≡ changed (suc i)
+        new old
     go i [] old more room = absurd (omega arith)
     go i (x ∷ new) [] more room = absurd (omega arith)
     go zero (x ∷ new) (y ∷ old) more room = refl

@@ -29,7 +29,8 @@ module _ {M : Type 1} (𝓤 : URA M) (H : Heap 𝓤) (A : Atoms 𝓤) (W : Given
       by ! (lends-slice 𝓤 H A W R ℓ κ ys b o room)
 
   pub row-back : (κ : Lft) (γ : GName) (ys : List (R .Denot)) (n b o : ℕ)
-      → ent 𝓤 (sep 𝓤 (A .dead κ) (sep 𝓤 (A .lent κ (Held R n b o γ)) (sem 𝓤 H A (finally R γ ys)))) (H .⇛ (sem 𝓤 H A (row R fullShare ys b o)))
+      → ent 𝓤 (sep 𝓤 (A .dead κ) (sep 𝓤 (A .lent κ (Held R n b o γ)) (sem 𝓤 H A (finally R γ ys)))) (H .⇛ (sem 𝓤 H A (row R fullShare ys
+      b o)))
   row-back κ γ ys n b o =
       qed W (‵ (fdead κ) ∷ ‵ (flent κ (Held R n b o γ)) ∷ ‵ (finally R γ ys) ∷ []) ∵ updating ! $
       use3 W (later (‵ (Arr (mem R) n .lies ys b o))) (slice-back 𝓤 H A W R κ γ ys n b o) $ await ! tt $ fsplit ! $ drop ! $
@@ -38,10 +39,12 @@ module _ {M : Type 1} (𝓤 : URA M) (H : Heap 𝓤) (A : Atoms 𝓤) (W : Given
   -- what a closed borrow holds is the reference's own
   pub slice-own : (ℓ : Lifetime) (κ : Lft) (x : RefT (List (R .Denot))) (ys : List (R .Denot)) → length ys ≡ length (x .now)
       → Room R (length (x .now))
-      → ent 𝓤 (⋆ 𝓤 H A (‵ (fobs (x .name) (codedHoleys R .code (heres R ys))) ∷ ‵ (fbor κ (Held R (length ys) (x .ptr .0) (x .ptr .1) (x .name))) ∷ []))
+      → ent 𝓤 (⋆ 𝓤 H A (‵ (fobs (x .name) (codedHoleys R .code (heres R ys))) ∷ ‵ (fbor κ (Held R (length ys) (x .ptr .0) (x .ptr .1) (x
+      .name))) ∷ []))
       (sem 𝓤 H A (MutSlice ℓ κ R .own (record { ptr = x .ptr; name = x .name; now = ys }) (sliceVal (x .ptr) (length (x .now)) ∷ [])))
   slice-own ℓ κ x ys size room =
-      qed W (‵ (fobs (x .name) (codedHoleys R .code (heres R ys))) ∷ ‵ (fbor κ (Held R (length ys) (x .ptr .0) (x .ptr .1) (x .name))) ∷ []) ∵
+      qed W (‵ (fobs (x .name) (codedHoleys R .code (heres R ys))) ∷ ‵ (fbor κ (Held R (length ys) (x .ptr .0) (x .ptr .1) (x .name))) ∷
+      []) ∵
       fjoin ! $
       pureI ! (at-slice R (record { ptr = x .ptr; name = x .name; now = ys }) (sliceVal (x .ptr) (length (x .now)) ∷ [])) (tt, (tt, tt))
       (ap (λ (m : ℕ). sliceVal (x .ptr) m ∷ []) (sym size), subst (Room R) (sym size) room) $ fjoin ! $ done !

@@ -1,11 +1,11 @@
 -- The buffers of a batch while its queries are answered one after the other: what is written up to a query, and one query more. Assumes
 -- nothing.
 use mathlib.Core.Path.{_≡_, refl, sym, ap, _∙_}
-use mathlib.Core.List.{List, [], _∷_, _++_}
+use mathlib.Core.List.{List, [], _++_}
 use Prim.Native.Nat.{ℕ, _+_, _*_, _≤_, _<_}
 use native.Mathlib.Nat.{zero-mul, mul-le-mul-right}
 use native.Mathlib.Omega.{arith}
-use lib.ListN.{length, take, drop, getD, set, take-append-drop}
+use lib.ListN.{length, take, drop, set, take-append-drop}
 use lib.Seq.{length-take-le}
 use borrow.Rule.Slice.PartMut.{put-same}
 use Rattle.refusal.specs.declared.Verdict.{Verdict}
@@ -41,7 +41,8 @@ module _ (batch : Batch) (answers : List Answer) (entries : List Entry) (reads :
   m = batch .terms .m
 
   abbrev pub batchVerdict : Verdict
-  batchVerdict = first (batchCauses (batch .terms) (lengthsOf batch (length answers) (length entries) (length reads)) (batch .marks) (batch .codes))
+  batchVerdict = first (batchCauses (batch .terms) (lengthsOf batch (length answers) (length entries) (length reads)) (batch .marks)
+      (batch .codes))
 
   -- what each query writes
   abbrev entriesOfQuery : ℕ → List Entry
@@ -135,7 +136,8 @@ module _ (batch : Batch) (answers : List Answer) (entries : List Entry) (reads :
         start-within = omega (arith, entries-length-after i (omega arith), is .of-entries, part-ends k m i below)
 
         -- so many entries over their part
-        over : (es : List Entry) → length es ≡ k → k ≤ 512 → filled (inArray es) (entriesAfter i) (i * k) k ≡ withPart k i es (entriesAfter i)
+        over : (es : List Entry) → length es ≡ k → k ≤ 512 → filled (inArray es) (entriesAfter i) (i * k) k ≡ withPart k i es
+            (entriesAfter i)
         over es size few =
             let state = entriesAfter i in
             let front = take (i * k) state in
@@ -149,13 +151,15 @@ module _ (batch : Batch) (answers : List Answer) (entries : List Entry) (reads :
             sym (ap (λ (l : List Entry). filled (inArray es) l (i * k) k) whole)
             ∙ (rw (front-size, size) at written)
 
-        pub entries-next : filled (turn .entries) (entriesAfter i) (turn .start) (fitting (length (entriesAfter i)) (turn .start) (turn .count))
+        pub entries-next : filled (turn .entries) (entriesAfter i) (turn .start) (fitting (length (entriesAfter i)) (turn .start) (turn
+            .count))
             ≡ entriesAfter (i + 1)
         entries-next = go (verdictIn batch i) refl
           where
             given-turn : (v : Verdict) → verdictIn batch i ≡ v
                 → filled (turn .entries) (entriesAfter i) (turn .start) (fitting (length (entriesAfter i)) (turn .start) (turn .count))
-                ≡ filled (inArray (outcome v (entriesOf (searched (libraryIn batch) (queryIn batch i) k .best)) (λ _. []))) (entriesAfter i) (i * k)
+                ≡ filled (inArray (outcome v (entriesOf (searched (libraryIn batch) (queryIn batch i) k .best)) (λ _. [])))
+                (entriesAfter i) (i * k)
                 (fitting (length (entriesAfter i)) (i * k) (outcome v k (λ _. 0)))
             given-turn v held = rw (turned .entries-are, turned .start-is, turned .count-is, held) refl
 
@@ -168,7 +172,8 @@ module _ (batch : Batch) (answers : List Answer) (entries : List Entry) (reads :
                 let few = best-few (libraryIn batch) (queryIn batch i) k (partRoom batch) held in
                 let found : entriesOf best ≡ entriesOfQuery i = rw held refl in
                 given-turn Accepted held
-                ∙ ap (filled (inArray (entriesOf best)) (entriesAfter i) (i * k)) (fitting-fits (length (entriesAfter i)) (i * k) k few start-within)
+                ∙ ap (filled (inArray (entriesOf best)) (entriesAfter i) (i * k)) (fitting-fits (length (entriesAfter i)) (i * k) k few
+                start-within)
                 ∙ over (entriesOf best) size few
                 ∙ ap (λ (part : List Entry). withPart k i part (entriesAfter i)) found
                 ∙ placed
@@ -213,7 +218,12 @@ module _ (batch : Batch) (answers : List Answer) (entries : List Entry) (reads :
         go Accepted held upto =
             let is = entered batch (length answers) (length entries) (length reads) held in
             let few : i ≤ m = rw held at upto in
-            record { of-answers = answers-length is i few; of-entries = entries-length-after is i few; of-reads = reads-length-after is i few }
+            record {
+              of-answers = answers-length is i few;
+              of-entries = entries-length-after is i few;
+              of-reads = reads-length-after is
+                  i few;
+            }
         go (Refused cause) held upto =
             let none : i ≡ 0 = omega (arith, rw held at upto) in
             rw none record { of-answers = refl; of-entries = ap length entries-begun; of-reads = ap length reads-begun }

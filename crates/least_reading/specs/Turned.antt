@@ -1,11 +1,10 @@
 -- A query of a batch, in a library that is tested: what is left to test, and what the query leads to. Assumes nothing.
-use mathlib.Core.Path.{_≡_, sym, ap, _∙_}
+use mathlib.Core.Path.{_≡_, _∙_}
 use mathlib.Core.Bool.{true}
 use mathlib.Core.List.{List, [], _++_}
 use Prim.Native.Nat.{ℕ, _*_}
 use borrow.Author.Tests.{not-false}
 use Rattle.refusal.specs.declared.Refusal.{Refusal}
-use Rattle.refusal.specs.declared.Refusal.the-variants.{Component}
 use Rattle.refusal.specs.declared.Verdict.the-variants.{Accepted, Refused}
 use Rattle.refusal.specs.First.{Row, first, outcome, first-append, outcome-accepted, outcome-refused, accepted-front, accepted-behind, passed}
 use Rattle.presence.specs.Presence.{wordCauses}

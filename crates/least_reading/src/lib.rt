@@ -23,7 +23,7 @@ use step::Bound;
 use table::MAX_TABLE;
 use table::fill_table;
 ghost use mathlib.Core.Path.{_≡_};
-ghost use mathlib.Core.List.{[], _++_};
+ghost use mathlib.Core.List.{_++_};
 ghost use Prim.Native.Nat.{_≤_};
 ghost use lib.ListN.{length, take, drop};
 ghost use Rattle.refusal.specs.declared.Verdict.the-variants.{Accepted};

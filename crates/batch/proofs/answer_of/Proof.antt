@@ -1,8 +1,7 @@
 -- `answer_of` meets its contract, by the variant of the answer. Assumes nothing.
-use mathlib.Core.Path.{_≡_, sym, ap, _∙_}
+use mathlib.Core.Path.{sym, ap, _∙_}
 use Prim.Native.Nat.{ℕ}
 use borrow.Author.Needs.{needs}
-use Rattle.batch.specs.declared.Answer.{Answer}
 use Rattle.batch.specs.Batch.{answerOf}
 use Rattle.batch.proofs.answer_of.Statement.{statement}
 use Rattle.batch.proofs.answer_of.Tie as tie

@@ -1,15 +1,15 @@
 -- `check_batch` meets its contract: the number of queries, then the shape. Assumes nothing.
 use mathlib.Core.Path.{_≡_, sym, _∙_, ap}
-use mathlib.Core.Bool.{true, false, not}
+use mathlib.Core.Bool.{false, not}
 use native.Mathlib.Omega.{arith}
 use borrow.Author.Needs.{needs}
 use borrow.Author.Tests.{le-leb, lt-leb}
 use lib.Dec.{leb}
 use Rattle.refusal.specs.declared.Refusal.the-variants.{TooManyQueries}
-use Rattle.refusal.specs.First.{first, first-here, first-next, outcome-accepted, outcome-refused, first-append}
+use Rattle.refusal.specs.First.{first-here, first-next, outcome-accepted, outcome-refused, first-append}
 use Rattle.limits.specs.Limits.{maxQueries}
 use Rattle.layout.specs.Stretch.{shapeCauses}
-use Rattle.batch.specs.BatchCauses.{shapedBatchCauses, batchCauses}
+use Rattle.batch.specs.BatchCauses.{shapedBatchCauses}
 use Rattle.batch.proofs.check_batch.Statement.{statement}
 use Rattle.batch.proofs.check_batch.Tie as tie
 

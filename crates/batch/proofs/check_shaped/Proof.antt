@@ -38,7 +38,8 @@ counted c = sym (c .before .is-vector-count .ensures) ∙ not-false (c .before .
 among : (c : tie.Else2) → let t = from-2 c .args .terms in isNeighbourCount (t .n) (t .k) ≡ true
 among c = sym (c .before .is-neighbour-count .ensures) ∙ not-false (c .before .is-neighbour-count .result) (c .if2 .left)
 
-exact : (c : tie.Else3) → let a = from-3 c .args in exactBatch (a .terms) (a .lengths) (length (a .marks .now)) (length (a .codes .now)) ≡ true
+exact : (c : tie.Else3) → let a = from-3 c .args in exactBatch (a .terms) (a .lengths) (length (a .marks .now)) (length (a .codes .now))
+    ≡ true
 exact c = sym (c .before .exact-lengths .ensures) ∙ not-false (c .before .exact-lengths .result) (c .if3 .left)
 
 passed-1 : (c : tie.Else1) → first (rows 0 (from-1 c)) ≡ first (rows 1 (from-1 c))

@@ -46,7 +46,19 @@ exact-lengths-spec =
     (λ c κs. search needs)
     (λ c κs. search needs)
     (λ c. omega (arith, small (vectors (c .before .before .before)) (dimensions (c .before .before .before))))
-    (λ c. omega (arith, small (queries (c .before .before .before .before .before)) (dimensions (c .before .before .before .before .before))))
-    (λ c. omega (arith, small (queries (c .before .before .before .before .before .before .before .before .before)) (neighbours (c .before .before .before .before .before .before .before .before .before))))
-    (λ c. omega (arith, small (queries (c .before .before .before .before .before .before .before .before .before .before .before)) (vectors (c .before .before .before .before .before .before .before .before .before .before .before))))
+    (λ c. omega (
+      arith,
+      small (queries (c .before .before .before .before .before)) (dimensions (c .before .before .before .before
+          .before)),
+    ))
+    (λ c. omega (
+      arith,
+      small (queries (c .before .before .before .before .before .before .before .before .before)) (neighbours (c
+          .before .before .before .before .before .before .before .before .before)),
+    ))
+    (λ c. omega (
+      arith,
+      small (queries (c .before .before .before .before .before .before .before .before .before .before .before))
+          (vectors (c .before .before .before .before .before .before .before .before .before .before .before)),
+    ))
     returns)
