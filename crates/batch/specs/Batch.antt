@@ -20,6 +20,7 @@ use Rattle.batch.specs.declared.Answer.{Answer}
 use Rattle.batch.specs.declared.BatchTerms.{BatchTerms}
 use Rattle.batch.specs.Parts.{partAt, partsFrom, eachFrom}
 
+-- the numbers of a batch, where each is handed in by itself
 abbrev pub batchTerms : ℕ → ℕ → ℕ → ℕ → ℕ → BatchTerms
 batchTerms d b n k m = record { d = d; b = b; n = n; k = k; m = m }
 

@@ -15,6 +15,7 @@ use Rattle.search.specs.Settled.{OwnCodes, SameCells, withVectors, SettlesAnswe
 use Rattle.search.specs.Theorems.{search-is-scan, search-is-stable, read-is-needed, settling-set-holds-reads, reading-is-least}
 use Rattle.batch.specs.Batch.{Batch, libraryIn, queryIn, partRoom, verdictIn}
 
+-- the single search does not refuse query i
 abbrev pub Answered : Batch → ℕ → Type 0
 Answered batch i = verdictIn batch i ≡ Accepted
 
@@ -23,8 +24,8 @@ module _ (batch : Batch) (i : ℕ) where
   k = batch .terms .k
 
   -- demand 2: its numbers and distances are the scan's
-  pub answer-is-scan : OwnCodes (libraryIn batch) → searched (libraryIn batch) (queryIn batch i) k .best ≡ scanned (libraryIn batch)
-      (queryIn batch i) k
+  pub answer-is-scan : OwnCodes (libraryIn batch)
+      → searched (libraryIn batch) (queryIn batch i) k .best ≡ scanned (libraryIn batch) (queryIn batch i) k
   answer-is-scan = search-is-scan (libraryIn batch) (queryIn batch i) k
 
   -- demand 3: whatever vectors of the same cells stand at the unread numbers, it is given the same
@@ -39,15 +40,15 @@ module _ (batch : Batch) (i : ℕ) where
   answer-needs = read-is-needed (libraryIn batch) (queryIn batch i) k (partRoom batch)
 
   -- every set that settles its answer holds all of those
-  pub settling-set-holds : OwnCodes (libraryIn batch) → Answered batch i → (set : List ℕ) → SettlesAnswer (libraryIn batch) (queryIn
-      batch i) k set
+  pub settling-set-holds : OwnCodes (libraryIn batch) → Answered batch i
+      → (set : List ℕ) → SettlesAnswer (libraryIn batch) (queryIn batch i) k set
       → (j : ℕ) → j ∈ searched (libraryIn batch) (queryIn batch i) k .reads
       → lowIn (libraryIn batch) (queryIn batch i) j ≢ highIn (libraryIn batch) (queryIn batch i) j → j ∈ set
   settling-set-holds = settling-set-holds-reads (libraryIn batch) (queryIn batch i) k (partRoom batch)
 
   -- so its reading is the least
-  pub answer-reads-least : OwnCodes (libraryIn batch) → Answered batch i → (set : List ℕ) → SettlesAnswer (libraryIn batch) (queryIn
-      batch i) k set
+  pub answer-reads-least : OwnCodes (libraryIn batch) → Answered batch i
+      → (set : List ℕ) → SettlesAnswer (libraryIn batch) (queryIn batch i) k set
       → length (searched (libraryIn batch) (queryIn batch i) k .reads)
       ≤ length set + fixed (lowIn (libraryIn batch) (queryIn batch i)) (highIn (libraryIn batch) (queryIn batch i))
       (searched (libraryIn batch) (queryIn batch i) k .reads)
