@@ -1,4 +1,4 @@
-//! Links the matcher's C interface, as `rt staticlib matcher` leaves it in the repository's target/, and the C++ peers that bench/run
+//! Links the matcher's C interface, as `./build matcher` leaves it in the repository's target/, and the C++ peers that bench/run
 //! has compiled; BENCH_CPP names them.
 
 use std::{env, path::PathBuf};

@@ -1,4 +1,4 @@
-//! Links the matcher's C interface, as `rt staticlib matcher` leaves it in the repository's target/, and what C says of its layout.
+//! Links the matcher's C interface, as `./build matcher` leaves it in the repository's target/, and what C says of its layout.
 
 use std::{
     env,

@@ -119,7 +119,7 @@ fn no_soak_proves_without_a_word() {
     }
     for right in [&[][..], &["1"], &["1", "2"]] {
         let (printed, said, status) = soak(right);
-        assert!(said.starts_with("soak: rt staticlib matcher: proves"), "{right:?}: {said}");
+        assert!(said.starts_with("soak: ./build matcher: proves"), "{right:?}: {said}");
         assert_eq!((printed.as_str(), status), ("", Some(1)), "{right:?}");
     }
 }

@@ -1,5 +1,6 @@
 // A batch of queries to one library (document 02, Slip 5): what it is asked and what it answers, the tests that refuse it whole, and those
 // that refuse one of its queries before anything is read.
+#![tactic(auto)]
 ghost use Rattle.std.specs.Prelude.{◌≡◌, true, ◌++◌, ◌≤◌, length};
 ghost use Rattle.refusal.specs.declared.Verdict.TheVariants.{Accepted};
 ghost use Rattle.refusal.specs.First.{first};

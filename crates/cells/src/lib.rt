@@ -1,4 +1,5 @@
 // The cells that codes name.
+#![tactic(auto)]
 mod places;
 mod rising;
 

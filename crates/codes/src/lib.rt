@@ -1,4 +1,6 @@
 // Codes: the region numbers of vectors, a row of d numbers for each, packed into bytes and unpacked again.
+#![tactic(auto)]
+
 mod bit_writer;
 pub mod bits;
 

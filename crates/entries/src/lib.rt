@@ -1,4 +1,5 @@
 // Entries, each a vector's number and its distance from a query, and the array of the most neighbours that holds them by value.
+#![tactic(auto)]
 pub mod fill;
 
 ghost use Rattle.std.specs.Prelude.{◌≡◌, [], min, length};

@@ -1,14 +1,19 @@
 // The kit program (document 01, "The program"): a match on standard input, its text on standard output. `matching::run` is all of it, on
 // what was read.
+#![tactic(auto)]
 ghost use Rattle.std.specs.Prelude.{◌≡◌, suc, ◌≤◌, length, take};
 ghost use Rattle.matching.specs.Match.{text_room};
 ghost use Rattle.matching.specs.Longest.{longest_match, PrintsRead};
 
-use libc::{STDIN_FILENO, STDOUT_FILENO};
 use limits::{KIT_VECTORS, MAX_DIMENSIONS};
 use loading::MARKS_ROOM;
 use matching::{K_LENGTH, TEXT_ROOM};
 use records::{END_LENGTH, HEAD_LENGTH, HELD_LENGTH, MARK_LENGTH, VECTOR_LENGTH};
+
+// The descriptors of standard input and standard output.
+const STDIN_FILENO: i32 = 0;
+
+const STDOUT_FILENO: i32 = 1;
 
 // The length of the longest match that is accepted: the longest library, k, and a held reading for each dimension.
 const LONGEST_MATCH: usize = HEAD_LENGTH

@@ -1,4 +1,6 @@
 // How the bits and the marks are shared out among the dimensions.
+#![tactic(auto)]
+
 ghost use Rattle.std.specs.Prelude.{◌≡◌, ◌+◌, ◌*◌, ◌^◌, ◌≤◌, min};
 ghost use Rattle.refusal.specs.First.{first};
 ghost use Rattle.layout.specs.Stretch.{shape_causes, dimension_causes, stretch_of, marks_length, codes_length};

@@ -1,4 +1,5 @@
 // The search that reads least.
+#![tactic(auto)]
 mod candidates;
 pub mod queries;
 mod reading;

@@ -1,4 +1,5 @@
 // The limits of document 01, "What the delivery holds" and "Marks, regions, codes". specs/Limits.antt has each under the same name.
+#![tactic(auto)]
 
 ghost use Rattle.std.specs.Prelude.{◌≡◌, ◌&&◌, leb};
 ghost use Rattle.limits.specs.Limits.{is_dimension_count, is_bits, is_vector_count, is_neighbour_count};

@@ -1,4 +1,6 @@
 // The presence word of a query (document 02, Slip 1): which dimensions were measured.
+#![tactic(auto)]
+
 ghost use Rattle.std.specs.Prelude.{◌≡◌};
 ghost use Rattle.refusal.specs.First.{first};
 ghost use Rattle.limits.specs.Limits.{max_dimensions};

@@ -1,4 +1,6 @@
 // Readings, and the component of a reading (document 01, "Readings"; document 02, Slip 1).
+#![tactic(auto)]
+
 mod value;
 
 ghost use Rattle.std.specs.Prelude.{◌≡◌};

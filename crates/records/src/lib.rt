@@ -1,4 +1,6 @@
 // Records of the library file and of a query: bytes as numbers, and the tests that every record has to pass.
+#![tactic(auto)]
+
 ghost use Rattle.std.specs.Prelude.{◌≡◌, get_or, drop};
 ghost use Rattle.refusal.specs.First.{first};
 ghost use Rattle.records.specs.Bytes.{from_low_first};

@@ -1,4 +1,6 @@
 // The causes for which a call says no, and the verdict of a call's tests.
+#![tactic(auto)]
+
 ghost use Rattle.std.specs.Prelude.{◌≡◌};
 ghost use Rattle.refusal.specs.Refusal.{number_of, verdict_number};
 

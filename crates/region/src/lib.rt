@@ -1,4 +1,6 @@
 // The region of a value in one dimension's marks.
+#![tactic(auto)]
+
 ghost use Rattle.std.specs.Prelude.{◌≡◌, ◌&&◌, suc, ◌+◌, ◌<◌, pos, length, drop, get_or};
 ghost use Rattle.limits.specs.Limits.{is_mark};
 ghost use Rattle.region.specs.Dimension.{not_above, good_dimension};

@@ -1,1 +1,2 @@
 // The round trips of the library file: theorems about what `loading` and `writing` do, in specs/RoundTrip.antt. There is no code.
+#![tactic(auto)]

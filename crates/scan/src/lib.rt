@@ -1,4 +1,5 @@
 // The full scan: the vectors nearest to a query, by all their distances over the dimensions that are present.
+#![tactic(auto)]
 ghost use Rattle.std.specs.Prelude.{◌≡◌, ◌&&◌, [], ◌*◌, ◌^◌, ◌≤◌, ◌<◌, eqb, length};
 ghost use Rattle.refusal.specs.First.{first, outcome};
 ghost use Rattle.limits.specs.Limits.{max_dimensions, max_vectors};

@@ -1,5 +1,6 @@
 // What the search is, and its theorems (specs/Search.antt, specs/Theorems.antt). In code: what it is asked, what it answers, and the
 // test at its entry.
+#![tactic(auto)]
 pub mod entry;
 
 ghost use Rattle.std.specs.Prelude.{◌≡◌};

@@ -1,4 +1,6 @@
 // Whole numbers of 32 bits, read from a slice, and as keys: numbers from 0 on in the same order.
+#![tactic(auto)]
+
 pub mod compare;
 pub mod components;
 

@@ -1,5 +1,7 @@
 // Lines of decimal numbers, at the front of a buffer: single spaces between the numbers, byte 10 at the end of a line. What does not fit
 // into the buffer is not written; the result is the length of the whole text, whether it fits or not.
+#![tactic(auto)]
+
 ghost use Rattle.std.specs.Prelude.{◌≡◌, [], ◌∷◌, ◌+◌, ◌≤◌, ◌<◌, length};
 ghost use Rattle.text.specs.Text.{at_front, refused_word, decimal, line, refused_line};
 ghost use Rattle.text.specs.Puts.{Puts, last_index, field, field_room};

@@ -1,5 +1,6 @@
 // A vector added to a library, or one removed from it, with the marks kept (document 02, Slip 3). The old library is only read; the new
 // one's vectors, settings and codes fill buffers of their own.
+#![tactic(auto)]
 mod copying;
 mod place;
 

@@ -1,4 +1,5 @@
 // A library written to bytes.
+#![tactic(auto)]
 mod check;
 mod put;
 

@@ -16,48 +16,48 @@ use Rattle.codes.proofs.check_lengths.Statement.{statement}
 use Rattle.codes.proofs.check_lengths.Tie as tie
 
 -- the number of vectors is within its limit
-counted : (c : tie.Else1) → is_vector_count c.before.before.args.n ≡ true
-counted c = sym c.before.is-vector-count.ensures ∙ not-false c.before.is-vector-count.result c.if1.false
+counted : (c : tie.Else-not-is_vector_count) → is_vector_count c.args.n ≡ true
+counted c = sym c.is_vector_count.ensures ∙ not-false c.is_vector_count.result c.if-not-is_vector_count.false-raw
 
-few : (c : tie.Else1) → c.before.before.args.n ≤ max_vectors
-few c = (between 1 c.before.before.args.n max_vectors (counted c)).below
+few : (c : tie.Else-not-is_vector_count) → c.args.n ≤ max_vectors
+few c = (between 1 c.args.n max_vectors (counted c)).below
 
 -- the rows are as many
-rows : (c : tie.Else2) → let a = c.before.before.before.args in eqb a.regions (a.n * a.d) ≡ true
-rows c = let a = c.before.before.before.args in eq-eqb a.regions (a.n * a.d) c.if2.false
+rows : (c : tie.Else-regions-n) → let a = c.args in eqb a.regions (a.n * a.d) ≡ true
+rows c = let a = c.args in eq-eqb a.regions (a.n * a.d) c.if-regions-n.false
 
-wanted : (c : tie.After-codes-length) → let a = c.before.before.before.before.args in
-    c.codes-length.result ≡ code_length a.b a.n
+wanted : (c : tie.After-codes_length) → let a = c.args in
+    c.codes_length.result ≡ code_length a.b a.n
 wanted c =
-    let start = c.before.before.before.before in
+    let start = c in
     let a = start.args in
-    c.codes-length.ensures ∙ codes_length_is a.d a.b a.n start.requires (few c.before.before)
+    c.codes_length.ensures ∙ codes_length_is a.d a.b a.n start.requires (few c.before.before)
 
-returns : tie.Need-returns
+returns : tie.Need-returns-then-not-is_vector_count
 unfolding first
-returns c = rw (← c.before.is-vector-count.ensures, c.if1.true)
+returns c = rw (← c.is_vector_count.ensures, c.if-not-is_vector_count.true-raw)
 
-returns_2 : tie.Need-returns-2
+returns_2 : tie.Need-returns-then-regions-n
 unfolding first
 returns_2 c =
-    let args = c.before.before.before.args in
-    rw (counted c.before, ne_eqb args.regions (args.n * args.d) c.if2.true)
+    let args = c.args in
+    rw (counted c.before, ne_eqb args.regions (args.n * args.d) c.if-regions-n.true)
 
-returns_3 : tie.Need-returns-3
+returns_3 : tie.Need-returns-then-codes-codes_length
 unfolding first
 returns_3 c =
-    let past = c.before.before in
-    rw (counted past.before, rows past, ← wanted c.before, ne_eqb _ _ c.if3.true)
+    let past = c in
+    rw (counted past.before.before.before, rows past.before.before, ← wanted c.before, ne_eqb _ _ c.if-codes-codes_length.true)
 
-returns_4 : tie.Need-returns-4
+returns_4 : tie.Need-returns
 unfolding first
 returns_4 c =
-    let past = c.before.before in
-    rw (counted past.before, rows past, ← wanted c.before, eq-eqb _ _ c.if3.false)
+    let past = c in
+    rw (counted past.before.before.before, rows past.before.before, ← wanted c.before, eq-eqb _ _ c.if-codes-codes_length.false)
 
-numbers_small : tie.Need-overflow-mul-if2
+numbers_small : tie.Need-overflow_mul-n
 numbers_small c =
-    let start = c.before.before in
+    let start = c in
     omega (arith, numbers_le start.args.n (shape start.args.d start.args.b start.requires) (few c))
 
 pub check_lengths_spec : {M : Type 1} → statement M

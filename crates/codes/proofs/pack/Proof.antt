@@ -18,71 +18,71 @@ use Rattle.codes.proofs.pack.Statement.{statement}
 use Rattle.codes.proofs.pack.Tie as tie
 
 -- where the sizes were tested
-abbrev rows : (c : tie.After-check-sizes) → List Row
+abbrev rows : (c : tie.After-check_sizes) → List Row
 rows c =
-    let args = c.before.before.before.args in
-    size_causes args.d args.b args.n (length args.regions.now) (length args.codes.now)
+    let args = c.args in
+    size_causes args.d args.b args.n (length args.regions.now) (length args.codes-1.now)
 
-abbrev past : (c : tie.After-check-sizes) → Bool
+abbrev past : (c : tie.After-check_sizes) → Bool
 past c =
-    let args = c.before.before.before.args in
+    let args = c.args in
     not (regions_fit args.d args.b 0 args.regions.now)
 
-abbrev bytes : (c : tie.After-check-sizes) → List ℕ
+abbrev bytes : (c : tie.After-check_sizes) → List ℕ
 bytes c =
-    let args = c.before.before.before.args in
+    let args = c.args in
     packed args.d args.b args.n args.regions.now
 
 -- they are not refused
-right : (c : tie.After-enum-told) → first (rows c.before.before) ≡ Accepted
-right c = sym c.before.before.check-sizes.ensures ∙ c.enum_told.given.1
+right : (c : tie.In-Accepted) → first (rows c) ≡ Accepted
+right c = sym c.check_sizes.ensures ∙ c.in-Accepted.is
 
-sized : (c : tie.After-enum-told) → let args = c.before.before.before.before.before.args in
-    Sizes args.d args.b args.n (length args.regions.now) (length args.codes.now)
+sized : (c : tie.In-Accepted) → let args = c.args in
+    Sizes args.d args.b args.n (length args.regions.now) (length args.codes-1.now)
 sized c =
-    let args = c.before.before.before.before.before.args in
-    sizes args.d args.b args.n (length args.regions.now) (length args.codes.now) (right c)
+    let args = c.args in
+    sizes args.d args.b args.n (length args.regions.now) (length args.codes-1.now) (right c)
 
-whole : (c : tie.After-enum-told) → let args = c.before.before.before.before.before.args in
+whole : (c : tie.In-Accepted) → let args = c.args in
     Rows args.d (length args.regions.now)
-whole c = record { rows = c.before.before.before.before.before.args.n; whole = (sized c).rows }
+whole c = record { rows = c.args.n; whole = (sized c).rows }
 
-returns : tie.Need-returns
+returns : tie.Need-returns-then-not-regions_fit
 returns c =
-    let told = c.before.before in
-    let at = told.before.before in
-    refused_last (rows at) (past at) Code at.before.before.before.args.codes.now (bytes at) (right told)
-    (ap not (sym c.before.regions_fit.ensures) ∙ c.if1.true)
+    let told = c in
+    let at = told in
+    refused_last (rows at) (past at) Code at.args.codes.now (bytes at) (right told.before.before)
+    (ap not (sym c.regions_fit.ensures) ∙ c.if-not-regions_fit.true-raw)
 
-put_all_requires : tie.Need-put-all-requires
+put_all_requires : tie.Need-put_all-requires
 put_all_requires c κs =
-    let told = c.before.before.before in
-    let args = told.before.before.before.before.before.args in
-    let size = sized told in
+    let told = c in
+    let args = told.args in
+    let size = sized told.before.before.before in
     let bits = length_joined args.d args.b size.shaped.some args.n args.regions.now size.rows in (
       size.shaped,
-      whole told,
-      sym c.before.before.regions_fit.ensures
-          ∙ not-false c.before.before.regions_fit.result c.before.if1.false,
+      whole told.before.before.before,
+      sym c.regions_fit.ensures
+          ∙ not-false c.regions_fit.result c.if-not-regions_fit.false-raw,
       rw bits size.bytes,
     )
 
-returns_2 : tie.Need-returns-2
+returns_2 : tie.Need-returns-else-not-regions_fit
 unfolding packed
 returns_2 c =
-    let put = c.before.before in
-    let told = put.before.before.before.before in
-    let at = told.before.before in
-    accepted_all (rows at) (past at) Code at.before.before.before.args.codes.now (bytes at) (right told)
-    (ap not (sym put.before.before.before.regions_fit.ensures) ∙ put.before.before.if1.false)
-    (rw (← (sized told).bytes) put.put_all.ensures)
+    let put = c in
+    let told = put in
+    let at = told in
+    accepted_all (rows at) (past at) Code at.args.codes.now (bytes at) (right told.before.before.before.before.before.before)
+    (ap not (sym put.regions_fit.ensures) ∙ put.if-not-regions_fit.false-raw)
+    (rw (← (sized told.before.before.before.before.before.before).bytes) put.put_all.ensures)
 
-returns_3 : tie.Need-returns-3
+returns_3 : tie.Need-returns-in-Refused
 returns_3 c =
-    let at = c.before.before.before in
-    let refused : first (rows at) ≡ Refused c.before.cause.given.0.0 =
-    rw (← at.check-sizes.ensures) c.before.cause.given.1 in
-    refused_before (rows at) ((past at ⇒ Code) ∷ []) at.before.before.before.args.codes.now (bytes at) refused
+    let at = c in
+    let refused : first (rows at) ≡ Refused c.in-Refused.cause =
+    rw (← at.check_sizes.ensures) c.in-Refused.is in
+    refused_before (rows at) ((past at ⇒ Code) ∷ []) at.args.codes.now (bytes at) refused
 
 pub pack_spec : {M : Type 1} → statement M
 pack_spec =

@@ -7,21 +7,21 @@ use Rattle.codes.proofs.put_all.Tie as tie
 
 finish_requires : tie.Need-finish-requires
 finish_requires c κs =
-    let put = c.before.before.before in
-    let start = put.before.before.before.before in
-    (put.put-numbers.ensures.0, c.before.before.codes.given ∙ rw put.put-numbers.ensures.1 start.requires.3)
+    let put = c in
+    let start = put in
+    (put.put_numbers-writer.ensures.0, c.codes-1.given ∙ rw put.put_numbers-writer.ensures.1 start.requires.3)
 
 returns : tie.Need-returns
 returns c =
-    let finish = c.before.before in
-    let put = finish.before.before.before.before in
-    rw (put.put-numbers.ensures.1, finish.before.before.before.codes.given) at finish.finish.ensures
+    let finish = c in
+    let put = finish in
+    rw (put.put_numbers-writer.ensures.1, finish.codes-1.given) at finish.finish.ensures
 
 pub put_all_spec : {M : Type 1} → statement M
 put_all_spec =
     tie.close
     (tie.spec
-    (λ c κs. let start = c.before.before.before in (start.requires.0, start.requires.1, start.requires.2, omega (arith, start.requires.3)))
+    (λ c κs. let start = c in (start.requires.0, start.requires.1, start.requires.2, omega (arith, start.requires.3)))
     finish_requires
     (λ c. search rules)
     returns)

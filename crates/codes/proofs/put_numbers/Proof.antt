@@ -14,15 +14,15 @@ use Rattle.codes.proofs.put_numbers.Statement.{statement}
 use Rattle.codes.proofs.put_numbers.Tie as tie
 
 -- nothing is written at first
-none : (c : tie.After-begin) → let codes = c.before.before.before.before.args.codes.now in
+none : (c : tie.After-begin) → let codes = c.args.codes.now in
     Writes codes c.begin.result × (written_bits codes c.begin.result ≡ [])
-none c = begins c.before.before.before.before.args.codes.now c.begin.ensures
+none c = begins c.args.codes.now c.begin.ensures
 
 put_requires : tie.Need-put-requires
 put_requires c κs =
-    let start = c.before.before.before.before.before in
+    let start = c in
     let a = start.args in
-    let even = c.before.before.if1.true in
+    let even = c.if-b-d-eq0.true in
     let bits = ap length (joined_uniform a.d a.b even 0 a.regions.now) ∙ length_fields (a.b / a.d) a.regions.now in (
       (none c.before).0,
       omega (arith, fewest start.requires.0),
@@ -30,21 +30,21 @@ put_requires c κs =
       rw (none c.before).1 (omega (arith, start.requires.3, bits)),
     )
 
-returns : tie.Need-returns
+returns : tie.Need-returns-then-b-d-eq0
 returns c =
-    let put = c.before.before in
-    let begun = put.before.before in
-    let a = begun.before.before.before.before.args in (
+    let put = c in
+    let begun = put in
+    let a = begun.args in (
       put.put.ensures.0,
-      rw (none begun).1 at put.put.ensures.1 ∙ sym (joined_uniform a.d a.b begun.before.if1.true 0 a.regions.now),
+      rw (none begun.before.before.before.before).1 at put.put.ensures.1 ∙ sym (joined_uniform a.d a.b begun.if-b-d-eq0.true 0 a.regions.now),
     )
 
 pub put_numbers_spec : {M : Type 1} → statement M
 put_numbers_spec =
     tie.close
     (tie.spec
-    (λ c. c.before.before.requires.0.some)
-    (λ c. c.before.before.before.requires.0.some)
+    (λ c. c.requires.0.some)
+    (λ c. c.requires.0.some)
     (λ c κs. tt)
     put_requires
     (λ c. search rules)

@@ -25,10 +25,10 @@ record Putting (d b : ℕ) (regions : List ℕ) (room : ℕ) (codes : List ℕ) 
   writes : Writes codes writer
   whole : written_bits codes writer ++ joined d b 0 (drop i regions) ≡ joined d b 0 regions
 
-abbrev invariant_loop : tie.invariant_loop
+abbrev invariant_loop : tie.invariant-loop-i
 invariant_loop d b regions codes₀ fewest more writer₀ i₀ codes writer i = Putting d b regions (length codes₀) codes writer i
 
-abbrev decreases_loop : tie.decreases_loop
+abbrev decreases_loop : tie.decreases-loop-i
 decreases_loop d b regions codes₀ fewest more writer₀ i₀ codes writer i = length regions - i
 
 -- the next row: the numbers of its two runs, and the rows behind it
@@ -79,10 +79,10 @@ module _ {d b : ℕ} {regions : List ℕ} {room : ℕ} {codes : List ℕ} {write
         whole = rw (e, append_assoc) bits_behind;
       }
 
-loop_holds : tie.Need-loop-init invariant_loop decreases_loop
+loop_holds : tie.Need-loop-i-init invariant_loop decreases_loop
 loop_holds c =
-    let start = c.before.before.before in
-    let none = begins start.args.codes.now c.begin.ensures in
+    let start = c in
+    let none = begins start.args.codes.now c.begin-writer.ensures in
     record {
       left = rw sub-zero start.requires.1;
       long = refl;
@@ -91,59 +91,59 @@ loop_holds c =
       whole = rw none.1 refl;
     }
 
-in_row : (c : tie.In-loop invariant_loop decreases_loop) → let start = c.before.before.before.before.before in
-    (c.before.loop.i + start.args.d ≤ length start.args.regions.now) × (start.args.b % start.args.d < start.args.d)
+in_row : (c : tie.In-loop-i invariant_loop decreases_loop) → let start = c in
+    (c.loop-i.i + start.args.d ≤ length start.args.regions.now) × (start.args.b % start.args.d < start.args.d)
 in_row c =
-    let start = c.before.before.before.before.before in
-    ((row start.requires.0.some c.before.loop.invariant c.loop-test.true).0, mod-lt start.args.b start.requires.0.some)
+    let start = c in
+    ((row start.requires.0.some c.loop-i.invariant c.loop-i-test.true).0, mod-lt start.args.b start.requires.0.some)
 
-put_requires : tie.Need-put-requires invariant_loop decreases_loop
+put_requires : tie.Need-put-wide-requires invariant_loop decreases_loop
 put_requires c κs =
-    let turn = c.before.before in
-    let at = turn.before.loop.invariant in
-    let start = turn.before.before.before.before.before in
+    let turn = c in
+    let at = turn.loop-i.invariant in
+    let start = turn in
     let some = start.requires.0.some in (
       at.writes,
       omega (arith, fewest start.requires.0),
-      (fits some at turn.loop-test.true).0,
-      le_trans (first_room some at turn.loop-test.true) (rw at.long start.requires.3),
+      (fits some at turn.loop-i-test.true).0,
+      le_trans (first_room some at turn.loop-i-test.true) (rw at.long start.requires.3),
     )
 
-put_requires_2 : tie.Need-put-requires-2 invariant_loop decreases_loop
+put_requires_2 : tie.Need-put-writer-requires invariant_loop decreases_loop
 put_requires_2 c κs =
-    let first = c.before.before.before.before in
-    let turn = first.before.before.before in
-    let at = turn.before.loop.invariant in
-    let start = turn.before.before.before.before.before in
+    let first = c in
+    let turn = first in
+    let at = turn.loop-i.invariant in
+    let start = turn in
     let some = start.requires.0.some in (
-      first.put.ensures.0,
+      first.put-wide.ensures.0,
       omega (arith, fewest start.requires.0),
-      (fits some at turn.loop-test.true).1,
+      (fits some at turn.loop-i-test.true).1,
       omega (
         arith,
-        second_room some at turn.loop-test.true first.put.ensures.1,
+        second_room some at turn.loop-i-test.true first.put-wide.ensures.1,
         start.requires.3,
         at.long,
-        c.before.before.before.codes.given,
+        c.codes-1.given,
       ),
     )
 
-loop_again : tie.Need-loop-preserved invariant_loop decreases_loop
+loop_again : tie.Need-loop-i-preserved invariant_loop decreases_loop
 loop_again c =
-    let second = c.before.before in
-    let first = second.before.before.before.before.before in
-    let turn = first.before.before.before in
-    let at = turn.before.loop.invariant in
-    put turn.before.before.before.before.before.requires.0.some at turn.loop-test.true second.put2.ensures.0
-    (omega (arith, at.long, second.before.before.before.before.codes.given, c.before.codes2.given))
-    (rw (← first.put.ensures.1) second.put2.ensures.1)
+    let second = c in
+    let first = second in
+    let turn = first in
+    let at = turn.loop-i.invariant in
+    put turn.requires.0.some at turn.loop-i-test.true second.put-writer.ensures.0
+    (omega (arith, at.long, second.codes-1.given, c.codes-in-loop-i-1.given))
+    (rw (← first.put-wide.ensures.1) second.put-writer.ensures.1)
 
 returns : tie.Need-returns invariant_loop decreases_loop
 unfolding joined
 returns c =
-    let at = c.before.loop.invariant in
-    let regions = c.before.before.before.before.before.args.regions.now in
-    (at.writes, sym (append-nil _) ∙ rw (drop_of_length-le regions c.loop-test.false) at at.whole)
+    let at = c.loop-i.invariant in
+    let regions = c.args.regions.now in
+    (at.writes, sym (append-nil _) ∙ rw (drop_of_length-le regions c.loop-i-test.false) at at.whole)
 
 pub put_rows_spec : {M : Type 1} → statement M
 put_rows_spec =
@@ -151,15 +151,15 @@ put_rows_spec =
     (tie.spec
     invariant_loop
     decreases_loop
-    (λ c. c.before.before.requires.0.some)
-    (λ c. c.before.before.requires.0.some)
+    (λ c. c.requires.0.some)
+    (λ c. c.requires.0.some)
     (λ c κs. tt)
     loop_holds
     (λ c. omega (arith, in_row c))
     (λ c. omega arith)
     (λ c. omega arith)
     (λ c. omega (arith, in_row c))
-    (λ c. omega (arith, fewest c.before.before.before.before.before.before.requires.0))
+    (λ c. omega (arith, fewest c.requires.0))
     put_requires
     (λ c. omega (arith, in_row c.before.before.before.before.before))
     (λ c. omega (arith, in_row c.before.before.before.before.before))
@@ -170,5 +170,5 @@ put_rows_spec =
     (λ c. omega (arith, in_row c.before.before.before.before.before.before.before.before.before.before))
     (λ c. omega (arith, in_row c.before.before.before.before.before.before.before.before.before.before))
     loop_again
-    (λ c. c.before.loop.invariant.long)
+    (λ c. c.loop-i.invariant.long)
     returns)

@@ -7,10 +7,10 @@ use Rattle.codes.proofs.Columns.{fewest}
 use Rattle.codes.proofs.regions_fit.Statement.{statement}
 use Rattle.codes.proofs.regions_fit.Tie as tie
 
-returns : tie.Need-returns
+returns : tie.Need-returns-then-b-d-eq0
 returns c =
-    let a = c.before.before.before.args in
-    c.fit.ensures ∙ sym (fit_uniform a.d a.b c.before.if1.true 0 a.regions.now)
+    let a = c.args in
+    c.fit.ensures ∙ sym (fit_uniform a.d a.b c.if-b-d-eq0.true 0 a.regions.now)
 
 pub regions_fit_spec : {M : Type 1} → statement M
 regions_fit_spec =
@@ -18,7 +18,7 @@ regions_fit_spec =
     (tie.spec
     (λ c. search rules)
     (λ c. search rules)
-    (λ c κs. omega (arith, fewest c.before.before.requires.0))
+    (λ c κs. omega (arith, fewest c.requires.0))
     returns
     (λ c κs. search rules)
     (λ c. search rules))

@@ -20,11 +20,11 @@ record Taking (codes : List ℕ) (w end room : ℕ) (whole numbers : List ℕ) (
   near : at + 8 * (end - i) < 2 ^ 63
   so_far : take i numbers ++ read_fields w (end - i) (drop at (byte_bits codes)) ≡ whole
 
-abbrev invariant_loop : tie.invariant_loop
+abbrev invariant_loop : tie.invariant-loop-i
 invariant_loop codes from w numbers₀ start end at₀ i₀ numbers at i =
     Taking codes w end (length numbers₀) (take start numbers₀ ++ read_fields w (end - start) (drop from (byte_bits codes))) numbers at i
 
-abbrev decreases_loop : tie.decreases_loop
+abbrev decreases_loop : tie.decreases-loop-i
 decreases_loop codes from w numbers₀ start end at₀ i₀ numbers at i = end - i
 
 module _ {codes : List ℕ} {w end room : ℕ} {whole numbers : List ℕ} {at i : ℕ} (now : Taking codes w end room whole numbers at i) where
@@ -48,17 +48,17 @@ module _ {codes : List ℕ} {w end room : ℕ} {whole numbers : List ℕ} {at i 
       let there : i ≡ end = omega (arith, now.within) in
       rw (none, append-nil, there) at now.so_far
 
-byte : tie.Need-overflow-cast-numbers invariant_loop decreases_loop
+byte : tie.Need-overflow_cast-numbers invariant_loop decreases_loop
 byte c =
-    let at = c.before.before in
-    let start = at.before.before.before in
-    rw c.bits_at.ensures (record { fits = bits_at_lt start.args.codes.now at.loop.at start.args.w start.requires.0 })
+    let at = c in
+    let start = at in
+    rw c.bits_at.ensures (record { fits = bits_at_lt start.args.codes.now at.loop-i.at start.args.w start.requires.0 })
 
-loop_again : tie.Need-loop-preserved invariant_loop decreases_loop
+loop_again : tie.Need-loop-i-preserved invariant_loop decreases_loop
 loop_again c =
-    let at = c.before.before in
-    let start = at.before.before.before in
-    rw c.bits_at.ensures (takes at.loop.invariant start.requires.0 start.requires.2 c.before.loop-test.true)
+    let at = c in
+    let start = at in
+    rw c.bits_at.ensures (takes at.loop-i.invariant start.requires.0 start.requires.2 c.loop-i-test.true)
 
 pub take_spec : {M : Type 1} → statement M
 take_spec =
@@ -66,13 +66,13 @@ take_spec =
     (tie.spec
     invariant_loop
     decreases_loop
-    (λ c. let pre = c.before.before.requires in record { within = pre.1; long = refl; near = pre.3; so_far = refl })
+    (λ c. let pre = c.requires in record { within = pre.1; long = refl; near = pre.3; so_far = refl })
     (λ c κs. search rules)
     byte
-    (λ c. omega (arith, c.before.before.loop.invariant.long, c.before.before.before.before.before.requires.2))
-    (λ c. omega (arith, c.before.before.loop.invariant.near, c.before.before.before.before.before.requires.0))
+    (λ c. omega (arith, c.loop-i.invariant.long, c.requires.2))
+    (λ c. omega (arith, c.loop-i.invariant.near, c.requires.0))
     (λ c. omega arith)
     (λ c. omega arith)
     loop_again
-    (λ c. c.before.loop.invariant.long)
-    (λ c. done c.before.loop.invariant c.loop-test.false))
+    (λ c. c.loop-i.invariant.long)
+    (λ c. done c.loop-i.invariant c.loop-i-test.false))

@@ -13,16 +13,16 @@ use Rattle.codes.proofs.take_all.Tie as tie
 
 take_requires : tie.Need-take-requires
 take_requires c κs =
-    let pre = c.before.before.before.before.requires in
+    let pre = c.requires in
     (omega (arith, fewest pre.0), omega arith, omega arith, omega (arith, pre.2))
 
-returns : tie.Need-returns
+returns : tie.Need-returns-then-b-d-eq0
 returns c =
-    let took = c.before.before in
-    let even = took.before.before.if1.true in
-    let a = took.before.before.before.before.before.args in
-    let count = length a.regions.now in
-    sym (take_all count _ (omega (arith, c.before.regions.given))) ∙ rw sub-zero at took.take.ensures
+    let took = c in
+    let even = took.if-b-d-eq0.true in
+    let a = took.args in
+    let count = length a.regions-1.now in
+    sym (take_all count _ (omega (arith, c.regions-1.given))) ∙ rw sub-zero at took.take.ensures
     ∙ sym (split_uniform a.d a.b even 0 count (byte_bits a.codes.now))
 
 pub take_all_spec : {M : Type 1} → statement M

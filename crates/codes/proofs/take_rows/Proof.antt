@@ -25,10 +25,10 @@ record Taking (d b : ℕ) (codes regions : List ℕ) (n from i : ℕ) : Type 0 w
   near : from ≤ max_dimension_bits * i
   so_far : take i regions ++ split d b 0 (n - i) (drop from (byte_bits codes)) ≡ split d b 0 n (byte_bits codes)
 
-abbrev invariant_loop : tie.invariant_loop
+abbrev invariant_loop : tie.invariant-loop-i
 invariant_loop d b codes regions₀ fewest more from₀ i₀ regions from i = Taking d b codes regions (length regions₀) from i
 
-abbrev decreases_loop : tie.decreases_loop
+abbrev decreases_loop : tie.decreases-loop-i
 decreases_loop d b codes regions₀ fewest more from₀ i₀ regions from i = length regions₀ - i
 
 module _ {d b : ℕ} {codes regions : List ℕ} {n from i : ℕ} (now : Taking d b codes regions n from i) where
@@ -60,19 +60,19 @@ module _ {d b : ℕ} {codes regions : List ℕ} {n from i : ℕ} (now : Taking d
       written_all regions i _ past (rw none at now.so_far)
 
 -- a row is there, and no sum is large
-small : (c : tie.In-loop invariant_loop decreases_loop) → let a = c.before.before.before.before.args in
-    let at = c.before.loop in
-    let n = length a.regions.now in
-    (at.i + a.d ≤ n) × (n ≤ max_vectors * max_dimensions) × (length at.regions ≡ n)
+small : (c : tie.In-loop-i invariant_loop decreases_loop) → let a = c.args in
+    let at = c.loop-i in
+    let n = length a.regions-1.now in
+    (at.i + a.d ≤ n) × (n ≤ max_vectors * max_dimensions) × (length at.regions-1 ≡ n)
     × (at.from ≤ max_dimension_bits * at.i) × (a.b ≤ max_dimension_bits * a.d)
     × (a.b % a.d < a.d) × (a.b / a.d ≤ max_dimension_bits) × (a.b % a.d * (a.b / a.d + 1) ≤ a.b)
 small c =
-    let start = c.before.before.before.before in
+    let start = c in
     let a = start.args in
     let shaped = start.requires.0 in
-    let now = c.before.loop.invariant in
+    let now = c.loop-i.invariant in
     let within = mod-lt a.b shaped.some in (
-      (row now c.loop-test.true).0,
+      (row now c.loop-i-test.true).0,
       start.requires.2,
       now.long,
       now.near,
@@ -87,19 +87,19 @@ take_requires c κs =
     let at = small c.before in
     (omega (arith, at), omega arith, omega (arith, at), omega (arith, at))
 
-take_requires_2 : tie.Need-take-requires-2 invariant_loop decreases_loop
+take_requires_2 : tie.Need-take-requires-in-loop-i invariant_loop decreases_loop
 take_requires_2 c κs =
     let at = small c.before.before.before.before.before in
-    (omega (arith, at), omega (arith, at), omega (arith, at, c.before.before.regions.given), omega (arith, at))
+    (omega (arith, at), omega (arith, at), omega (arith, at, c.regions-1.given), omega (arith, at))
 
-loop_again : tie.Need-loop-preserved invariant_loop decreases_loop
+loop_again : tie.Need-loop-i-preserved invariant_loop decreases_loop
 loop_again c =
-    let second = c.before.before in
-    let first = second.before.before.before.before in
-    let turn = first.before.before in
-    takes turn.before.loop.invariant turn.before.before.before.before.requires.0 turn.loop-test.true
-    (omega (arith, small turn, second.before.before.before.regions.given, c.before.regions2.given))
-    (rw (← first.take.ensures) second.take2.ensures)
+    let second = c in
+    let first = second in
+    let turn = first in
+    takes turn.loop-i.invariant turn.requires.0 turn.loop-i-test.true
+    (omega (arith, small turn.before.before.before.before.before.before.before.before, second.regions-1.given, c.regions-in-loop-i-1.given))
+    (rw (← first.take.ensures) second.take-in-loop-i.ensures)
 
 pub take_rows_spec : {M : Type 1} → statement M
 take_rows_spec =
@@ -107,9 +107,9 @@ take_rows_spec =
     (tie.spec
     invariant_loop
     decreases_loop
-    (λ c. c.before.before.requires.0.some)
-    (λ c. c.before.before.requires.0.some)
-    (λ c. record { left = rw sub-zero c.before.before.requires.1; long = refl; near = omega arith; so_far = rw sub-zero })
+    (λ c. c.requires.0.some)
+    (λ c. c.requires.0.some)
+    (λ c. record { left = rw sub-zero c.requires.1; long = refl; near = omega arith; so_far = rw sub-zero })
     (λ c. omega (arith, small c))
     (λ c. omega (arith, small c.before))
     take_requires
@@ -123,5 +123,5 @@ take_rows_spec =
     (λ c. omega (arith, small c.before.before.before.before.before.before.before.before))
     (λ c. omega (arith, small c.before.before.before.before.before.before.before.before))
     loop_again
-    (λ c. c.before.loop.invariant.long)
-    (λ c. done c.before.loop.invariant c.loop-test.false))
+    (λ c. c.loop-i.invariant.long)
+    (λ c. done c.loop-i.invariant c.loop-i-test.false))

@@ -20,74 +20,74 @@ use Rattle.codes.proofs.unpack.Statement.{statement}
 use Rattle.codes.proofs.unpack.Tie as tie
 
 -- where the sizes were tested
-abbrev rows : (c : tie.After-check-sizes) → List Row
+abbrev rows : (c : tie.After-check_sizes) → List Row
 rows c =
-    let args = c.before.before.before.args in
-    size_causes args.d args.b args.n (length args.regions.now) (length args.codes.now)
+    let args = c.args in
+    size_causes args.d args.b args.n (length args.regions-1.now) (length args.codes.now)
 
-abbrev spare_set : (c : tie.After-check-sizes) → Bool
+abbrev spare_set : (c : tie.After-check_sizes) → Bool
 spare_set c =
-    let args = c.before.before.before.args in
+    let args = c.args in
     not (spare_zero args.b args.n args.codes.now)
 
-abbrev numbers : (c : tie.After-check-sizes) → List ℕ
+abbrev numbers : (c : tie.After-check_sizes) → List ℕ
 numbers c =
-    let args = c.before.before.before.args in
+    let args = c.args in
     unpacked args.d args.b args.n args.codes.now
 
 -- they are not refused
-right : (c : tie.After-enum-told) → first (rows c.before.before) ≡ Accepted
-right c = sym c.before.before.check-sizes.ensures ∙ c.enum_told.given.1
+right : (c : tie.In-Accepted) → first (rows c) ≡ Accepted
+right c = sym c.check_sizes.ensures ∙ c.in-Accepted.is
 
-sized : (c : tie.After-enum-told) → let args = c.before.before.before.before.before.args in
-    Sizes args.d args.b args.n (length args.regions.now) (length args.codes.now)
+sized : (c : tie.In-Accepted) → let args = c.args in
+    Sizes args.d args.b args.n (length args.regions-1.now) (length args.codes.now)
 sized c =
-    let args = c.before.before.before.before.before.args in
-    sizes args.d args.b args.n (length args.regions.now) (length args.codes.now) (right c)
+    let args = c.args in
+    sizes args.d args.b args.n (length args.regions-1.now) (length args.codes.now) (right c)
 
 -- what the spare bits make is 0 if none is set
-spare : (c : tie.After-bits-at) → eqb c.bits_at.result 0
-    ≡ (let args = c.before.before.before.before.before.before.args in spare_zero args.b args.n args.codes.now)
+spare : (c : tie.After-bits_at) → eqb c.bits_at.result 0
+    ≡ (let args = c.args in spare_zero args.b args.n args.codes.now)
 spare c =
-    let args = c.before.before.before.before.before.before.args in
+    let args = c.args in
     rw c.bits_at.ensures (spare_read args.b args.n args.codes.now (sized c.before).bytes)
 
-mul_bits_at : tie.Need-overflow-mul-bits-at
+mul_bits_at : tie.Need-overflow_mul-n
 mul_bits_at c =
     let size = sized c in
-    omega (arith, codes_bits_le c.before.before.before.before.before.args.n size.shaped size.few)
+    omega (arith, codes_bits_le c.args.n size.shaped size.few)
 
-returns : tie.Need-returns
+returns : tie.Need-returns-then-bits_at-ne0
 returns c =
-    let told = c.before.before in
-    let at = told.before.before in
-    refused_last (rows at) (spare_set at) Code at.before.before.before.args.regions.now (numbers at) (right told)
-    (ap not (sym (spare c.before) ∙ ne_eqb c.before.bits_at.result 0 c.if1.true))
+    let told = c in
+    let at = told in
+    refused_last (rows at) (spare_set at) Code at.args.regions.now (numbers at) (right told.before.before)
+    (ap not (sym (spare c.before) ∙ ne_eqb c.bits_at.result 0 c.if-bits_at-ne0.true))
 
-take_all_requires : tie.Need-take-all-requires
+take_all_requires : tie.Need-take_all-requires
 take_all_requires c κs =
-    let told = c.before.before.before in
-    let n = told.before.before.before.before.before.args.n in
-    let size = sized told in
+    let told = c in
+    let n = told.args.n in
+    let size = sized told.before.before.before in
     (size.shaped, record { rows = n; whole = size.rows }, rw size.rows (numbers_le n size.shaped size.few))
 
-returns_2 : tie.Need-returns-2
+returns_2 : tie.Need-returns-else-bits_at-ne0
 unfolding unpacked
 returns_2 c =
-    let took = c.before.before in
-    let told = took.before.before.before.before in
-    let at = told.before.before in
-    accepted_all (rows at) (spare_set at) Code at.before.before.before.args.regions.now (numbers at) (right told)
-    (ap not (sym (spare took.before.before.before)
-    ∙ eq-eqb took.before.before.before.bits_at.result 0 took.before.before.if1.false))
-    (rw (← (sized told).rows) took.take_all.ensures)
+    let took = c in
+    let told = took in
+    let at = told in
+    accepted_all (rows at) (spare_set at) Code at.args.regions.now (numbers at) (right told.before.before.before.before.before.before)
+    (ap not (sym (spare took.before.before.before.before.before)
+    ∙ eq-eqb took.bits_at.result 0 took.if-bits_at-ne0.false))
+    (rw (← (sized told.before.before.before.before.before.before).rows) took.take_all.ensures)
 
-returns_3 : tie.Need-returns-3
+returns_3 : tie.Need-returns-in-Refused
 returns_3 c =
-    let at = c.before.before.before in
-    let refused : first (rows at) ≡ Refused c.before.cause.given.0.0 =
-    rw (← at.check-sizes.ensures) c.before.cause.given.1 in
-    refused_before (rows at) ((spare_set at ⇒ Code) ∷ []) at.before.before.before.args.regions.now (numbers at) refused
+    let at = c in
+    let refused : first (rows at) ≡ Refused c.in-Refused.cause =
+    rw (← at.check_sizes.ensures) c.in-Refused.is in
+    refused_before (rows at) ((spare_set at ⇒ Code) ∷ []) at.args.regions.now (numbers at) refused
 
 pub unpack_spec : {M : Type 1} → statement M
 unpack_spec =

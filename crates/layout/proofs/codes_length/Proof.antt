@@ -13,32 +13,32 @@ use Rattle.layout.specs.Stretch.{shape_causes, codes_length, shape, codes_bits_l
 use Rattle.layout.proofs.codes_length.Statement.{statement}
 use Rattle.layout.proofs.codes_length.Tie as tie
 
-accepted : (c : tie.After-enum-told) → let a = c.before.before.before.args in first (shape_causes a.d a.b) ≡ Accepted
-accepted c = sym c.before.before.check-shape.ensures ∙ c.enum_told.given.1
+accepted : (c : tie.In-Accepted) → let a = c.args in first (shape_causes a.d a.b) ≡ Accepted
+accepted c = sym c.check_shape.ensures ∙ c.in-Accepted.is
 
-returns : tie.Need-returns
+returns : tie.Need-returns-then-not-is_vector_count
 unfolding codes_length
 returns c =
-    let test = c.before in
-    let none = sym test.is-vector-count.ensures ∙ not-true test.is-vector-count.result c.if1.true in
-    sym (outcome_accepted _ _ (accepted test.before) ∙ rw none)
+    let test = c in
+    let none = sym test.is_vector_count.ensures ∙ not-true test.is_vector_count.result c.if-not-is_vector_count.true-raw in
+    sym (outcome_accepted _ _ (accepted test.before.before) ∙ rw none)
 
-counted : (c : tie.Else1) → is_vector_count c.before.before.before.before.before.args.n ≡ true
-counted c = sym c.before.is-vector-count.ensures ∙ not-false c.before.is-vector-count.result c.if1.false
+counted : (c : tie.Else-not-is_vector_count) → is_vector_count c.args.n ≡ true
+counted c = sym c.is_vector_count.ensures ∙ not-false c.is_vector_count.result c.if-not-is_vector_count.false-raw
 
-few_bits : (c : tie.Else1) → let a = c.before.before.before.before.before.args in a.n * a.b + 7 < 2 ^ 64
+few_bits : (c : tie.Else-not-is_vector_count) → let a = c.args in a.n * a.b + 7 < 2 ^ 64
 few_bits c =
-    let told = c.before.before in
-    let a = told.before.before.before.args in
-    omega (arith, codes_bits_le a.n (shape a.d a.b (accepted told)) (between 1 a.n max_vectors (counted c)).below)
+    let told = c in
+    let a = told.args in
+    omega (arith, codes_bits_le a.n (shape a.d a.b (accepted told.before.before)) (between 1 a.n max_vectors (counted c)).below)
 
-returns_2 : tie.Need-returns-2
+returns_2 : tie.Need-returns-else-not-is_vector_count
 unfolding codes_length
 returns_2 c = sym (outcome_accepted _ _ (accepted c.before.before) ∙ rw (counted c))
 
-returns_3 : tie.Need-returns-3
+returns_3 : tie.Need-returns-in-Refused
 unfolding codes_length
-returns_3 c = sym (outcome_refused _ _ (sym c.before.before.check-shape.ensures ∙ c.enum-told2.given.1))
+returns_3 c = sym (outcome_refused _ _ (sym c.check_shape.ensures ∙ c.in-Refused.is))
 
 pub codes_length_spec : {M : Type 1} → statement M
 codes_length_spec =

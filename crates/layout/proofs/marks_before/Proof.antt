@@ -19,25 +19,25 @@ some j p hj hp = mul-le-mul hj hp
 least_le : (j e r : ℕ) → j ≤ 32 → r ≡ min j e → r ≤ 32
 least_le j e r h is = omega arith
 
-mul_result : tie.Need-overflow-mul-result
-mul_result c = omega (arith, every c.before.args.j c.power.result c.before.requires.1 c.power.ensures.1)
+mul_result : tie.Need-overflow_mul-result
+mul_result c = omega (arith, every c.args.j c.power-regions.result c.requires.1 c.power-regions.ensures.1)
 
-mul_result_2 : tie.Need-overflow-mul-result-2
+mul_result_2 : tie.Need-overflow_mul-result-2
 mul_result_2 c =
-    let args = c.before.before.args in
-    let few = least_le args.j args.more c.least.result c.before.before.requires.1 c.least.ensures in
-    omega (arith, some c.least.result c.before.power.result few c.before.power.ensures.1)
+    let args = c.args in
+    let few = least_le args.j args.more c.least.result c.requires.1 c.least.ensures in
+    omega (arith, some c.least.result c.power-regions.result few c.power-regions.ensures.1)
 
-add_result_2 : tie.Need-overflow-add-result-2
+add_result_2 : tie.Need-overflow_add-result-2
 add_result_2 c =
-    let args = c.before.before.args in
-    let few = least_le args.j args.more c.least.result c.before.before.requires.1 c.least.ensures in
-    let small = c.before.power.ensures.1 in
-    let regions = c.before.power.result in
-    omega (arith, every args.j regions c.before.before.requires.1 small, some c.least.result regions few small)
+    let args = c.args in
+    let few = least_le args.j args.more c.least.result c.requires.1 c.least.ensures in
+    let small = c.power-regions.ensures.1 in
+    let regions = c.power-regions.result in
+    omega (arith, every args.j regions c.requires.1 small, some c.least.result regions few small)
 
 returns : tie.Need-returns
-returns c = rw (c.before.power.ensures.0, c.least.ensures)
+returns c = rw (c.power-regions.ensures.0, c.least.ensures)
 
 pub marks_before_spec : {M : Type 1} → statement M
 marks_before_spec =

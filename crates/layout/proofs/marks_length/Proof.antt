@@ -7,23 +7,23 @@ use Rattle.layout.specs.Stretch.{marks_length, Shape, shape}
 use Rattle.layout.proofs.marks_length.Statement.{statement}
 use Rattle.layout.proofs.marks_length.Tie as tie
 
-accepted : (c : tie.After-enum-told) → Shape c.before.before.before.args.d c.before.before.before.args.b
-accepted c = shape _ _ (sym c.before.before.check-shape.ensures ∙ c.enum_told.given.1)
+accepted : (c : tie.In-Accepted) → Shape c.args.d c.args.b
+accepted c = shape _ _ (sym c.check_shape.ensures ∙ c.in-Accepted.is)
 
-marks_before_requires : tie.Need-marks-before-requires
+marks_before_requires : tie.Need-marks_before-requires
 marks_before_requires c κs = (fewest_le 6 _ _ (accepted c).bits, (accepted c).few)
 
-returns : tie.Need-returns
+returns : tie.Need-returns-in-Accepted
 unfolding marks_length
 returns c =
-    let start = c.before.before.before.before in
-    c.marks-before.ensures
+    let start = c in
+    c.marks_before.ensures
     ∙ sym (first_marks_lem start.args.d start.args.b start.args.d)
-    ∙ sym (outcome_accepted _ _ (sym c.before.before.before.check-shape.ensures ∙ c.before.enum_told.given.1))
+    ∙ sym (outcome_accepted _ _ (sym c.check_shape.ensures ∙ c.in-Accepted.is))
 
-returns_2 : tie.Need-returns-2
+returns_2 : tie.Need-returns-in-Refused
 unfolding marks_length
-returns_2 c = sym (outcome_refused _ _ (sym c.before.before.check-shape.ensures ∙ c.enum-told2.given.1))
+returns_2 c = sym (outcome_refused _ _ (sym c.check_shape.ensures ∙ c.in-Refused.is))
 
 pub marks_length_spec : {M : Type 1} → statement M
 marks_length_spec =

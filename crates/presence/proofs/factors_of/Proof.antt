@@ -17,10 +17,10 @@ record Filling (word : ℕ) (factors : List ℕ) (t : ℕ) : Type 0 where
   size : length factors ≡ max_dimensions
   so_far : take t factors ≡ take t (factors_of word)
 
-abbrev invariant_loop : tie.invariant_loop
+abbrev invariant_loop : tie.invariant-loop-t
 invariant_loop word factors₀ t₀ factors t = Filling word factors t
 
-abbrev decreases_loop : tie.decreases_loop
+abbrev decreases_loop : tie.decreases-loop-t
 decreases_loop word factors₀ t₀ factors t = max_dimensions - t
 
 module _ {word : ℕ} {factors : List ℕ} {t : ℕ} (at : Filling word factors t) where
@@ -35,9 +35,9 @@ module _ {word : ℕ} {factors : List ℕ} {t : ℕ} (at : Filling word factors 
   done past =
       sym (take_all t factors (omega (arith, at.size))) ∙ at.so_far ∙ take_all t (factors_of word) (omega (arith, factors_size word))
 
-loop_again : tie.Need-loop-preserved invariant_loop decreases_loop
+loop_again : tie.Need-loop-t-preserved invariant_loop decreases_loop
 unfolding factor_at
-loop_again c = turn c.before.loop.invariant (omega arith)
+loop_again c = turn c.loop-t.invariant (omega arith)
 
 pub factors_of_spec : {M : Type 1} → statement M
 factors_of_spec =
@@ -53,4 +53,4 @@ factors_of_spec =
     (λ c. omega arith)
     (λ c. omega arith)
     loop_again
-    (λ c. done c.before.loop.invariant (omega arith)))
+    (λ c. done c.loop-t.invariant (omega arith)))

@@ -8,10 +8,10 @@ use Rattle.presence.specs.PresenceLaws.{none_past}
 use Rattle.presence.proofs.has_bit_past.Statement.{statement}
 use Rattle.presence.proofs.has_bit_past.Tie as tie
 
-returns : tie.Need-returns
+returns : tie.Need-returns-then-d-ge-MAX_DIMENSIONS
 returns c =
-    let start = c.before in
-    sym (ap not (eq-eqb _ _ (none_past start.args.word max_dimensions start.args.d start.ranges.word.fits c.if1.true)))
+    let start = c in
+    sym (ap not (eq-eqb _ _ (none_past start.args.word max_dimensions start.args.d start.ranges.word.fits c.if-d-ge-MAX_DIMENSIONS.true)))
 
 pub has_bit_past_spec : {M : Type 1} → statement M
 has_bit_past_spec = tie.close (tie.spec returns (λ c. search rules) (λ c. search rules) (λ c. search rules))

@@ -10,7 +10,7 @@ use Rattle.presence.proofs.present_count.Tie as tie
 few : (c : tie.Start) → ones c.args.word ≤ max_dimensions
 few c = ones-le max_dimensions c.args.word c.ranges.word.fits
 
-cast_result : tie.Need-overflow-cast-result
+cast_result : tie.Need-overflow_cast-result
 cast_result c = record { fits = omega (arith, few c) }
 
 returns : tie.Need-returns

@@ -28,55 +28,55 @@ module _ (placed : Bool) (bytes : List ℕ) (at : ℕ) where
   unfolding first frame_causes
   before_end within = rw (length-drop at bytes, kind_at bytes at, ne_eqb (length bytes - at) 0 (λ e. omega arith))
 
-returns : tie.Need-returns
+returns : tie.Need-returns-then-bytes-at
 returns c =
-    let args = c.before.before.args in
-    sym (at_end args.placed args.bytes.now args.at c.if1.true)
+    let args = c.args in
+    sym (at_end args.placed args.bytes.now args.at c.if-bytes-at.true)
 
 -- the kind is known or not
-kind_known : (c : tie.After-is-kind)
-    → c.is-kind.result
-    ≡ is_kind (get_or c.before.before.before.before.args.bytes.now c.before.before.before.before.args.at 0)
-kind_known c = rw (← c.before.byte_at.ensures) c.is-kind.ensures
+kind_known : (c : tie.After-is_kind-known)
+    → c.is_kind-known.result
+    ≡ is_kind (get_or c.args.bytes.now c.args.at 0)
+kind_known c = rw (← c.byte_at-kind.ensures) c.is_kind-known.ensures
 
-returns_2 : tie.Need-returns-2
+returns_2 : tie.Need-returns-then-not-known
 unfolding first
 returns_2 c =
-    let args = c.before.before.before.before.before.args in
-    sym (before_end args.placed args.bytes.now args.at c.before.before.before.if1.false
-    ∙ rw (← kind_known c.before, c.if2.true))
+    let args = c.args in
+    sym (before_end args.placed args.bytes.now args.at c.if-bytes-at.false
+    ∙ rw (← kind_known c.before, c.if-not-known.true-raw))
 
-returns_3 : tie.Need-returns-3
+returns_3 : tie.Need-returns-then-not-placed
 unfolding first
 returns_3 c =
-    let args = c.before.before.before.before.before.before.args in
-    sym (before_end args.placed args.bytes.now args.at c.before.before.before.before.if1.false
-    ∙ rw (← kind_known c.before.before, c.before.if2.false, c.if3.true))
+    let args = c.args in
+    sym (before_end args.placed args.bytes.now args.at c.if-bytes-at.false
+    ∙ rw (← kind_known c.before.before, c.if-not-known.false-raw, c.if-not-placed.true-raw))
 
 -- the body's end is what is left to test
-last_test : (c : tie.After-record-length) → let args = c.before.before.before.before.before.before.before.args in
+last_test : (c : tie.After-record_length) → let args = c.args in
     first (frame_causes args.placed (drop args.at args.bytes.now))
     ≡ first ((ltb (length args.bytes.now - args.at) c.record_length.result ⇒ Truncated) ∷ [])
 unfolding first
 last_test c =
-    let known = c.before.before.before in
-    let args = known.before.before.before.before.args in
-    before_end args.placed args.bytes.now args.at known.before.before.if1.false
+    let known = c in
+    let args = known.args in
+    before_end args.placed args.bytes.now args.at known.if-bytes-at.false
     ∙ rw (
-      ← kind_known known,
-      c.before.before.if2.false,
-      c.before.if3.false,
-      ← known.before.byte_at.ensures,
+      ← kind_known known.before.before.before,
+      c.if-not-known.false-raw,
+      c.if-not-placed.false-raw,
+      ← known.byte_at-kind.ensures,
       ← c.record_length.ensures,
     )
 
-returns_4 : tie.Need-returns-4
+returns_4 : tie.Need-returns-then-bytes-at-2
 unfolding first
-returns_4 c = sym (last_test c.before ∙ rw (lt-ltb _ _ c.if4.true))
+returns_4 c = sym (last_test c.before ∙ rw (lt-ltb _ _ c.if-bytes-at-2.true))
 
-returns_5 : tie.Need-returns-5
+returns_5 : tie.Need-returns
 unfolding first
-returns_5 c = sym (last_test c.before ∙ rw (le-ltb _ _ c.if4.false))
+returns_5 c = sym (last_test c.before ∙ rw (le-ltb _ _ c.if-bytes-at-2.false))
 
 pub check_frame_spec : {M : Type 1} → statement M
 check_frame_spec =

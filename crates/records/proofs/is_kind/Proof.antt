@@ -39,6 +39,6 @@ pub is_kind_spec : {M : Type 1} → statement M
 is_kind_spec =
     tie.close
     (tie.spec
-    (λ c. sym (among c.before.before.args.kind (omega arith) (omega arith)))
-    (λ c. sym (not_among c.before.args.kind (λ k some few e. omega arith)))
-    (λ c. sym (not_among c.before.before.args.kind (λ k some few e. omega arith))))
+    (λ c. sym (among c.args.kind (omega arith) (omega arith)))
+    (λ c. sym (not_among c.args.kind (λ k some few e. omega arith)))
+    (λ c. sym (not_among c.args.kind (λ k some few e. omega arith))))

@@ -4,10 +4,10 @@ use Rattle.records.specs.Records.{formats, widths_among, widths_of, sum, record_
 use Rattle.records.proofs.record_length.Statement.{statement}
 use Rattle.records.proofs.record_length.Tie as tie
 
-returns_8 : tie.Need-returns-8
+returns_8 : tie.Need-returns-in_default
 unfolding record_length sum widths_of widths_among formats
 returns_8 c =
-    let kind = c.before.args.kind in
+    let kind = c.args.kind in
     let none = c.match.rest in
     rw (
       ne_eqb kind 1 none.0.0.0.0.0.0.1,
@@ -24,11 +24,11 @@ unfolding record_length sum widths_of widths_among formats
 record_length_spec =
     tie.close
     (tie.spec
-    (λ c. rw c.match.keys1)
-    (λ c. rw c.match.keys2)
-    (λ c. rw c.match.keys3)
-    (λ c. rw c.match.keys4)
-    (λ c. rw c.match.keys5)
-    (λ c. rw c.match.keys6)
-    (λ c. rw c.match.keys7)
+    (λ c. rw c.in-1.is)
+    (λ c. rw c.in-2.is)
+    (λ c. rw c.in-3.is)
+    (λ c. rw c.in-4.is)
+    (λ c. rw c.in-5.is)
+    (λ c. rw c.in-6.is)
+    (λ c. rw c.in-7.is)
     returns_8)

@@ -9,21 +9,21 @@ use Rattle.records.specs.ByteLaws.{from_none, two_bytes}
 use Rattle.records.proofs.u16_at.Statement.{statement}
 use Rattle.records.proofs.u16_at.Tie as tie
 
-returns : tie.Need-returns
-returns c = sym (ap (from_low_first 2) (drop_of_length-le c.before.before.args.bytes.now c.if1.true) ∙ from_none 2)
+returns : tie.Need-returns-then-bytes-at
+returns c = sym (ap (from_low_first 2) (drop_of_length-le c.args.bytes.now c.if-bytes-at.true) ∙ from_none 2)
 
 -- the two bytes are bytes
-small : (c : tie.After-byte-at2) → (c.before.byte_at.result < 256) × (c.byte-at2.result < 256)
+small : (c : tie.After-byte_at-high) → (c.byte_at-low.result < 256) × (c.byte_at-high.result < 256)
 small c =
-    let start = c.before.before.before in
-    let known = start.shared-slice-known.given in
-    let at = start.before.args.at in
-    (rw c.before.byte_at.ensures (known at).fits, rw c.byte-at2.ensures (known (at + 1)).fits)
+    let start = c in
+    let known = start.shared_slice_known-1.given in
+    let at = start.args.at in
+    (rw c.byte_at-low.ensures (known at).fits, rw c.byte_at-high.ensures (known (at + 1)).fits)
 
-returns_2 : tie.Need-returns-2
+returns_2 : tie.Need-returns
 returns_2 c =
-    let args = c.before.before.before.before.args in
-    sym (two_bytes args.bytes.now args.at ∙ rw (← c.before.byte_at.ensures, ← c.byte-at2.ensures))
+    let args = c.args in
+    sym (two_bytes args.bytes.now args.at ∙ rw (← c.byte_at-low.ensures, ← c.byte_at-high.ensures))
 
 pub u16_at_spec : {M : Type 1} → statement M
 u16_at_spec =

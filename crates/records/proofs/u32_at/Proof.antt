@@ -16,23 +16,23 @@ halves : (bytes : List ℕ) (at : ℕ)
 unfolding from_low_first
 halves bytes at = rw (← drop-drop 2 at bytes, drop-drop 1 1 (drop at bytes)) (omega arith)
 
-returns : tie.Need-returns
-returns c = sym (ap (from_low_first 4) (drop_of_length-le c.before.before.args.bytes.now c.if1.true) ∙ from_none 4)
+returns : tie.Need-returns-then-bytes-at
+returns c = sym (ap (from_low_first 4) (drop_of_length-le c.args.bytes.now c.if-bytes-at.true) ∙ from_none 4)
 
 -- the two halves are numbers of two bytes
-small : (c : tie.After-u16-at2) → (c.before.u16-at.result < 65536) × (c.u16-at2.result < 65536)
+small : (c : tie.After-u16_at-high) → (c.u16_at-low.result < 65536) × (c.u16_at-high.result < 65536)
 small c =
-    let start = c.before.before.before in
-    let bytes = start.before.args.bytes.now in
-    let at = start.before.args.at in
+    let start = c in
+    let bytes = start.args.bytes.now in
+    let at = start.args.at in
     let half : (n : ℕ) → from_low_first 2 (drop n bytes) < 65536 =
-    λ n. from_below 2 (drop n bytes) (bytes_drop n bytes (λ i. (start.shared-slice-known.given i).fits)) in
-    (rw c.before.u16-at.ensures (half at), rw c.u16-at2.ensures (half (at + 2)))
+    λ n. from_below 2 (drop n bytes) (bytes_drop n bytes (λ i. (start.shared_slice_known-1.given i).fits)) in
+    (rw c.u16_at-low.ensures (half at), rw c.u16_at-high.ensures (half (at + 2)))
 
-returns_2 : tie.Need-returns-2
+returns_2 : tie.Need-returns
 returns_2 c =
-    let args = c.before.before.before.before.args in
-    sym (halves args.bytes.now args.at ∙ rw (← c.before.u16-at.ensures, ← c.u16-at2.ensures))
+    let args = c.args in
+    sym (halves args.bytes.now args.at ∙ rw (← c.u16_at-low.ensures, ← c.u16_at-high.ensures))
 
 pub u32_at_spec : {M : Type 1} → statement M
 u32_at_spec =

@@ -110,13 +110,13 @@ abbrev Start : ℕ → Type 0
 Start t = locate-lts.Start (half-start.Asked, half-start.Learnt, locate_below t, locate.Post) (locate_at t) locate.Post
 
 abbrev Once : ℕ → Type 0
-Once t = locate-lts.After-half-start (half-start.Asked, half-start.Learnt, locate_below t, locate.Post) (locate_at t) locate.Post
+Once t = locate-lts.After-half_start-first (half-start.Asked, half-start.Learnt, locate_below t, locate.Post) (locate_at t) locate.Post
 
 abbrev Twice : ℕ → Type 0
-Twice t = locate-lts.After-half-start2 (half-start.Asked, half-start.Learnt, locate_below t, locate.Post) (locate_at t) locate.Post
+Twice t = locate-lts.After-half_start-second (half-start.Asked, half-start.Learnt, locate_below t, locate.Post) (locate_at t) locate.Post
 
 abbrev Thrice : ℕ → Type 0
-Thrice t = locate-lts.After-half-start3 (half-start.Asked, half-start.Learnt, locate_below t, locate.Post) (locate_at t) locate.Post
+Thrice t = locate-lts.After-half_start-start (half-start.Asked, half-start.Learnt, locate_below t, locate.Post) (locate_at t) locate.Post
 
 abbrev Back : ℕ → Type 0
 Back t = locate-lts.After-locate (half-start.Asked, half-start.Learnt, locate_below t, locate.Post) (locate_at t) locate.Post
@@ -125,72 +125,72 @@ module _ {t : ℕ} where
   abbrev marks_of : Start t → List ℤ
   marks_of c = c.args.marks.now
 
-  once : (c : Once t) → let start = c.before.before in
-      c.half-start.result ≡ half_start (marks_of start) start.args.v 0 (half_of (length (marks_of start)))
-  once c = rw (to_z-of_z w32 c.before.before.args.v c.before.before.ranges.v) at c.half-start.ensures
+  once : (c : Once t) → let start = c in
+      c.half_start-first.result ≡ half_start (marks_of start) start.args.v 0 (half_of (length (marks_of start)))
+  once c = rw (to_z-of_z w32 c.args.v c.ranges.v) at c.half_start-first.ensures
 
-  once_le : (c : Once t) → c.half-start.result ≤ 0 + half_of (length (marks_of c.before.before))
+  once_le : (c : Once t) → c.half_start-first.result ≤ 0 + half_of (length (marks_of c))
   once_le c =
-      let start = c.before.before in
+      let start = c in
       rw (once c) (half_start_le (marks_of start) start.args.v 0 (half_of (length (marks_of start))))
 
-  twice : (c : Twice t) → let start = c.before.before.before in let first = c.before.half-start.result in
-      c.half-start2.result ≡ half_start (marks_of start) start.args.v first (quarter_of (length (marks_of start)))
+  twice : (c : Twice t) → let start = c in let first = c.half_start-first.result in
+      c.half_start-second.result ≡ half_start (marks_of start) start.args.v first (quarter_of (length (marks_of start)))
   twice c =
-      let start = c.before.before.before in
-      rw (to_z-of_z w32 start.args.v start.ranges.v) at c.half-start2.ensures
+      let start = c in
+      rw (to_z-of_z w32 start.args.v start.ranges.v) at c.half_start-second.ensures
 
-  requires_3 : locate-lts.Need-half-start-requires-3 (half-start.Asked, half-start.Learnt, locate_below t, locate.Post) (locate_at t)
+  requires_3 : locate-lts.Need-half_start-start-requires (half-start.Asked, half-start.Learnt, locate_below t, locate.Post) (locate_at t)
       locate.Post
   requires_3 c κs =
-      let start = c.before.before.before in
-      let first = c.before.half-start.result in
+      let start = c in
+      let first = c.half_start-first.result in
       let size = length (marks_of start) in
-      second_within size first c.half-start2.result c.before.before.if1.false (once_le c.before)
+      second_within size first c.half_start-second.result c.if-count-le2.false (once_le c)
       (rw (twice c) (half_start_le (marks_of start) start.args.v first (quarter_of size)))
 
-  moved : (c : Thrice t) → let first = c.before.before in let start = first.before.before in
-      Moved (marks_of start) start.args.v first.half-start.result c.before.half-start2.result c.half-start3.result
+  moved : (c : Thrice t) → let first = c in let start = first in
+      Moved (marks_of start) start.args.v first.half_start-first.result c.half_start-second.result c.half_start-start.result
   moved c =
-      let start = c.before.before.before.before in
-      let last = rw (to_z-of_z w32 start.args.v start.ranges.v) at c.half-start3.ensures in
-      record { once = once c.before.before; twice = twice c.before; thrice = last }
+      let start = c in
+      let last = rw (to_z-of_z w32 start.args.v start.ranges.v) at c.half_start-start.ensures in
+      record { once = once c; twice = twice c; thrice = last }
 
-  inside : (c : Thrice t) → let marks = marks_of c.before.before.before.before in
-      c.half-start3.result + left_of (length marks) ≤ length marks
-  inside c = within (moved c) c.before.before.before.if1.false
+  inside : (c : Thrice t) → let marks = marks_of c in
+      c.half_start-start.result + left_of (length marks) ≤ length marks
+  inside c = within (moved c) c.if-count-le2.false
 
   -- The part that is handed on has the length that the code works out.
-  part : (c : Thrice t) → let n = left_of (length (marks_of c.before.before.before.before)) in
-      c.half-start3.result + n - c.half-start3.result ≡ n
-  part c = add-sub_cancel_left c.half-start3.result (left_of (length (marks_of c.before.before.before.before)))
+  part : (c : Thrice t) → let n = left_of (length (marks_of c)) in
+      c.half_start-start.result + n - c.half_start-start.result ≡ n
+  part c = add-sub_cancel_left c.half_start-start.result (left_of (length (marks_of c)))
 
   requires_4 : locate-lts.Need-locate-requires (half-start.Asked, half-start.Learnt, locate_below t, locate.Post) (locate_at t) locate.Post
   requires_4 c κs =
-      let at = c.before.before in
-      let test = at.before.before.before in
-      let less = left_less (length (marks_of test.before)) test.if1.false in
-      (rw (part at, size (moved at) test.if1.false) (le_trans less (le_of_eq test.before.requires.0)), tt)
+      let at = c in
+      let test = at in
+      let less = left_less (length (marks_of test)) test.if-count-le2.false in
+      (rw (part at, size (moved at) test.if-count-le2.false) (le_trans less (le_of_eq test.requires.0)), tt)
 
-  part_found : (c : Back t) → let at = c.before.before.before in let start = at.before.before.before.before in
-      at.half-start3.result + c.locate.result ≡ halved (marks_of start) start.args.v
+  part_found : (c : Back t) → let at = c in let start = at in
+      at.half_start-start.result + c.locate.result ≡ halved (marks_of start) start.args.v
   part_found c =
-      let at = c.before.before.before in
-      let test = at.before.before.before in
-      let start = test.before in
-      found (moved at) test.if1.false (rw (to_z-of_z w32 start.args.v start.ranges.v, part at) at c.locate.ensures)
+      let at = c in
+      let test = at in
+      let start = test in
+      found (moved at) test.if-count-le2.false (rw (to_z-of_z w32 start.args.v start.ranges.v, part at) at c.locate.ensures)
 
-  add_result : locate-lts.Need-overflow-add-result (half-start.Asked, half-start.Learnt, locate_below t, locate.Post) (locate_at t) locate.Post
+  add_result : locate-lts.Need-overflow_add-result (half-start.Asked, half-start.Learnt, locate_below t, locate.Post) (locate_at t) locate.Post
   add_result c =
-      let start = c.before.before.before.before.before.before.before in
+      let start = c in
       let marks = marks_of start in
-      omega (arith, part_found c, halvings_le marks start.args.v (length marks) 0 (length marks), start.well-formed)
+      omega (arith, part_found c, halvings_le marks start.args.v (length marks) 0 (length marks), start.well_formed)
 
-pub +locate-spec : {M : Type 1} → statement M
-+locate-spec =
+pub +locate_spec : {M : Type 1} → statement M
++locate_spec =
     close μ-locate
     (λ t. locate-lts.spec (half-start.Asked, half-start.Learnt, locate_below t, locate.Post) (locate_at t) locate.Post
-    (λ c. sym (settled c.before.args.marks.now c.before.args.v _ 0 _ c.if1.true))
+    (λ c. sym (settled c.args.marks.now c.args.v _ 0 _ c.if-count-le2.true))
     (λ c. search rules)
     (λ c. search rules)
     (λ c. search rules)
@@ -203,12 +203,12 @@ pub +locate-spec : {M : Type 1} → statement M
     (λ c. search rules)
     (λ c. search rules)
     (λ c. search rules)
-    (λ c. found_here (moved c.before) c.before.before.before.before.if1.false c.if2.true)
-    (λ c. omega (arith, inside c.before, c.before.before.before.before.before.well-formed))
-    (λ c. omega (arith, inside c.before, c.before.before.before.before.before.well-formed))
+    (λ c. found_here (moved c) c.if-count-le2.false c.if-left-le2.true)
+    (λ c. omega (arith, inside c, c.well_formed))
+    (λ c. omega (arith, inside c, c.well_formed))
     (λ c. search rules)
-    (λ c. omega (arith, inside c.before))
-    (λ c. omega (arith, inside c.before))
+    (λ c. omega (arith, inside c))
+    (λ c. omega (arith, inside c))
     requires_4
     add_result
     part_found)

@@ -14,10 +14,10 @@ use Rattle.region.specs.Dimension.{not_above, good_dimension}
 use Rattle.region.proofs.good_dimension.Statement.{statement}
 use Rattle.region.proofs.good_dimension.Tie as tie
 
-abbrev invariant_loop : tie.invariant_loop
+abbrev invariant_loop : tie.invariant-loop-i
 invariant_loop marks i₀ i = (i ≤ length marks) × (good_dimension (drop i marks) ≡ good_dimension marks)
 
-abbrev decreases_loop : tie.decreases_loop
+abbrev decreases_loop : tie.decreases-loop-i
 decreases_loop marks i₀ i = length marks - i
 
 -- The test of mark i decides, or leaves the decision to the marks behind it.
@@ -36,25 +36,25 @@ good_none : (marks : List ℤ) (i : ℕ) → length marks ≤ i → good_dimensi
 unfolding good_dimension
 good_none marks i past = rw (drop_of_length-le marks {i = i} past)
 
-returns : tie.Need-returns invariant_loop decreases_loop
+returns : tie.Need-returns-then-not-good_mark invariant_loop decreases_loop
 returns c =
-    let at = c.before.before.before in
-    let marks = at.before.args.marks.now in
-    let fails = not-true c.before.good_mark.result c.if1.true in
-    sym (sym at.loop.invariant.1 ∙ good_from marks at.loop.i false (omega arith) (sym fails ∙ c.before.good_mark.ensures))
+    let at = c in
+    let marks = at.args.marks.now in
+    let fails = not-true c.good_mark.result c.if-not-good_mark.true-raw in
+    sym (sym at.loop-i.invariant.1 ∙ good_from marks at.loop-i.i false (omega arith) (sym fails ∙ c.good_mark.ensures))
 
-loop_again : tie.Need-loop-preserved invariant_loop decreases_loop
+loop_again : tie.Need-loop-i-preserved invariant_loop decreases_loop
 loop_again c =
-    let at = c.before.before.before in
-    let marks = at.before.args.marks.now in
-    let holds = not-false c.before.good_mark.result c.if1.false in (
+    let at = c in
+    let marks = at.args.marks.now in
+    let holds = not-false c.good_mark.result c.if-not-good_mark.false-raw in (
       omega arith,
       rw add-one
-          (sym (good_from marks at.loop.i true (omega arith) (sym holds ∙ c.before.good_mark.ensures)) ∙ at.loop.invariant.1),
+          (sym (good_from marks at.loop-i.i true (omega arith) (sym holds ∙ c.good_mark.ensures)) ∙ at.loop-i.invariant.1),
     )
 
-returns_2 : tie.Need-returns-2 invariant_loop decreases_loop
-returns_2 c = sym (sym c.before.loop.invariant.1 ∙ good_none c.before.before.args.marks.now c.before.loop.i (omega arith))
+returns_2 : tie.Need-returns invariant_loop decreases_loop
+returns_2 c = sym (sym c.loop-i.invariant.1 ∙ good_none c.args.marks.now c.loop-i.i (omega arith))
 
 pub good_dimension_spec : {M : Type 1} → statement M
 good_dimension_spec =

@@ -33,28 +33,28 @@ module _ (m : ℤ) (marks : List ℤ) (i : ℕ) where
 abbrev mark : tie.Start → ℤ
 mark c = get_or c.args.marks.now c.args.i (pos 0)
 
-range_test : (c : tie.After-is-mark) → c.is-mark.result ≡ is_mark (mark c.before.before)
-range_test c = c.is-mark.ensures ∙ ap is_mark (to_z-of_z w32 (mark c.before.before) (record { sfits = c.before.is-mark-arg.given }))
+range_test : (c : tie.After-is_mark) → c.is_mark.result-1 ≡ is_mark (mark c)
+range_test c = c.is_mark.ensures ∙ ap is_mark (to_z-of_z w32 (mark c) (record { sfits = c.is_mark-arg-1.given }))
 
-returns : tie.Need-returns
-returns c = rw (sym (range_test c.before) ∙ not-true c.before.is-mark.result c.if1.true)
+returns : tie.Need-returns-then-not-is_mark
+returns c = rw (sym (range_test c.before) ∙ not-true c.is_mark.result-1 c.if-not-is_mark.true-raw)
 
-returns_2 : tie.Need-returns-2
+returns_2 : tie.Need-returns-then-next-marks
 returns_2 c =
-    let test = c.before.before in
-    let start = test.before.before in
-    let in_range = sym (range_test test) ∙ not-false test.is-mark.result c.before.if1.false in
-    rw (in_range, last_above_none (mark start) start.args.marks.now start.args.i c.if2.true)
+    let test = c in
+    let start = test in
+    let in_range = sym (range_test test.before.before) ∙ not-false test.is_mark.result-1 c.if-not-is_mark.false-raw in
+    rw (in_range, last_above_none (mark start) start.args.marks.now start.args.i c.if-next-marks.true)
 
-returns_3 : tie.Need-returns-3
+returns_3 : tie.Need-returns
 returns_3 c =
-    let other = c.before.before in
-    let test = other.before.before in
-    let start = test.before.before in
+    let other = c in
+    let test = other in
+    let start = test in
     let marks = start.args.marks.now in
     let i = start.args.i in
-    let in_range = sym (range_test test) ∙ not-false test.is-mark.result other.before.if1.false in
-    read_back le_z (mark start) (get_or marks (i + 1) (pos 0)) c.before.result.given c.result2.given
+    let in_range = sym (range_test test.before.before.before.before) ∙ not-false test.is_mark.result-1 other.if-not-is_mark.false-raw in
+    read_back le_z (mark start) (get_or marks (i + 1) (pos 0)) c.result-1.given c.result-2-1.given
     ∙ rw (in_range, not_above_next (mark start) marks i (omega arith))
 
 pub good_mark_spec : {M : Type 1} → statement M

@@ -13,17 +13,17 @@ use Rattle.region.proofs.half_start.Statement.{statement}
 use Rattle.region.proofs.half_start.Tie as tie
 
 -- The code's test of the mark in the middle is the test on the numbers themselves.
-below : (c : tie.After-if12) {held : Bool} → let a = c.before.args in let mark = get_or a.marks.now (a.start + a.half) (pos 0) in
+below : (c : tie.After-t8-1) {held : Bool} → let a = c.args in let mark = get_or a.marks.now (a.start + a.half) (pos 0) in
     lt_z (to_z w32 (of_z w32 a.v)) (to_z w32 (of_z w32 mark)) ≡ held → lt_z a.v mark ≡ held
 below c test =
-    let a = c.before.args in
-    sym (read_back lt_z a.v (get_or a.marks.now (a.start + a.half) (pos 0)) c.before.ranges.v.sfits c.if12.given) ∙ test
+    let a = c.args in
+    sym (read_back lt_z a.v (get_or a.marks.now (a.start + a.half) (pos 0)) c.ranges.v.sfits c.t8-1.given) ∙ test
 
-returns : tie.Need-returns
-returns c = rw (below c.before c.if1.true)
+returns : tie.Need-returns-then-v-marks
+returns c = rw (below c.before c.if-v-marks.true)
 
-returns_2 : tie.Need-returns-2
-returns_2 c = rw (below c.before c.if1.false)
+returns_2 : tie.Need-returns-else-v-marks
+returns_2 c = rw (below c.before c.if-v-marks.false)
 
 pub half_start_spec : {M : Type 1} → statement M
 half_start_spec = tie.close (tie.spec (λ c. search rules) (λ c. search rules) (λ c. search rules) returns returns_2)

@@ -21,26 +21,26 @@ none_inside marks v none = go (in_marks marks v) refl
     go true e = absurd (omega (arith, (region_of_holds marks v e).exists))
     go false e = refl
 
-returns : tie.Need-returns
-returns c = sym (none_inside c.before.args.marks.now c.before.args.v c.if1.true)
+returns : tie.Need-returns-then-count-eq0
+returns c = sym (none_inside c.args.marks.now c.args.v c.if-count-eq0.true)
 
-returns_2 : tie.Need-returns-2
+returns_2 : tie.Need-returns-then-marks-v
 unfolding in_marks
 returns_2 c =
-    let test = c.before.before in
-    let start = test.before.before in
+    let test = c in
+    let start = test in
     let marks = start.args.marks.now in
     let v = start.args.v in
-    let lower = read_back le_z (first_mark marks) v test.if22.given start.ranges.v.sfits in
-    let upper = read_back lt_z v (get_or marks (length marks - 1) (pos 0)) start.ranges.v.sfits c.result.given in
-    upper ∙ rw (sym lower ∙ c.before.if2.true, last_mark_lem marks (length marks - 1) (omega arith))
+    let lower = read_back le_z (first_mark marks) v test.t7-1.given start.ranges.v.sfits in
+    let upper = read_back lt_z v (get_or marks (length marks - 1) (pos 0)) start.ranges.v.sfits c.result-1.given in
+    upper ∙ rw (sym lower ∙ c.if-marks-v.true, last_mark_lem marks (length marks - 1) (omega arith))
 
-returns_3 : tie.Need-returns-3
+returns_3 : tie.Need-returns-else-marks-v
 unfolding in_marks
 returns_3 c =
-    let start = c.before.before.before in
-    let lower = read_back le_z (first_mark start.args.marks.now) start.args.v c.before.if22.given start.ranges.v.sfits in
-    c.if2.false ∙ rw (sym lower ∙ c.if2.false)
+    let start = c in
+    let lower = read_back le_z (first_mark start.args.marks.now) start.args.v c.t7-1.given start.ranges.v.sfits in
+    c.if-marks-v.false ∙ rw (sym lower ∙ c.if-marks-v.false)
 
 pub in_marks_spec : {M : Type 1} → statement M
 in_marks_spec =

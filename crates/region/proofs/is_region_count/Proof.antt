@@ -9,10 +9,10 @@ use Rattle.region.specs.RegionCount.{is_power}
 use Rattle.region.proofs.is_region_count.Statement.{statement}
 use Rattle.region.proofs.is_region_count.Tie as tie
 
-abbrev invariant_loop : tie.invariant_loop
+abbrev invariant_loop : tie.invariant-loop-bits
 invariant_loop regions bits₀ power₀ bits power = (power ≡ 2 ^ bits) × (is_power bits regions ≡ is_power max_dimension_bits regions)
 
-abbrev decreases_loop : tie.decreases_loop
+abbrev decreases_loop : tie.decreases-loop-bits
 decreases_loop regions bits₀ power₀ bits power = bits
 
 -- A power up to a given one is that one, or it is up to the next less.
@@ -35,22 +35,22 @@ half_power (suc bits) some =
     let less : suc bits - 1 ≡ bits = omega arith in
     rw less (omega arith)
 
-returns : tie.Need-returns invariant_loop decreases_loop
+returns : tie.Need-returns-then-regions-power invariant_loop decreases_loop
 returns c =
-    let at = c.before.before in
-    sym (sym at.loop.invariant.1 ∙ power_here at.before.args.regions at.loop.bits (omega arith) (c.if1.true ∙ at.loop.invariant.0))
+    let at = c in
+    sym (sym at.loop-bits.invariant.1 ∙ power_here at.args.regions at.loop-bits.bits (omega arith) (c.if-regions-power.true ∙ at.loop-bits.invariant.0))
 
-loop_again : tie.Need-loop-preserved invariant_loop decreases_loop
+loop_again : tie.Need-loop-bits-preserved invariant_loop decreases_loop
 loop_again c =
-    let at = c.before.before in
-    let less = power_less at.before.args.regions at.loop.bits (omega arith) (λ is. c.if1.false (is ∙ sym at.loop.invariant.0)) in
-    (rw at.loop.invariant.0 (half_power at.loop.bits (omega arith)), sym less ∙ at.loop.invariant.1)
+    let at = c in
+    let less = power_less at.args.regions at.loop-bits.bits (omega arith) (λ is. c.if-regions-power.false (is ∙ sym at.loop-bits.invariant.0)) in
+    (rw at.loop-bits.invariant.0 (half_power at.loop-bits.bits (omega arith)), sym less ∙ at.loop-bits.invariant.1)
 
-returns_2 : tie.Need-returns-2 invariant_loop decreases_loop
+returns_2 : tie.Need-returns invariant_loop decreases_loop
 unfolding is_power
 returns_2 c =
-    let none : c.before.loop.bits ≡ 0 = omega arith in
-    rw none at c.before.loop.invariant.1
+    let none : c.loop-bits.bits ≡ 0 = omega arith in
+    rw none at c.loop-bits.invariant.1
 
 pub is_region_count_spec : {M : Type 1} → statement M
 is_region_count_spec =

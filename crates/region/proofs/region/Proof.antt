@@ -21,66 +21,66 @@ use Rattle.region.proofs.region.Statement.{statement}
 use Rattle.region.proofs.region.Tie as tie
 
 -- Each test that lets the call go on says that its cause does not hold.
-counted : (c : tie.Else1) → is_region_count c.before.before.args.regions ≡ true
-counted c = sym c.before.is-region-count.ensures ∙ not-false c.before.is-region-count.result c.if1.false
+counted : (c : tie.Else-not-is_region_count) → is_region_count c.args.regions ≡ true
+counted c = sym c.is_region_count.ensures ∙ not-false c.is_region_count.result c.if-not-is_region_count.false-raw
 
-exact : (c : tie.Else2) → let a = c.before.before.before.args in eqb (length a.marks.now) (a.regions + 1) ≡ true
-exact c = eq-eqb (length c.before.before.before.args.marks.now) (c.before.before.before.args.regions + 1) c.if2.false
+exact : (c : tie.Else-marks-regions) → let a = c.args in eqb (length a.marks.now) (a.regions + 1) ≡ true
+exact c = eq-eqb (length c.args.marks.now) (c.args.regions + 1) c.if-marks-regions.false
 
-good : (c : tie.Else3) → good_dimension c.before.before.before.before.before.args.marks.now ≡ true
-good c = sym c.before.good_dimension.ensures ∙ not-false c.before.good_dimension.result c.if3.false
+good : (c : tie.Else-not-good_dimension) → good_dimension c.args.marks.now ≡ true
+good c = sym c.good_dimension.ensures ∙ not-false c.good_dimension.result c.if-not-good_dimension.false-raw
 
-inside : (c : tie.After-in-marks)
-    → let a = c.before.before.before.before.before.before.args in c.in-marks.result ≡ in_marks a.marks.now a.v
+inside : (c : tie.After-in_marks)
+    → let a = c.args in c.in_marks.result ≡ in_marks a.marks.now a.v
 inside c =
-    let start = c.before.before.before.before.before.before in
-    c.in-marks.ensures ∙ ap (in_marks start.args.marks.now) (to_z-of_z w32 start.args.v start.ranges.v)
+    let start = c in
+    c.in_marks.ensures ∙ ap (in_marks start.args.marks.now) (to_z-of_z w32 start.args.v start.ranges.v)
 
-returns : tie.Need-returns
+returns : tie.Need-returns-then-not-is_region_count
 unfolding first
-returns c = rw (sym c.before.is-region-count.ensures ∙ not-true c.before.is-region-count.result c.if1.true)
+returns c = rw (sym c.is_region_count.ensures ∙ not-true c.is_region_count.result c.if-not-is_region_count.true-raw)
 
-add_if2 : tie.Need-overflow-add-if2
+add_if2 : tie.Need-overflow_add-regions
 add_if2 c =
-    let regions = c.before.before.args.regions in
+    let regions = c.args.regions in
     let power = power_of max_dimension_bits regions (counted c) in
     let most : 2 ^ power.w ≤ 2 ^ max_dimension_bits = pow_mono power.within in
     omega (arith, power.is)
 
-returns_2 : tie.Need-returns-2
+returns_2 : tie.Need-returns-then-marks-regions
 unfolding first
 returns_2 c =
-    let a = c.before.before.before.args in
-    rw (counted c.before, ne_eqb (length a.marks.now) (a.regions + 1) c.if2.true)
+    let a = c.args in
+    rw (counted c.before, ne_eqb (length a.marks.now) (a.regions + 1) c.if-marks-regions.true)
 
-returns_3 : tie.Need-returns-3
+returns_3 : tie.Need-returns-then-not-good_dimension
 unfolding first
 returns_3 c =
-    let test = c.before in
+    let test = c in
     rw (
-      counted test.before.before,
-      exact test.before,
+      counted test.before.before.before,
+      exact test.before.before,
       sym test.good_dimension.ensures
-          ∙ not-true test.good_dimension.result c.if3.true,
+          ∙ not-true test.good_dimension.result c.if-not-good_dimension.true-raw,
     )
 
-returns_4 : tie.Need-returns-4
+returns_4 : tie.Need-returns-then-not-in_marks
 unfolding first
 returns_4 c =
-    let test = c.before in
-    let rest = test.before.before.before in
-    rw (counted rest.before, exact rest, good test.before, sym (inside test) ∙ not-true test.in-marks.result c.if4.true)
+    let test = c in
+    let rest = test in
+    rw (counted rest.before.before.before.before.before, exact rest.before.before.before.before, good test.before.before, sym (inside test.before) ∙ not-true test.in_marks.result c.if-not-in_marks.true-raw)
 
-returns_5 : tie.Need-returns-5
+returns_5 : tie.Need-returns
 unfolding first
 returns_5 c =
-    let test = c.before.before in
-    let rest = test.before.before.before in
-    let start = rest.before.before.before in
-    let lies-inside = sym (inside test) ∙ not-false test.in-marks.result c.before.if4.false in
+    let test = c in
+    let rest = test in
+    let start = rest in
+    let lies-inside = sym (inside test.before.before) ∙ not-false test.in_marks.result c.if-not-in_marks.false-raw in
     let located = rw (to_z-of_z w32 start.args.v start.ranges.v) at c.locate.ensures in
-    let is-region = located ∙ halved_is start.args.marks.now start.args.v (good test.before) lies-inside in
-    rw (counted rest.before, exact rest, good test.before, lies-inside) (ap Region is-region)
+    let is-region = located ∙ halved_is start.args.marks.now start.args.v (good test.before.before.before) lies-inside in
+    rw (counted rest.before.before.before.before.before.before, exact rest.before.before.before.before.before, good test.before.before.before, lies-inside) (ap Region is-region)
 
 pub region_spec : {M : Type 1} → statement M
 region_spec =

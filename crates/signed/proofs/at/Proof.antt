@@ -11,4 +11,4 @@ at_spec =
     (λ c. search rules)
     (λ c. search rules)
     (λ c. search rules)
-    (λ c. sym (get_or-eq_default c.before.args.s.now (pos 0) c.if1.false)))
+    (λ c. sym (get_or-eq_default c.args.s.now (pos 0) c.if-i-s.false)))

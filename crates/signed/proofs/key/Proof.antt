@@ -19,13 +19,13 @@ module _ (z : ℤ) (f : SFits w32 z) where
   is_key : to_z w64 (of_z w64 (to_z w64 (of_z w64 (to_z w32 (of_z w32 z))) +ℤ pos (2 ^ 31))) ≡ pos (key_of z)
   is_key = to_z-of_z w64 (to_z w64 (of_z w64 (to_z w32 (of_z w32 z))) +ℤ pos (2 ^ 31)) sum_fits ∙ sum_back
 
-cast_result : tie.Need-overflow-cast-result
+cast_result : tie.Need-overflow_cast-result
 cast_result c = back_fits c.args.z c.ranges.z
 
-add_result : tie.Need-overflow-add-result
+add_result : tie.Need-overflow_add-result
 add_result c = sum_fits c.args.z c.ranges.z
 
-cast_result_2 : tie.Need-overflow-cast-result-2
+cast_result_2 : tie.Need-overflow_cast-result-2
 cast_result_2 c =
     let z = c.args.z in
     subst⁻¹ (λ (y : ℤ). T (non_neg y) × Fits w64 (nat_abs y)) (is_key z c.ranges.z) (tt, record { fits = omega (arith, key_fits z c.ranges.z.sfits) })

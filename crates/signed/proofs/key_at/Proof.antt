@@ -6,7 +6,7 @@ use Rattle.signed.proofs.key_at.Statement.{statement}
 use Rattle.signed.proofs.key_at.Tie as tie
 
 returns : tie.Need-returns
-returns c = c.key.ensures ∙ ap key_of (given c.before.at.type-inv c.before.at.ensures)
+returns c = c.key.ensures ∙ ap key_of (given c.at.type_inv c.at.ensures)
 
 pub key_at_spec : {M : Type 1} → statement M
 key_at_spec = tie.close (tie.spec (λ c κs. search rules) (λ c κs. search rules) returns)

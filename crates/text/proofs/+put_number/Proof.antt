@@ -35,60 +35,60 @@ more_length x large = ap length (decimal_more x large) ∙ length-append (decima
 
 module _ {t : ℕ} where
   one-requires :
-      put-number-lts.Need-put-byte-requires (put_byte.Asked, put_byte.Learnt, put_number_below t, put-number.Post)
+      put-number-lts.Need-put_byte-requires (put_byte.Asked, put_byte.Learnt, put_number_below t, put-number.Post)
       (put_number_at t) put-number.Post
   one-requires c κs =
-      let start = c.before.before.before in
-      omega (arith, start.requires.1, one_length start.args.x c.before.if1.true)
+      let start = c in
+      omega (arith, start.requires.1, one_length start.args.x c.if-x-lt10.true)
 
   returns :
-      put-number-lts.Need-returns (put_byte.Asked, put_byte.Learnt, put_number_below t, put-number.Post)
+      put-number-lts.Need-returns-then-x-lt10 (put_byte.Asked, put_byte.Learnt, put_number_below t, put-number.Post)
       (put_number_at t) put-number.Post
   returns c =
-      let byte = c.before.before in
-      let small = byte.before.before in
-      puts_same (sym (decimal_one small.before.before.args.x small.if1.true)) byte.put_byte.ensures
+      let byte = c in
+      let small = byte in
+      puts_same (sym (decimal_one small.args.x small.if-x-lt10.true)) byte.put_byte.ensures
 
   calls :
-      put-number-lts.Need-put-number-requires (put_byte.Asked, put_byte.Learnt, put_number_below t, put-number.Post)
+      put-number-lts.Need-put_number-next-requires (put_byte.Asked, put_byte.Learnt, put_number_below t, put-number.Post)
       (put_number_at t) put-number.Post
   calls c κs =
-      let start = c.before.before.before in
-      (omega (arith, start.requires.0), omega (arith, start.requires.1, more_length start.args.x c.before.if1.false))
+      let start = c in
+      (omega (arith, start.requires.0), omega (arith, start.requires.1, more_length start.args.x c.if-x-lt10.false))
 
   last-requires :
-      put-number-lts.Need-put-byte-requires-2 (put_byte.Asked, put_byte.Learnt, put_number_below t, put-number.Post)
+      put-number-lts.Need-put_byte-requires-2 (put_byte.Asked, put_byte.Learnt, put_number_below t, put-number.Post)
       (put_number_at t) put-number.Post
   last-requires c κs =
-      let number = c.before.before.before in
+      let number = c in
       let start = number .before .before .before .before in
-      omega (arith, start.requires.1, more_length start.args.x (number .before .before .if1 .false), number .put-number .ensures .end)
+      omega (arith, start.requires.1, more_length start.args.x (number .before .before .if1 .false), number .put_number .ensures .end)
 
   same-length-2 :
-      put-number-lts.Need-same-length-2 (put_byte.Asked, put_byte.Learnt, put_number_below t, put-number.Post)
+      put-number-lts.Need-shape_of-text (put_byte.Asked, put_byte.Learnt, put_number_below t, put-number.Post)
       (put_number_at t) put-number.Post
   same-length-2 c =
-      let byte = c.before.before in
-      puts_length byte.put-byte2.ensures ∙ puts_length byte.before.before.before.before.put-number.ensures
+      let byte = c in
+      puts_length byte.put_byte-2.ensures ∙ puts_length byte.put_number-next.ensures
 
   returns_2 :
-      put-number-lts.Need-returns-2 (put_byte.Asked, put_byte.Learnt, put_number_below t, put-number.Post)
+      put-number-lts.Need-returns (put_byte.Asked, put_byte.Learnt, put_number_below t, put-number.Post)
       (put_number_at t) put-number.Post
   returns_2 c =
-      let byte = c.before.before in
-      let number = byte.before.before.before.before in
+      let byte = c in
+      let number = byte in
       let large = number .before .before in
-      let digits = puts_more (number .put-number .ensures) byte.put-byte2.ensures in
-      puts_same (sym (decimal_more large.before.before.args.x large.if1.false)) digits
+      let digits = puts_more (number .put_number .ensures) byte.put_byte-2.ensures in
+      puts_same (sym (decimal_more large.args.x large.if-x-lt10.false)) digits
 
-pub +put-number-spec : {M : Type 1} → statement M
-+put-number-spec =
+pub +put_number_spec : {M : Type 1} → statement M
++put_number_spec =
     close μ-put-number
     (λ t. put-number-lts.spec (put_byte.Asked, put_byte.Learnt, put_number_below t, put-number.Post) (put_number_at t) put-number.Post
     (λ c. omega arith)
     (λ c. omega arith)
     one-requires
-    (λ c. puts_length c.before.before.put_byte.ensures)
+    (λ c. puts_length c.put_byte.ensures)
     returns
     calls
     (λ c. omega arith)
@@ -96,3 +96,4 @@ pub +put-number-spec : {M : Type 1} → statement M
     last-requires
     same-length-2
     returns_2)
+

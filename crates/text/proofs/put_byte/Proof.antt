@@ -5,9 +5,9 @@ use Rattle.text.specs.Puts.{puts_out}
 use Rattle.text.proofs.put_byte.Statement.{statement}
 use Rattle.text.proofs.put_byte.Tie as tie
 
-returns : tie.Need-returns
+returns : tie.Need-returns-then-text-at
 returns c =
-    let args = c.before.args in
+    let args = c.args in
     puts_out args.x args.at args.text.now (omega arith)
 
 pub put_byte_spec : {M : Type 1} → statement M

@@ -5,21 +5,21 @@ use Rattle.text.specs.Puts.{puts_length, puts_more, puts_same, puts_front, line_
 use Rattle.text.proofs.put_two.Statement.{statement}
 use Rattle.text.proofs.put_two.Tie as tie
 
-put_field_requires_2 : tie.Need-put-field-requires-2
-put_field_requires_2 c κs = omega (arith, c.before.before.before.put-field.ensures.1)
+put_field_requires_2 : tie.Need-put_field-requires
+put_field_requires_2 c κs = omega (arith, c.put_field-second.ensures.1)
 
-same_length : tie.Need-same-length
+same_length : tie.Need-shape_of-text
 same_length c =
-    let two = c.before.before in
-    let one = two.before.before.before.before in
-    puts_length two.put-field2.ensures.0 ∙ puts_length one.put-field.ensures.0
+    let two = c in
+    let one = two in
+    puts_length two.put_field.ensures.0 ∙ puts_length one.put_field-second.ensures.0
 
 returns : tie.Need-returns
 returns c =
-    let two = c.before.before in
-    let one = two.before.before.before.before in
-    let args = one.before.before.before.args in
-    puts_front (puts_same (line_of_two args.x args.y) (puts_more one.put-field.ensures.0 two.put-field2.ensures.0))
+    let two = c in
+    let one = two in
+    let args = one.args in
+    puts_front (puts_same (line_of_two args.x args.y) (puts_more one.put_field-second.ensures.0 two.put_field.ensures.0))
 
 pub put_two_spec : {M : Type 1} → statement M
 put_two_spec = tie.close (tie.spec (λ c κs. omega arith) put_field_requires_2 same_length returns)

@@ -17,19 +17,19 @@ at c = filled_by c.requires.0
 exact : (c : tie.Start) → let writer = c.args.writer in (writer.byte * 2 ^ writer.free) % 2 ^ 64 ≡ writer.byte * 2 ^ writer.free
 exact c = shl_exact (8 - c.args.writer.free) c.args.writer.free 64 (at c).small (omega (arith, (at c).few))
 
-one : (c : tie.Then1) → length c.before.args.bytes.now ≡ c.before.args.writer.next + 1
-one c = omega (arith, c.before.requires.1, position (at c.before), c.if1.true)
+one : (c : tie.Then-free-lt8) → length c.args.bytes.now ≡ c.args.writer.next + 1
+one c = omega (arith, c.requires.1, position (at c.before), c.if-free-lt8.true)
 
-whole : tie.Need-returns-2
+whole : tie.Need-returns-else-free-lt8
 whole c =
-    let start = c.before in
-    complete (at start) c.if1.false (omega (arith, start.requires.1, position (at start), c.if1.false))
+    let start = c in
+    complete (at start.before) c.if-free-lt8.false (omega (arith, start.requires.1, position (at start.before), c.if-free-lt8.false))
 
 pub finish_spec : {M : Type 1} → statement M
 finish_spec =
     tie.close
     (tie.spec
-    (λ c. omega (arith, c.if1.true))
+    (λ c. omega (arith, c.if-free-lt8.true))
     (λ c. rw (exact c.before) (record { fits = last_lt (at c.before) }))
     (λ c. omega (arith, one c))
     (λ c. simp length-set)

@@ -23,23 +23,23 @@ number_lt x left own few =
     let power : 2 ^ left ≤ 2 ^ 8 = pow_mono few in
     omega arith
 
-add_all : tie.Need-overflow-add-all
+add_all : tie.Need-overflow_add-all
 add_all c =
-    let a = c.before.args in
-    let pre = c.before.requires in
+    let a = c.args in
+    let pre = c.requires in
     omega (arith, moved_lt a.byte a.free a.left pre.2 pre.1, number_lt a.x a.left pre.0 pre.1)
 
-returns : tie.Need-returns
+returns : tie.Need-returns-then-left-free
 returns c =
-    let a = c.before.args in
-    let pre = c.before.requires in
+    let a = c.args in
+    let pre = c.requires in
     let all : min a.left a.free ≡ a.left = min-eq_left (omega arith) in
     rw (all, exact a.byte a.free a.left pre.2 pre.1, sub_self a.left, div-one) (refl, refl)
 
-add_full : tie.Need-overflow-add-full
+add_full : tie.Need-overflow_add-full
 add_full c =
-    let a = c.before.before.args in
-    let pre = c.before.before.requires in
+    let a = c.args in
+    let pre = c.requires in
     omega (
       arith,
       c.first_bits_lem.ensures,
@@ -48,21 +48,21 @@ add_full c =
       shr_le a.x (a.left - a.free),
     )
 
-returns_2 : tie.Need-returns-2
+returns_2 : tie.Need-returns
 returns_2 c =
-    let a = c.before.before.args in
-    let pre = c.before.before.requires in
-    let most : min a.left a.free ≡ a.free = min-eq_right c.before.if1.false in
+    let a = c.args in
+    let pre = c.requires in
+    let most : min a.left a.free ≡ a.free = min-eq_right c.if-left-free.false in
     rw (most, exact a.byte a.free a.free pre.2 pre.3, c.first_bits_lem.ensures) (refl, refl)
 
 pub place_spec : {M : Type 1} → statement M
 place_spec =
     tie.close
     (tie.spec
-    (λ c. omega (arith, c.before.requires.1))
+    (λ c. omega (arith, c.requires.1))
     add_all
     returns
-    (λ c. omega (arith, c.before.requires.3))
-    (λ c κs. (c.before.requires.1, c.if1.false))
+    (λ c. omega (arith, c.requires.3))
+    (λ c κs. (c.requires.1, c.if-left-free.false))
     add_full
     returns_2)

@@ -25,11 +25,11 @@ record Putting (start numbers : List ℕ) (w room : ℕ) (bytes : List ℕ) (nex
   below : all_below (2 ^ w) (drop i numbers) ≡ true
   filled : Filled (start ++ fields w (take i numbers)) bytes next byte free
 
-abbrev invariant_loop : tie.invariant_loop
+abbrev invariant_loop : tie.invariant-loop-i
 invariant_loop numbers w bytes₀ width next₀ byte₀ free₀ i₀ bytes next byte free i =
     Putting (byte_bits (take next₀ bytes₀) ++ low_bits (8 - free₀) byte₀) numbers width (length bytes₀) bytes next byte free i
 
-abbrev decreases_loop : tie.decreases_loop
+abbrev decreases_loop : tie.decreases-loop-i
 decreases_loop numbers w bytes₀ width next₀ byte₀ free₀ i₀ bytes next byte free i = length numbers - i
 
 -- the number at i is put
@@ -76,82 +76,82 @@ module _ {start numbers : List ℕ} {w room : ℕ} {bytes : List ℕ} {next byte
         }
 
 -- the width is w, as that is below 8
-module _ (c : tie.After-low invariant_loop decreases_loop) where
-  same : c.low.result ≡ c.before.before.before.args.w
-  same = c.low.ensures ∙ mod-eq_of_lt c.before.before.before.requires.1
+module _ (c : tie.After-low-width invariant_loop decreases_loop) where
+  same : c.low-width.result ≡ c.args.w
+  same = c.low-width.ensures ∙ mod-eq_of_lt c.requires.1
 
-  few : c.low.result ≤ 8
-  few = omega (arith, same, c.before.before.before.requires.1)
+  few : c.low-width.result ≤ 8
+  few = omega (arith, same, c.requires.1)
 
-  fit : let a = c.before.before.before.args in
-      length (written_bits a.bytes.now a.writer) + length a.numbers.now * c.low.result ≤ length a.bytes.now * 8
-  fit = rw same c.before.before.before.requires.3
+  fit : let a = c.args in
+      length (written_bits a.bytes.now a.writer) + length a.numbers.now * c.low-width.result ≤ length a.bytes.now * 8
+  fit = rw same c.requires.3
 
-loop_holds : tie.Need-loop-init invariant_loop decreases_loop
+loop_holds : tie.Need-loop-i-init invariant_loop decreases_loop
 unfolding fields
 loop_holds c =
-    let pre = c.before.before.before.requires in
+    let pre = c.requires in
     record { long = refl; some = pre.0.some; below = rw (same c) pre.2; filled = rw append-nil (filled_by pre.0) }
 
-own : (c : tie.After-shared-slice-known2 invariant_loop decreases_loop) → let start = c.before.before.before in
-    get_or start.before.before.before.args.numbers.now c.before.before.loop.i 0 < 2 ^ start.low.result
-own c = (fits c.before.before.loop.invariant c.before.loop-test.true).0
+own : (c : tie.After-shared_slice_known-in-loop-i-1 invariant_loop decreases_loop) → let start = c in
+    get_or start.args.numbers.now c.loop-i.i 0 < 2 ^ start.low-width.result
+own c = (fits c.loop-i.invariant c.loop-i-test.true).0
 
-place_requires : tie.Need-place-requires invariant_loop decreases_loop
+place_requires : tie.Need-place-first-requires invariant_loop decreases_loop
 place_requires c κs =
-    let at = c.before.before.loop.invariant in
-    (own c, few c.before.before.before, at.filled.small, at.filled.few)
+    let at = c.loop-i.invariant in
+    (own c, few c, at.filled.small, at.filled.few)
 
-loop_again : tie.Need-loop-preserved invariant_loop decreases_loop
+loop_again : tie.Need-loop-i-preserved-then-count-free invariant_loop decreases_loop
 loop_again c =
-    let step = c.before in
-    let loop = step.before.before.before in
-    let all : step.place.result.count ≡ loop.before.low.result = omega (arith, step.place.ensures.0, c.if1.true) in
-    rw (step.place.ensures.1, all) (one loop.loop.invariant step.before.before.loop-test.true (omega (arith, all, c.if1.true)))
+    let step = c in
+    let loop = step in
+    let all : step.place-first.result.count ≡ loop.low-width.result = omega (arith, step.place-first.ensures.0, c.if-count-free.true) in
+    rw (step.place-first.ensures.1, all) (one loop.loop-i.invariant step.loop-i-test.true (omega (arith, all, c.if-count-free.true)))
 
 -- ---- where the first step filled the byte
 
-filled : (c : tie.Else1 invariant_loop decreases_loop) → let loop = c.before.before.before.before in
-    (c.before.place.result.count ≡ loop.loop.free) × (loop.loop.free ≤ loop.before.low.result)
+filled : (c : tie.Else-count-free invariant_loop decreases_loop) → let loop = c in
+    (c.place-first.result.count ≡ loop.loop-i.free) × (loop.loop-i.free ≤ loop.low-width.result)
 filled c =
-    let counted = c.before.place.ensures.0 in
-    (omega (arith, counted, c.if1.false), omega (arith, counted, c.if1.false))
+    let counted = c.place-first.ensures.0 in
+    (omega (arith, counted, c.if-count-free.false), omega (arith, counted, c.if-count-free.false))
 
-cast_bytes : tie.Need-overflow-cast-bytes invariant_loop decreases_loop
+cast_bytes : tie.Need-overflow_cast-bytes invariant_loop decreases_loop
 cast_bytes c =
-    let step = c.before.before in
-    let loop = step.before.before.before in
-    rw step.place.ensures.1
-    (record { fits = byte_small loop.loop.invariant.filled loop.before.low.result _ (own step.before) (filled c.before).1 })
+    let step = c in
+    let loop = step in
+    rw step.place-first.ensures.1
+    (record { fits = byte_small loop.loop-i.invariant.filled loop.low-width.result _ (own step.before.before.before) (filled c.before).1 })
 
-inside : (c : tie.Else1 invariant_loop decreases_loop) → let loop = c.before.before.before.before.loop in loop.next < length loop.bytes
+inside : (c : tie.Else-count-free invariant_loop decreases_loop) → let loop = c.loop-i in loop.next < length loop.bytes
 inside c =
-    let loop = c.before.before.before.before in
-    has_room loop.loop.invariant c.before.before.before.loop-test.true (filled c).1 (fit loop.before)
+    let loop = c in
+    has_room loop.loop-i.invariant c.loop-i-test.true (filled c).1 (fit loop)
 
-place_requires_2 : tie.Need-place-requires-2 invariant_loop decreases_loop
+place_requires_2 : tie.Need-place-second-requires invariant_loop decreases_loop
 place_requires_2 c κs =
-    let loop = c.before.before.before.before.before.before in
-    (rw c.low2.ensures (mod-lt _ (pow_pos _)), omega (arith, few loop.before), omega arith, omega arith)
+    let loop = c in
+    (rw c.low.ensures (mod-lt _ (pow_pos _)), omega (arith, few loop), omega arith, omega arith)
 
-loop_again_2 : tie.Need-loop-preserved-2 invariant_loop decreases_loop
+loop_again_2 : tie.Need-loop-i-preserved invariant_loop decreases_loop
 loop_again_2 c =
-    let second = c.before in
-    let full = second.before.before.before in
-    let step = full.before in
-    let loop = step.before.before.before in
-    let start = loop.before in
-    let all : second.place2.result.count ≡ start.low.result - loop.loop.free =
-    omega (arith, second.place2.ensures.0, (filled full).0, few start) in
-    rw (step.place.ensures.1, all, second.place2.ensures.1, second.before.low2.ensures, (filled full).0)
-    (two loop.loop.invariant step.before.before.loop-test.true (filled full).1 (fit start) (few start))
+    let second = c in
+    let full = second in
+    let step = full in
+    let loop = step in
+    let start = loop in
+    let all : second.place-second.result.count ≡ start.low-width.result - loop.loop-i.free =
+    omega (arith, second.place-second.ensures.0, (filled full.before.before.before.before).0, few start) in
+    rw (step.place-first.ensures.1, all, second.place-second.ensures.1, second.low.ensures, (filled full.before.before.before.before).0)
+    (two loop.loop-i.invariant step.loop-i-test.true (filled full.before.before.before.before).1 (fit start) (few start))
 
 returns : tie.Need-returns invariant_loop decreases_loop
 returns c =
-    let start = c.before.before in
-    let at = c.before.loop.invariant in
-    let numbers = start.before.before.before.args.numbers.now in
-    let all : take c.before.loop.i numbers ≡ numbers = take_all c.before.loop.i numbers c.loop-test.false in (
+    let start = c in
+    let at = c.loop-i.invariant in
+    let numbers = start.args.numbers.now in
+    let all : take c.loop-i.i numbers ≡ numbers = take_all c.loop-i.i numbers c.loop-i-test.false in (
       record {
         within = at.filled.within;
         some = at.some;
@@ -171,7 +171,7 @@ put_spec =
     (λ c κs. omega arith)
     loop_holds
     (λ c. omega arith)
-    (λ c. omega (arith, c.shared-slice-known2.given c.before.before.loop.i))
+    (λ c. omega (arith, c.shared_slice_known-in-loop-i-1.given c.loop-i.i))
     place_requires
     (λ c. omega arith)
     (λ c. omega arith)
@@ -179,13 +179,13 @@ put_spec =
     loop_again
     cast_bytes
     (λ c. inside c.before)
-    (λ c. omega (arith, inside c.before, c.before.before.before.before.before.loop.invariant.long))
+    (λ c. omega (arith, inside c.before, c.loop-i.invariant.long))
     (λ c. omega (arith, filled c.before))
-    (λ c κs. omega (arith, few c.before.before.before.before.before.before))
+    (λ c κs. omega (arith, few c))
     place_requires_2
-    (λ c. omega (arith, c.before.place2.ensures.0))
+    (λ c. omega (arith, c.place-second.ensures.0))
     (λ c. omega arith)
     (λ c. omega arith)
     loop_again_2
-    (λ c. c.before.loop.invariant.long)
+    (λ c. c.loop-i.invariant.long)
     returns)

@@ -17,16 +17,16 @@ read : (bytes : List ℕ) → Bytes bytes → (from w : ℕ) → w ≤ 8
 read bytes small from w few =
     sym (rw div-add-mod' at (bits_in_two bytes small (from / 8) (from % 8) w (omega arith) few)) ∙ sym (bits_at_lem bytes from w few)
 
-returns : tie.Need-returns
+returns : tie.Need-returns-then-w-gt8
 unfolding bits_at
-returns c = rw (lt-leb c.before.before.args.w 8 c.if1.true)
+returns c = rw (lt-leb c.args.w 8 c.if-w-gt8.true)
 
-returns_2 : tie.Need-returns-2
+returns_2 : tie.Need-returns
 returns_2 c =
-    let at = c.before.before.before in
-    let args = at.before.args in
-    rw (c.low.ensures, c.before.two_bytes.ensures)
-    (read args.bytes.now (λ i. omega (arith, at.shared-slice-known.given i)) args.from args.w (omega arith))
+    let at = c in
+    let args = at.args in
+    rw (c.low.ensures, c.two_bytes.ensures)
+    (read args.bytes.now (λ i. omega (arith, at.shared_slice_known-1.given i)) args.from args.w (omega arith))
 
 pub bits_at_spec : {M : Type 1} → statement M
 bits_at_spec =

@@ -13,7 +13,7 @@ use Rattle.codes.proofs.bits.low.Tie as tie
 power : (w : ℕ) → w ≤ 8 → (1 * 2 ^ w) % 2 ^ 64 ≡ 2 ^ w
 power w h = shl_exact 1 w 64 (lit< tt) (omega arith) ∙ one-mul (2 ^ w)
 
-sub_result : tie.Need-overflow-sub-result
+sub_result : tie.Need-overflow_sub-result
 sub_result c = rw (power c.args.w c.requires) (pow_pos c.args.w)
 
 returns : tie.Need-returns

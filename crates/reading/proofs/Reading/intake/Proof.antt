@@ -8,22 +8,22 @@ use Rattle.reading.specs.IntakeLaws.{as_intake, intake_by_presence}
 use Rattle.reading.proofs.Reading.intake.Statement.{statement}
 use Rattle.reading.proofs.Reading.intake.Tie as tie
 
-returns : tie.Need-returns
+returns : tie.Need-returns-in-Present
 returns c =
-    let asked = c.before.before.before in
-    let is = sym asked.presence.ensures ∙ c.before.z.given.1 in
-    ap Component (to_z-of_z w32 _ (record { sfits = c.known-told.given.0.1 }))
-    ∙ sym (intake_by_presence asked.before.args.self ∙ ap as_intake is)
+    let asked = c in
+    let is = sym asked.presence.ensures ∙ c.in-Present.is in
+    ap Component (to_z-of_z w32 _ (record { sfits = c.known_told-1.given.0.1 }))
+    ∙ sym (intake_by_presence asked.args.self ∙ ap as_intake is)
 
-returns_2 : tie.Need-returns-2
+returns_2 : tie.Need-returns-in-Absent
 returns_2 c =
-    let asked = c.before.before in
-    sym (intake_by_presence asked.before.args.self ∙ ap as_intake (sym asked.presence.ensures ∙ c.enum_told.given.1))
+    let asked = c in
+    sym (intake_by_presence asked.args.self ∙ ap as_intake (sym asked.presence.ensures ∙ c.in-Absent.is))
 
-returns_3 : tie.Need-returns-3
+returns_3 : tie.Need-returns-in-Refused
 returns_3 c =
-    let asked = c.before.before.before in
-    sym (intake_by_presence asked.before.args.self ∙ ap as_intake (sym asked.presence.ensures ∙ c.before.cause.given.1))
+    let asked = c in
+    sym (intake_by_presence asked.args.self ∙ ap as_intake (sym asked.presence.ensures ∙ c.in-Refused.is))
 
 pub intake_spec : {M : Type 1} → statement M
 intake_spec =

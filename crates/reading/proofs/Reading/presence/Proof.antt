@@ -18,18 +18,18 @@ good : (x : Float) (age : ℕ) → age ≤ age_limit → presence_of (Held x age
 unfolding presence_of
 good x age h = rw (le-ltb age_limit age h)
 
-returns : tie.Need-returns
-returns c = c.presence.ensures ∙ sym (ap presence_of c.before.before.self.given.1)
+returns : tie.Need-returns-in-Fresh
+returns c = c.presence.ensures ∙ sym (ap presence_of c.in-Fresh.is)
 
-returns_2 : tie.Need-returns-2
-returns_2 c = sym (ap presence_of c.before.before.self2.given.1 ∙ over_age _ _ c.if1.true)
+returns_2 : tie.Need-returns-then-age-gt-AGE_LIMIT
+returns_2 c = sym (ap presence_of c.in-Held.is ∙ over_age _ _ c.if-age-gt-AGE_LIMIT.true)
 
-returns_3 : tie.Need-returns-3
-returns_3 c = c.presence2.ensures ∙ sym (ap presence_of c.before.before.before.self2.given.1 ∙ good _ _ c.before.if1.false)
+returns_3 : tie.Need-returns-else-age-gt-AGE_LIMIT
+returns_3 c = c.presence-else-age-gt-AGE_LIMIT.ensures ∙ sym (ap presence_of c.in-Held.is ∙ good _ _ c.if-age-gt-AGE_LIMIT.false)
 
-returns_4 : tie.Need-returns-4
+returns_4 : tie.Need-returns-in-Lost
 unfolding presence_of
-returns_4 c = sym (ap presence_of c.enum_told.given.1)
+returns_4 c = sym (ap presence_of c.in-Lost.is)
 
 pub presence_spec : {M : Type 1} → statement M
 presence_spec =

@@ -15,20 +15,20 @@ use Rattle.reading.proofs.value.component.Tie as tie
 back : (x : Float) → fits binary32 x ≡ true → value_intake (of_bits binary32 (to_bits binary32 x)) ≡ value_intake x
 back x h = ap value_intake (of_bits-to_bits binary32 x (subst T (sym h) tt))
 
-no_nan : tie.Need-float-to-bits-component-of-bits
-no_nan c = at_most_zero c.before.args.x c.if1.true
+no_nan : tie.Need-float_to_bits-x
+no_nan c = at_most_zero c.args.x c.if-x.true
 
-returns : tie.Need-returns
-returns c = c.component-of-bits.ensures ∙ back c.before.before.args.x c.before.before.well-formed.0.1
+returns : tie.Need-returns-then-x
+returns c = c.component_of_bits.ensures ∙ back c.args.x c.well_formed.0.1
 
-no_nan_2 : tie.Need-float-to-bits-component-of-bits-2
-no_nan_2 c = at_least_zero c.before.before.args.x c.if2.true
+no_nan_2 : tie.Need-float_to_bits-x-then-x-2
+no_nan_2 c = at_least_zero c.args.x c.if-x-2.true
 
-returns_2 : tie.Need-returns-2
-returns_2 c = c.component-of-bits2.ensures ∙ back c.before.before.before.args.x c.before.before.before.well-formed.0.1
+returns_2 : tie.Need-returns-then-x-2
+returns_2 c = c.component_of_bits-then-x-2.ensures ∙ back c.args.x c.well_formed.0.1
 
-returns_3 : tie.Need-returns-3
-returns_3 c = sym (ap value_intake (unordered c.before.before.args.x c.before.if1.false c.if2.false) ∙ nan_intake)
+returns_3 : tie.Need-returns
+returns_3 c = sym (ap value_intake (unordered c.args.x c.if-x.false c.if-x-2.false) ∙ nan_intake)
 
 pub component_spec : {M : Type 1} → statement M
 component_spec = tie.close (tie.spec no_nan (λ c κs. search rules) returns no_nan_2 (λ c κs. search rules) returns_2 returns_3)

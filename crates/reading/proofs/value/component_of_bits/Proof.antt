@@ -15,15 +15,15 @@ use Rattle.reading.proofs.Patterns.{nan_pattern, nan_intake, far_intake, pattern
 use Rattle.reading.proofs.value.component_of_bits.Statement.{statement}
 use Rattle.reading.proofs.value.component_of_bits.Tie as tie
 
-returns : tie.Need-returns
+returns : tie.Need-returns-then-is_nan
 returns c =
-    let is_nan = sym c.before.is_nan.ensures ∙ c.if1.true in
-    sym (ap value_intake (nan_pattern c.before.before.args.bits is_nan) ∙ nan_intake)
+    let is_nan = sym c.is_nan.ensures ∙ c.if-is_nan.true in
+    sym (ap value_intake (nan_pattern c.args.bits is_nan) ∙ nan_intake)
 
-returns_2 : tie.Need-returns-2
+returns_2 : tie.Need-returns-then-field-gt-GREATEST_FIELD
 returns_2 c =
-    let no_nan = sym c.before.before.is_nan.ensures ∙ c.before.if1.false in
-    sym (far_intake c.before.before.before.args.bits no_nan c.if2.true)
+    let no_nan = sym c.is_nan.ensures ∙ c.if-is_nan.false in
+    sym (far_intake c.args.bits no_nan c.if-field-gt-GREATEST_FIELD.true)
 
 -- a magnitude as a signed number, and its negative
 as_signed : {m : ℕ} → m ≤ 65536 → to_z w32 m ≡ pos m
@@ -39,24 +39,24 @@ negated {m} h = ap (λ (z : ℤ). pos 0 -ℤ z) (as_signed h) ∙ +ℤ_idl (neg_
 negated_fits : {m : ℕ} → m ≤ 65536 → SFits w32 (pos 0 -ℤ to_z w32 m)
 negated_fits {m} h = subst⁻¹ (SFits w32) (negated h) (negative_fits m h)
 
-sub_in_range : tie.Need-overflow-sub-in-range
-sub_in_range c = negated_fits c.before.magnitude.ensures.small
+sub_in_range : tie.Need-overflow_sub-m
+sub_in_range c = negated_fits c.magnitude-m.ensures.small
 
-returns_3 : tie.Need-returns-3
+returns_3 : tie.Need-returns-then-bits-lt-SIGN
 returns_3 c =
-    let magnitude = c.before.before.magnitude.ensures in
-    let b = c.before.before.before.before.before.before.args.bits in
+    let magnitude = c.magnitude-m.ensures in
+    let b = c.args.bits in
     c.in_range.ensures
     ∙ ap ranged (as_signed magnitude.small)
-    ∙ sym (pattern_intake b _ false (omega arith) (lt-leb (2 ^ 31) b c.before.if3.true) magnitude)
+    ∙ sym (pattern_intake b _ false (omega arith) (lt-leb (2 ^ 31) b c.if-bits-lt-SIGN.true) magnitude)
 
-returns_4 : tie.Need-returns-4
+returns_4 : tie.Need-returns-else-bits-lt-SIGN
 returns_4 c =
-    let magnitude = c.before.before.magnitude.ensures in
-    let b = c.before.before.before.before.before.before.args.bits in
-    c.in-range2.ensures
+    let magnitude = c.magnitude-m.ensures in
+    let b = c.args.bits in
+    c.in_range-else-bits-lt-SIGN.ensures
     ∙ ap ranged (to_z-of_z w32 _ (negated_fits magnitude.small) ∙ negated magnitude.small)
-    ∙ sym (pattern_intake b _ true (omega arith) (le-leb (2 ^ 31) b c.before.if3.false) magnitude)
+    ∙ sym (pattern_intake b _ true (omega arith) (le-leb (2 ^ 31) b c.if-bits-lt-SIGN.false) magnitude)
 
 pub component_of_bits_spec : {M : Type 1} → statement M
 component_of_bits_spec =

@@ -16,21 +16,21 @@ use Rattle.reading.proofs.value.in_range.Tie as tie
 read_back : (P : ℤ → Type 0) {z : ℤ} → SFits w32 z → P (to_z w32 (of_z w32 z)) → P z
 read_back P {z} fits = subst P (to_z-of_z w32 z fits)
 
-returns : tie.Need-returns
+returns : tie.Need-returns-then-z-lt-LEAST_COMPONENT
 returns c =
-    sym (below_range c.before.args.z (read_back (λ z. lt_z z least_component ≡ true) c.before.ranges.z c.if1.true))
+    sym (below_range c.args.z (read_back (λ z. lt_z z least_component ≡ true) c.ranges.z c.if-z-lt-LEAST_COMPONENT.true))
 
-returns_2 : tie.Need-returns-2
+returns_2 : tie.Need-returns-then-z-gt-GREATEST_COMPONENT
 returns_2 c =
-    let z = c.before.before.args.z in
-    sym (above_range z (read_back (λ z. lt_z greatest_component z ≡ true) c.before.before.ranges.z c.if2.true))
+    let z = c.args.z in
+    sym (above_range z (read_back (λ z. lt_z greatest_component z ≡ true) c.ranges.z c.if-z-gt-GREATEST_COMPONENT.true))
 
-returns_3 : tie.Need-returns-3
+returns_3 : tie.Need-returns
 returns_3 c =
-    let z = c.before.before.args.z in
-    let fits = c.before.before.ranges.z in
+    let z = c.args.z in
+    let fits = c.ranges.z in
     ap Component (to_z-of_z w32 z fits)
-    ∙ sym (within_range z (read_back (λ z. lt_z z least_component ≡ false) fits c.before.if1.false) (read_back (λ z. lt_z greatest_component z ≡ false) fits c.if2.false))
+    ∙ sym (within_range z (read_back (λ z. lt_z z least_component ≡ false) fits c.if-z-lt-LEAST_COMPONENT.false) (read_back (λ z. lt_z greatest_component z ≡ false) fits c.if-z-gt-GREATEST_COMPONENT.false))
 
 pub in_range_spec : {M : Type 1} → statement M
 in_range_spec = tie.close (tie.spec returns returns_2 returns_3)

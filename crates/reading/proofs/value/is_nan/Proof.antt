@@ -5,13 +5,13 @@ use lib.Ieee.{nan_bits}
 use Rattle.reading.proofs.value.is_nan.Statement.{statement}
 use Rattle.reading.proofs.value.is_nan.Tie as tie
 
-returns : tie.Need-returns
+returns : tie.Need-returns-then-bits-eq-SPECIAL
 unfolding nan_bits
-returns c = rw c.if1.true
+returns c = rw c.if-bits-eq-SPECIAL.true
 
-returns_2 : tie.Need-returns-2
+returns_2 : tie.Need-returns-else-bits-eq-SPECIAL
 unfolding nan_bits
-returns_2 c = rw (ne_eqb (c.before.args.bits % 2 ^ 31 / 2 ^ 23) 255 c.if1.false)
+returns_2 c = rw (ne_eqb (c.args.bits % 2 ^ 31 / 2 ^ 23) 255 c.if-bits-eq-SPECIAL.false)
 
 pub is_nan_spec : {M : Type 1} → statement M
 is_nan_spec = tie.close (tie.spec returns returns_2)

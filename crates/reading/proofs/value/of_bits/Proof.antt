@@ -6,12 +6,12 @@ use Rattle.reading.proofs.Patterns.{nan_pattern}
 use Rattle.reading.proofs.value.of_bits.Statement.{statement}
 use Rattle.reading.proofs.value.of_bits.Tie as tie
 
-returns : tie.Need-returns
+returns : tie.Need-returns-then-is_nan
 unfolding div of_bits
-returns c = sym (nan_pattern c.before.before.args.bits (sym c.before.is_nan.ensures ∙ c.if1.true))
+returns c = sym (nan_pattern c.args.bits (sym c.is_nan.ensures ∙ c.if-is_nan.true))
 
-float_from_bits_result : tie.Need-float-from-bits-result
-float_from_bits_result c = rw (sym c.before.is_nan.ensures ∙ c.if1.false) tt
+float_from_bits_result : tie.Need-float_from_bits-result
+float_from_bits_result c = rw (sym c.is_nan.ensures ∙ c.if-is_nan.false) tt
 
 pub of_bits_spec : {M : Type 1} → statement M
 of_bits_spec = tie.close (tie.spec (λ c κs. search rules) returns float_from_bits_result (λ c. search rules))

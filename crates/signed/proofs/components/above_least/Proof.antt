@@ -21,19 +21,19 @@ in_range k r small fits is = go (ltb r (2 ^ 16)) refl
     go false e = above (leb (2 ^ 31 - 32768) k) refl e
 
 -- the number's key, and that of the least component
-key_is : (c : tie.After-key) → Key c.before.args.z c.key.result
-key_is c = key_back c.before.ranges.z c.key.ensures
+key_is : (c : tie.After-key) → Key c.args.z c.key.result
+key_is c = key_back c.ranges.z c.key.ensures
 
-least_is : (c : tie.After-key2) → c.key2.result ≡ 2 ^ 31 - 32768
+least_is : (c : tie.After-key-2) → c.key-2.result ≡ 2 ^ 31 - 32768
 unfolding key_of
-least_is c = c.key2.ensures
+least_is c = c.key-2.ensures
 
 returns : tie.Need-returns
 returns c =
     let key = key_is c.before.before in
-    rw (key_component c.before.before.before.args.z, ← key.is)
-    (in_range c.before.before.key.result c.wrapping-sub-u32.result key.small c.wrapping-sub-u32.type-inv
-    (rw (least_is c.before) at c.wrapping-sub-u32.ensures))
+    rw (key_component c.args.z, ← key.is)
+    (in_range c.key.result c.wrapping_sub_u32.result key.small c.wrapping_sub_u32.type_inv
+    (rw (least_is c.before) at c.wrapping_sub_u32.ensures))
 
 pub above_least_spec : {M : Type 1} → statement M
 above_least_spec =

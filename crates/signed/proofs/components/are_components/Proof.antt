@@ -17,10 +17,10 @@ or_few k a b = go (ltb a (2 ^ k)) refl (ltb b (2 ^ k)) refl
     go true ea false eb = le-ltb (bit_or a b) (2 ^ k) (omega (arith, ltb-false b (2 ^ k) eb, or_add_and a b, and_le_l a b))
     go false ea t eb = le-ltb (bit_or a b) (2 ^ k) (omega (arith, ltb-false a (2 ^ k) ea, or_add_and a b, and_le_r a b))
 
-abbrev invariant_loop : tie.invariant_loop
+abbrev invariant_loop : tie.invariant-loop-i
 invariant_loop s bits₀ i₀ bits i = (i ≤ length s) × (ltb bits (2 ^ 16) && are_components (drop i s) ≡ are_components s)
 
-abbrev decreases_loop : tie.decreases_loop
+abbrev decreases_loop : tie.decreases-loop-i
 decreases_loop s bits₀ i₀ bits i = length s - i
 
 from : (zs : List ℤ) (i : ℕ) → i < length zs → are_components (drop i zs) ≡ is_component (get_or zs i (pos 0)) && are_components (drop (i + 1) zs)
@@ -31,20 +31,20 @@ none : (zs : List ℤ) (i : ℕ) → length zs ≤ i → are_components (drop i 
 unfolding are_components
 none zs i past = rw (drop_of_length-le zs past)
 
-loop_again : tie.Need-loop-preserved invariant_loop decreases_loop
+loop_again : tie.Need-loop-i-preserved invariant_loop decreases_loop
 loop_again c =
-    let at = c.before.before.before in
-    let zs = at.before.args.s.now in
-    let back = to_z-of_z w32 (get_or zs at.loop.i (pos 0)) (record { sfits = c.before.above-least-arg.given }) in (
+    let at = c in
+    let zs = at.args.s.now in
+    let back = to_z-of_z w32 (get_or zs at.loop-i.i (pos 0)) (record { sfits = c.above_least-arg-1.given }) in (
       omega arith,
-      rw (or_few 16 at.loop.bits c.above-least.result, and_assoc, c.above-least.ensures, back, ← from zs at.loop.i c.before.before.loop-test.true)
-          at.loop.invariant.1,
+      rw (or_few 16 at.loop-i.bits c.above_least-bits.result, and_assoc, c.above_least-bits.ensures, back, ← from zs at.loop-i.i c.loop-i-test.true)
+          at.loop-i.invariant.1,
     )
 
 returns : tie.Need-returns invariant_loop decreases_loop
 returns c =
-    let at = c.before.loop in
-    sym (and-true (ltb at.bits (2 ^ 16))) ∙ rw (none c.before.before.args.s.now at.i c.loop-test.false) at at.invariant.1
+    let at = c.loop-i in
+    sym (and-true (ltb at.bits (2 ^ 16))) ∙ rw (none c.args.s.now at.i c.loop-i-test.false) at at.invariant.1
 
 pub are_components_spec : {M : Type 1} → statement M
 are_components_spec =
