@@ -1,5 +1,6 @@
 // The region numbers of vectors under given marks, and the codes made of them.
 #![tactic(auto)]
+
 ghost use Rattle.std.specs.Prelude.{◌≡◌, cond, ◌+◌, ◌^◌, ◌≤◌, ◌<◌, ltb, eqb, length, take};
 ghost use Rattle.refusal.specs.declared.Verdict.TheVariants.{Accepted};
 ghost use Rattle.refusal.specs.First.{first, outcome};

@@ -1,5 +1,6 @@
 // The cells that codes name.
 #![tactic(auto)]
+
 mod places;
 mod rising;
 

@@ -1,5 +1,6 @@
 // Entries, each a vector's number and its distance from a query, and the array of the most neighbours that holds them by value.
 #![tactic(auto)]
+
 pub mod fill;
 
 ghost use Rattle.std.specs.Prelude.{◌≡◌, [], min, length};
@@ -11,7 +12,7 @@ use limits::MAX_NEIGHBOURS;
 
 // A vector's number and its distance from the query.
 #[repr(C)]
-#[derive(Drop)]
+#[derive(Clone, Copy, Drop)]
 pub struct Entry {
     pub number: u32,
     pub distance: u64,

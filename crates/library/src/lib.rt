@@ -1,6 +1,7 @@
 // The library file (document 01, "Library file"): its counts, and where its records stand in its bytes. `loading` reads it and `writing`
 // writes it.
 #![tactic(auto)]
+
 ghost use Rattle.std.specs.Prelude.{◌≡◌};
 ghost use Rattle.refusal.specs.First.{first, outcome};
 ghost use Rattle.library.specs.Library.{mark_place, vector_place, library_length};

@@ -1,5 +1,6 @@
 // Marks made from vectors.
 #![tactic(auto)]
+
 ghost use Rattle.std.specs.Prelude.{◌≡◌, map, ◌++◌, ◌+◌, ◌^◌, ◌≤◌, length, drop};
 ghost use Rattle.refusal.specs.First.{first, outcome};
 ghost use Rattle.refusal.specs.declared.Verdict.TheVariants.{Accepted};

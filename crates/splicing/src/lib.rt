@@ -1,5 +1,6 @@
 // Bits of bytes spliced: the first bits of one slice, and behind them those of another from a bit on.
 #![tactic(auto)]
+
 ghost use Rattle.std.specs.Prelude.{◌≡◌, cond, ◌++◌, ◌+◌, ◌-◌, ◌*◌, ◌/◌, ◌%◌, ◌^◌, ◌≤◌, ◌<◌, ltb, length, take, drop};
 ghost use Rattle.codes.specs.Bits.{from_bits, bytes_of, byte_bits};
 ghost use Rattle.splicing.specs.Splice.{spliced_bytes};

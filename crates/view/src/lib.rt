@@ -1,6 +1,7 @@
 // One dimension's marks, looked at with their number of regions as one thing. The functions over the view are thin: the work is that of
 // functions over plain slices. Those with plain parameters stand above them, for every other caller.
 #![tactic(auto)]
+
 ghost use Rattle.std.specs.Prelude.{◌≡◌};
 ghost use Rattle.refusal.specs.First.{first, outcome};
 ghost use Rattle.region.specs.Region.{region_of};

@@ -31,58 +31,58 @@ behind c = (not (is_vector_count c.args.n) ⇒ Count) ∷ lengths c
 abbrev all : tie.Start → List Row
 all c = row_causes c.args.d c.args.b c.args.n c.args.vectors c.args.regions
 
-right : (c : tie.After-enum-told) → let args = c.before.before.before.args in first (shape_causes args.d args.b) ≡ Accepted
-right c = sym c.before.before.check-shape.ensures ∙ c.enum_told.given.1
+right : (c : tie.In-Accepted) → let args = c.args in first (shape_causes args.d args.b) ≡ Accepted
+right c = sym c.check_shape.ensures ∙ c.in-Accepted.is
 
-shaped : (c : tie.After-enum-told) → let start = c.before.before.before in first (all start) ≡ first (behind start)
+shaped : (c : tie.In-Accepted) → let start = c.before.before in first (all start) ≡ first (behind start)
 shaped c =
-    let start = c.before.before.before in
+    let start = c.before.before in
     first_append (shape_causes start.args.d start.args.b) (behind start) ∙ outcome_accepted _ _ (right c)
 
-few : (c : tie.Else1) → not (is_vector_count c.before.before.before.before.before.args.n) ≡ false
-few c = ap not (sym c.before.is-vector-count.ensures) ∙ c.if1.false
+few : (c : tie.Else-not-is_vector_count) → not (is_vector_count c.args.n) ≡ false
+few c = ap not (sym c.is_vector_count.ensures) ∙ c.if-not-is_vector_count.false-raw
 
-counted : (c : tie.Else1) → let start = c.before.before.before.before.before in first (all start) ≡ first (lengths start)
+counted : (c : tie.Else-not-is_vector_count) → let start = c.before.before.before.before in first (all start) ≡ first (lengths start)
 counted c = shaped c.before.before ∙ first_next Count _ (few c)
 
-returns : tie.Need-returns
-returns c = sym (shaped c.before.before ∙ first_here Count _ (ap not (sym c.before.is-vector-count.ensures) ∙ c.if1.true))
+returns : tie.Need-returns-then-not-is_vector_count
+returns c = sym (shaped c.before.before ∙ first_here Count _ (ap not (sym c.is_vector_count.ensures) ∙ c.if-not-is_vector_count.true-raw))
 
-mul_if2 : tie.Need-overflow-mul-if2
+mul_if2 : tie.Need-overflow_mul-n
 mul_if2 c =
-    let args = c.before.before.before.before.before.args in
+    let args = c.args in
     let count = between 1 args.n max_vectors (not-false (is_vector_count args.n) (few c)) in
     omega (arith, numbers_le args.n (shape args.d args.b (right c.before.before)) count.below)
 
-returns_2 : tie.Need-returns-2
+returns_2 : tie.Need-returns-then-vectors-n
 returns_2 c =
-    let args = c.before.before.before.before.before.before.args in
-    sym (counted c.before ∙ first_here Length [] (rw (ne_eqb args.vectors (args.n * args.d) c.if2.true)))
+    let args = c.args in
+    sym (counted c.before ∙ first_here Length [] (rw (ne_eqb args.vectors (args.n * args.d) c.if-vectors-n.true)))
 
-returns_3 : tie.Need-returns-3
+returns_3 : tie.Need-returns-then-regions-n
 returns_3 c =
-    let args = c.before.before.before.before.before.before.before.args in
+    let args = c.args in
     sym (counted c.before.before
     ∙ first_here Length []
     (rw (
-      eq-eqb args.vectors (args.n * args.d) c.before.if2.false,
-      ne_eqb args.regions (args.n * args.d) c.if3.true,
+      eq-eqb args.vectors (args.n * args.d) c.if-vectors-n.false,
+      ne_eqb args.regions (args.n * args.d) c.if-regions-n.true,
     )))
 
-returns_4 : tie.Need-returns-4
+returns_4 : tie.Need-returns-else-regions-n
 unfolding first
 returns_4 c =
-    let start = c.before.before.before.before.before.before.before in
+    let start = c.before.before.before.before.before.before in
     let args = start.args in
     sym (counted c.before.before
     ∙ first_next {test = other start} Length []
-    (rw (eq-eqb args.vectors (args.n * args.d) c.before.if2.false, eq-eqb args.regions (args.n * args.d) c.if3.false)))
+    (rw (eq-eqb args.vectors (args.n * args.d) c.if-vectors-n.false, eq-eqb args.regions (args.n * args.d) c.if-regions-n.false)))
 
-returns_5 : tie.Need-returns-5
+returns_5 : tie.Need-returns-in-Refused
 returns_5 c =
-    let start = c.before.before.before.before in
+    let start = c.before.before in
     sym (first_append (shape_causes start.args.d start.args.b) (behind start)
-    ∙ outcome_refused _ _ (sym c.before.before.before.check-shape.ensures ∙ c.before.cause.given.1))
+    ∙ outcome_refused _ _ (sym c.check_shape.ensures ∙ c.in-Refused.is))
 
 pub check_rows_spec : {M : Type 1} → statement M
 check_rows_spec =

@@ -7,18 +7,18 @@ use Rattle.approximation.specs.VectorCauses.{locate_causes}
 use Rattle.approximation.proofs.check_vectors.Statement.{statement}
 use Rattle.approximation.proofs.check_vectors.Tie as tie
 
-returns : tie.Need-returns
+returns : tie.Need-returns-in-Accepted
 returns c =
-    let args = c.before.before.before.before.args in
-    c.check-located.ensures
+    let args = c.args in
+    c.check_located.ensures
     ∙ sym (first_append (shape_causes args.d args.b) (locate_causes args.d args.b args.vectors.now args.marks.now)
-    ∙ outcome_accepted _ _ (sym c.before.before.before.check-shape.ensures ∙ c.before.enum_told.given.1))
+    ∙ outcome_accepted _ _ (sym c.check_shape.ensures ∙ c.in-Accepted.is))
 
-returns_2 : tie.Need-returns-2
+returns_2 : tie.Need-returns-in-Refused
 returns_2 c =
-    let args = c.before.before.before.before.args in
+    let args = c.args in
     sym (first_append (shape_causes args.d args.b) (locate_causes args.d args.b args.vectors.now args.marks.now)
-    ∙ outcome_refused _ _ (sym c.before.before.before.check-shape.ensures ∙ c.before.cause.given.1))
+    ∙ outcome_refused _ _ (sym c.check_shape.ensures ∙ c.in-Refused.is))
 
 pub check_vectors_spec : {M : Type 1} → statement M
 check_vectors_spec =
@@ -26,7 +26,7 @@ check_vectors_spec =
     (tie.spec
     (λ c κs. search rules)
     (λ c. search rules)
-    (λ c κs. sym c.before.before.check-shape.ensures ∙ c.enum_told.given.1)
+    (λ c κs. sym c.check_shape.ensures ∙ c.in-Accepted.is)
     (λ c. search rules)
     returns
     returns_2)

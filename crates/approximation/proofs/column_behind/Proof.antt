@@ -6,15 +6,15 @@ use borrow.Author.Tests.{eq-eqb, ne_eqb}
 use Rattle.approximation.proofs.column_behind.Statement.{statement}
 use Rattle.approximation.proofs.column_behind.Tie as tie
 
-returns : tie.Need-returns
+returns : tie.Need-returns-then-next-d
 returns c =
-    let a = c.before.args in
-    rw (eq-eqb (suc a.column) a.d (rw (add-one a.column) at c.if1.true))
+    let a = c.args in
+    rw (eq-eqb (suc a.column) a.d (rw (add-one a.column) at c.if-next-d.true))
 
-returns_2 : tie.Need-returns-2
+returns_2 : tie.Need-returns-else-next-d
 returns_2 c =
-    let a = c.before.args in
-    rw (ne_eqb (suc a.column) a.d (rw (add-one a.column) at c.if1.false)) (add-one a.column)
+    let a = c.args in
+    rw (ne_eqb (suc a.column) a.d (rw (add-one a.column) at c.if-next-d.false)) (add-one a.column)
 
 pub column_behind_spec : {M : Type 1} → statement M
 column_behind_spec = tie.close (tie.spec (λ c. search rules) returns returns_2)

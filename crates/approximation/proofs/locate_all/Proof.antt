@@ -31,11 +31,11 @@ record Locating (d b : ℕ) (vectors marks : List ℤ) (room : ℕ) (regions : L
   inside : inside_from d b marks column (drop i vectors) ≡ true
   so_far : take i regions ++ regions_from d b marks column (drop i vectors) ≡ vector_regions d b marks vectors
 
-abbrev invariant_loop : tie.invariant_loop
+abbrev invariant_loop : tie.invariant-loop-i
 invariant_loop d b vectors marks regions₀ fewest more column₀ offset₀ i₀ regions column offset i =
     Locating d b vectors marks (length regions₀) regions column offset i
 
-abbrev decreases_loop : tie.decreases_loop
+abbrev decreases_loop : tie.decreases-loop-i
 decreases_loop d b vectors marks regions₀ fewest more column₀ offset₀ i₀ regions column offset i = length vectors - i
 
 module _ {d b : ℕ} {vectors marks : List ℤ} {room : ℕ} {regions : List ℕ} {column offset i : ℕ} (given : Inside d b marks vectors)
@@ -68,54 +68,54 @@ module _ {d b : ℕ} {vectors marks : List ℤ} {room : ℕ} {regions : List ℕ
       let all : i ≡ length vectors = omega (arith, at.among) in
       rw (drop_of_length-le vectors past, append-nil, all) at at.so_far
 
-wide : (c : tie.After-column-regions invariant_loop decreases_loop) → let at = c.before.before in let args = at.before.before.args in
-    Counted args.d args.b at.loop.column c.column-regions.result
-wide c = counted c.before.before.before.before.requires.0.shaped c.column-regions.ensures
+wide : (c : tie.After-column_regions invariant_loop decreases_loop) → let at = c in let args = at.args in
+    Counted args.d args.b at.loop-i.column c.column_regions.result
+wide c = counted c.requires.0.shaped c.column_regions.ensures
 
 -- The column's marks lie in the buffer.
-within : (c : tie.After-column-regions invariant_loop decreases_loop) → let at = c.before.before in
-    at.loop.offset + c.column-regions.result + 1 ≤ length at.before.before.args.marks.now
+within : (c : tie.After-column_regions invariant_loop decreases_loop) → let at = c in
+    at.loop-i.offset + c.column_regions.result + 1 ≤ length at.args.marks.now
 within c =
-    let at = c.before.before in
-    let start = at.before.before in
-    part_within start.args.marks.now start.requires.0.exact at.loop.invariant.begins_at (wide c)
+    let at = c in
+    let start = at in
+    part_within start.args.marks.now start.requires.0.exact at.loop-i.invariant.begins_at (wide c)
 
 -- The call finds the region of the component that was read, in the column's marks.
-found : (c : tie.After-locate invariant_loop decreases_loop) → let column = c.before.before.before in let at = column.before.before in
-    let args = at.before.before.args in let offset = at.loop.offset in
-    let part = take (offset + column.column-regions.result + 1 - offset) (drop offset args.marks.now) in
-    c.locate.result ≡ halved part (get_or args.vectors.now at.loop.i (pos 0))
-found c = rw (to_z-of_z w32 _ (record { sfits = c.before.locate-arg2.given })) at c.locate.ensures
+found : (c : tie.After-locate invariant_loop decreases_loop) → let column = c in let at = column in
+    let args = at.args in let offset = at.loop-i.offset in
+    let part = take (offset + column.column_regions.result + 1 - offset) (drop offset args.marks.now) in
+    c.locate.result ≡ halved part (get_or args.vectors.now at.loop-i.i (pos 0))
+found c = rw (to_z-of_z w32 _ (record { sfits = c.locate-arg-in-loop-i-1.given })) at c.locate.ensures
 
-loop_holds : tie.Need-loop-init invariant_loop decreases_loop
+loop_holds : tie.Need-loop-i-init invariant_loop decreases_loop
 loop_holds c =
-    let start = c.before in
+    let start = c in
     record { begins_at = begins start.requires.0.shaped; among = omega arith; same = refl; inside = start.requires.0.inside; so_far = refl }
 
-cast_regions : tie.Need-overflow-cast-regions invariant_loop decreases_loop
+cast_regions : tie.Need-overflow_cast-regions invariant_loop decreases_loop
 cast_regions c =
-    let column = c.before.before.before in
-    let at = column.before.before in
-    let args = at.before.before.args in
-    let offset = at.loop.offset in
-    let size = offset + column.column-regions.result + 1 - offset in
+    let column = c in
+    let at = column in
+    let args = at.args in
+    let offset = at.loop-i.offset in
+    let size = offset + column.column_regions.result + 1 - offset in
     let part = take size (drop offset args.marks.now) in
-    let le = halvings_le part (get_or args.vectors.now at.loop.i (pos 0)) (length part) 0 (length part) in
-    omega (arith, found c, le, length-take size (drop offset args.marks.now), (wide column).few)
+    let le = halvings_le part (get_or args.vectors.now at.loop-i.i (pos 0)) (length part) 0 (length part) in
+    omega (arith, found c, le, length-take size (drop offset args.marks.now), (wide column.before.before.before).few)
 
-slice_write_regions : tie.Need-slice-write-regions invariant_loop decreases_loop
+slice_write_regions : tie.Need-bounds-regions-i invariant_loop decreases_loop
 slice_write_regions c =
-    let at = c.before.before.before.before.before in
-    omega (arith, at.before.before.requires.1, at.loop.invariant.same)
+    let at = c in
+    omega (arith, at.requires.1, at.loop-i.invariant.same)
 
-loop_again : tie.Need-loop-preserved invariant_loop decreases_loop
+loop_again : tie.Need-loop-i-preserved invariant_loop decreases_loop
 loop_again c =
-    let located = c.before.before in
-    let column = located.before.before.before in
-    let at = column.before.before in
-    let start = at.before.before in
-    rw (c.next-offset.ensures, c.before.column-behind.ensures)
-    (turn start.requires.0 start.requires.1 at.loop.invariant (wide column) column.before.loop-test.true (found located))
+    let located = c in
+    let column = located in
+    let at = column in
+    let start = at in
+    rw (c.next_offset-offset.ensures, c.column_behind-column.ensures)
+    (turn start.requires.0 start.requires.1 at.loop-i.invariant (wide column.before.before.before.before.before) column.loop-i-test.true (found located.before.before))
 
 pub locate_all_spec : {M : Type 1} → statement M
 locate_all_spec =
@@ -123,14 +123,14 @@ locate_all_spec =
     (tie.spec
     invariant_loop
     decreases_loop
-    (λ c. c.before.requires.0.shaped.some)
-    (λ c. omega (arith, few_bits c.before.requires.0.shaped))
-    (λ c. c.before.requires.0.shaped.some)
+    (λ c. c.requires.0.shaped.some)
+    (λ c. omega (arith, few_bits c.requires.0.shaped))
+    (λ c. c.requires.0.shaped.some)
     loop_holds
-    (λ c κs. fewest_few c.before.before.before.requires.0.shaped)
-    (λ c. omega (arith, within c, c.before.before.before.before.well-formed))
-    (λ c. omega (arith, within c, c.before.before.before.before.well-formed))
-    (λ c. omega (arith, within c, c.before.before.before.before.well-formed))
+    (λ c κs. fewest_few c.requires.0.shaped)
+    (λ c. omega (arith, within c, c.well_formed))
+    (λ c. omega (arith, within c, c.well_formed))
+    (λ c. omega (arith, within c, c.well_formed))
     (λ c. omega arith)
     (λ c. omega arith)
     (λ c. omega (arith, within c))
@@ -139,10 +139,10 @@ locate_all_spec =
     (λ c κs. search rules)
     cast_regions
     slice_write_regions
-    (λ c κs. c.before.before.before.before.before.loop.invariant.begins_at.inside)
+    (λ c κs. c.loop-i.invariant.begins_at.inside)
     (λ c κs. search rules)
     (λ c. search rules)
     (λ c. search rules)
     loop_again
-    (λ c. c.before.loop.invariant.same)
-    (λ c. done c.before.before.before.requires.0 c.before.before.before.requires.1 c.before.loop.invariant (omega arith)))
+    (λ c. c.loop-i.invariant.same)
+    (λ c. done c.requires.0 c.requires.1 c.loop-i.invariant (omega arith)))

@@ -25,47 +25,47 @@ abbrev bytes : tie.Start → List ℕ
 bytes c = vector_codes c.args.d c.args.b c.args.n c.args.marks.now c.args.vectors.now
 
 -- The rows that are tested first do not refuse.
-right : (c : tie.After-enum-told) → first (front c.before.before.before.before) ≡ Accepted
-right c = sym c.before.before.check-sizes.ensures ∙ c.enum_told.given.1
+right : (c : tie.In-Accepted) → first (front c.before.before.before) ≡ Accepted
+right c = sym c.check_sizes.ensures ∙ c.in-Accepted.is
 
-shaped : (c : tie.After-enum-told)
-    → let args = c.before.before.before.before.args in first (shape_causes args.d args.b) ≡ Accepted
+shaped : (c : tie.In-Accepted)
+    → let args = c.args in first (shape_causes args.d args.b) ≡ Accepted
 shaped c =
-    let args = c.before.before.before.before.args in
+    let args = c.args in
     accepted_front (shape_causes args.d args.b) _ (right c)
 
-located : (c : tie.After-enum-told2) → first (behind c.before.before.before.before.before.before.before) ≡ Accepted
-located c = sym c.before.before.check-located.ensures ∙ c.enum-told2.given.1
+located : (c : tie.In-Accepted-check_located) → first (behind c.before.before.before.before.before) ≡ Accepted
+located c = sym c.check_located.ensures ∙ c.in-Accepted-check_located.is
 
-put_vectors_requires : tie.Need-put-vectors-requires
+put_vectors_requires : tie.Need-put_vectors-requires
 put_vectors_requires c κs =
-    let told = c.before.before.before.before in
-    let args = told.before.before.before.before.args in (
-      right told,
-      inside_marks args.d args.b args.vectors.now args.marks.now (shaped told) (located c.before),
+    let told = c in
+    let args = told.args in (
+      right told.before.before.before,
+      inside_marks args.d args.b args.vectors.now args.marks.now (shaped told.before.before.before) (located c.before),
     )
 
-returns : tie.Need-returns
+returns : tie.Need-returns-in-Accepted-check_located
 returns c =
-    let put = c.before.before in
-    let told = put.before.before.before.before.before in
-    let start = told.before.before.before.before in
-    accepted_both (front start) (behind start) start.args.codes.now (bytes start) (right told) (located put.before.before)
-    put.put-vectors.ensures
+    let put = c in
+    let told = put in
+    let start = told.before.before.before.before.before.before.before.before.before in
+    accepted_both (front start) (behind start) start.args.codes.now (bytes start) (right told.before.before.before.before.before.before) (located put.before.before.before.before)
+    put.put_vectors.ensures
 
-returns_2 : tie.Need-returns-2
+returns_2 : tie.Need-returns-in-Refused-check_located
 returns_2 c =
-    let test = c.before.before.before in
+    let test = c in
     let start = test.before.before.before.before.before in
-    refused_behind (front start) (behind start) start.args.codes.now (bytes start) (right test.before)
-    (sym test.check-located.ensures ∙ c.before.cause.given.1)
+    refused_behind (front start) (behind start) start.args.codes.now (bytes start) (right test.before.before)
+    (sym test.check_located.ensures ∙ c.in-Refused-check_located.is)
 
-returns_3 : tie.Need-returns-3
+returns_3 : tie.Need-returns-in-Refused
 returns_3 c =
-    let test = c.before.before.before in
-    let start = test.before.before in
+    let test = c in
+    let start = test.before.before.before in
     refused_before (front start) (behind start) start.args.codes.now (bytes start)
-    (sym test.check-sizes.ensures ∙ c.before.cause2.given.1)
+    (sym test.check_sizes.ensures ∙ c.in-Refused.is)
 
 pub pack_vectors_spec : {M : Type 1} → statement M
 pack_vectors_spec =

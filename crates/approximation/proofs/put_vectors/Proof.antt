@@ -48,24 +48,24 @@ room c =
     let size = sizes args.d args.b args.n (length args.vectors.now) (length args.codes.now) c.requires.0 in
     rw size.rows (numbers_le c.args.n size.shaped size.few)
 
-regions_hold : tie.Need-array-share-prefix-regions
-regions_hold c = le_trans (room c.before.before.before.before) (le_of_eq (sym c.before.locate-all.auto.1.1.1.1.0))
+regions_hold : tie.Need-slice_bounds-regions-end
+regions_hold c = le_trans (room c.before.before.before.before) (le_of_eq (sym c.locate_all.auto.regions))
 
 returns : tie.Need-returns
 returns c =
-    let put = c.before.before in
-    let located = put.before.before.before.before in
-    let pre = located.before.before.before.requires in
-    let args = located.before.before.before.args in
+    let put = c in
+    let located = put in
+    let pre = located.requires in
+    let args = located.args in
     codes_are args.d args.b args.n args.vectors.now args.marks.now (length args.codes.now) pre.0 pre.1
-    located.locate-all.ensures _ _ put.pack.ensures.1
+    located.locate_all.ensures _ _ put.pack.ensures.1
 
 pub put_vectors_spec : {M : Type 1} → statement M
 put_vectors_spec =
     tie.close
     (tie.spec
     (λ c. search rules)
-    (λ c κs. (c.before.before.requires.1, room c.before.before))
+    (λ c κs. (c.requires.1, room c.before.before))
     regions_hold
     (λ c. sym (length-take-le _ _ (regions_hold c.before)))
     (λ c κs. search rules)

@@ -26,55 +26,55 @@ abbrev numbers : tie.Start → List ℕ
 numbers c = vector_regions c.args.d c.args.b c.args.marks.now c.args.vectors.now
 
 -- The rows that are tested first do not refuse.
-right : (c : tie.After-enum-told) → first (front c.before.before.before.before) ≡ Accepted
-right c = sym c.before.before.check-rows.ensures ∙ c.enum_told.given.1
+right : (c : tie.In-Accepted) → first (front c.before.before.before) ≡ Accepted
+right c = sym c.check_rows.ensures ∙ c.in-Accepted.is
 
-shaped : (c : tie.After-enum-told)
-    → let args = c.before.before.before.before.args in first (shape_causes args.d args.b) ≡ Accepted
+shaped : (c : tie.In-Accepted)
+    → let args = c.args in first (shape_causes args.d args.b) ≡ Accepted
 shaped c =
-    let args = c.before.before.before.before.args in
+    let args = c.args in
     accepted_front (shape_causes args.d args.b) _ (right c)
 
-lengths : (c : tie.After-enum-told) → let args = c.before.before.before.before.args in
+lengths : (c : tie.In-Accepted) → let args = c.args in
     Rows args.d args.b args.n (length args.vectors.now) (length args.regions.now)
 lengths c =
-    let args = c.before.before.before.before.args in
+    let args = c.args in
     rows args.d args.b args.n (length args.vectors.now) (length args.regions.now) (right c)
 
-located : (c : tie.After-enum-told2) → first (behind c.before.before.before.before.before.before.before) ≡ Accepted
-located c = sym c.before.before.check-located.ensures ∙ c.enum-told2.given.1
+located : (c : tie.In-Accepted-check_located) → first (behind c.before.before.before.before.before) ≡ Accepted
+located c = sym c.check_located.ensures ∙ c.in-Accepted-check_located.is
 
-locate_all_requires : tie.Need-locate-all-requires
+locate_all_requires : tie.Need-locate_all-requires
 locate_all_requires c κs =
-    let told = c.before.before.before.before in
-    let args = told.before.before.before.before.args in (
-      inside_marks args.d args.b args.vectors.now args.marks.now (shaped told) (located c.before),
-      omega (arith, lengths told),
+    let told = c in
+    let args = told.args in (
+      inside_marks args.d args.b args.vectors.now args.marks.now (shaped told.before.before.before) (located c.before),
+      omega (arith, lengths told.before.before.before),
     )
 
-returns : tie.Need-returns
+returns : tie.Need-returns-in-Accepted-check_located
 returns c =
-    let filled = c.before.before in
-    let told = filled.before.before.before.before.before in
-    let start = told.before.before.before.before in
-    let last = filled.locate-all.new.1.1.1.1.0 in
-    let all = take_all (length start.args.vectors.now) last (omega (arith, filled.locate-all.auto.1.1.1.1.0, lengths told)) in
-    accepted_both (front start) (behind start) start.args.regions.now (numbers start) (right told) (located filled.before.before)
-    (sym all ∙ filled.locate-all.ensures)
+    let filled = c in
+    let told = filled in
+    let start = told.before.before.before.before.before.before.before.before.before in
+    let last = filled.locate_all.new.regions in
+    let all = take_all (length start.args.vectors.now) last (omega (arith, filled.locate_all.auto.regions, lengths told.before.before.before.before.before.before)) in
+    accepted_both (front start) (behind start) start.args.regions.now (numbers start) (right told.before.before.before.before.before.before) (located filled.before.before.before.before)
+    (sym all ∙ filled.locate_all.ensures)
 
-returns_2 : tie.Need-returns-2
+returns_2 : tie.Need-returns-in-Refused-check_located
 returns_2 c =
-    let test = c.before.before.before in
+    let test = c in
     let start = test.before.before.before.before.before in
-    refused_behind (front start) (behind start) start.args.regions.now (numbers start) (right test.before)
-    (sym test.check-located.ensures ∙ c.before.cause.given.1)
+    refused_behind (front start) (behind start) start.args.regions.now (numbers start) (right test.before.before)
+    (sym test.check_located.ensures ∙ c.in-Refused-check_located.is)
 
-returns_3 : tie.Need-returns-3
+returns_3 : tie.Need-returns-in-Refused
 returns_3 c =
-    let test = c.before.before.before in
-    let start = test.before.before in
+    let test = c in
+    let start = test.before.before.before in
     refused_before (front start) (behind start) start.args.regions.now (numbers start)
-    (sym test.check-rows.ensures ∙ c.before.cause2.given.1)
+    (sym test.check_rows.ensures ∙ c.in-Refused.is)
 
 pub regions_spec : {M : Type 1} → statement M
 regions_spec =

@@ -17,56 +17,56 @@ use Rattle.approximation.proofs.Stretches.{inside_next}
 use Rattle.approximation.proofs.vectors_inside.Statement.{statement}
 use Rattle.approximation.proofs.vectors_inside.Tie as tie
 
-abbrev invariant_loop : tie.invariant_loop
+abbrev invariant_loop : tie.invariant-loop-i
 invariant_loop d b vectors marks fewest more column₀ offset₀ i₀ column offset i =
     (Begins d b column offset) × (vectors_inside d b marks vectors ≡ inside_from d b marks column (drop i vectors))
 
-abbrev decreases_loop : tie.decreases_loop
+abbrev decreases_loop : tie.decreases-loop-i
 decreases_loop d b vectors marks fewest more column₀ offset₀ i₀ column offset i = length vectors - i
 
-wide : (c : tie.After-column-regions invariant_loop decreases_loop) → let at = c.before.before in let args = at.before.args in
-    Counted args.d args.b at.loop.column c.column-regions.result
-wide c = counted c.before.before.before.requires.0 c.column-regions.ensures
+wide : (c : tie.After-column_regions invariant_loop decreases_loop) → let at = c in let args = at.args in
+    Counted args.d args.b at.loop-i.column c.column_regions.result
+wide c = counted c.requires.0 c.column_regions.ensures
 
 -- The column's marks lie in the buffer.
-within : (c : tie.After-column-regions invariant_loop decreases_loop) → let at = c.before.before in
-    at.loop.offset + c.column-regions.result + 1 ≤ length at.before.args.marks.now
+within : (c : tie.After-column_regions invariant_loop decreases_loop) → let at = c in
+    at.loop-i.offset + c.column_regions.result + 1 ≤ length at.args.marks.now
 within c =
-    let at = c.before.before in
-    part_within at.before.args.marks.now at.before.requires.1 at.loop.invariant.0 (wide c)
+    let at = c in
+    part_within at.args.marks.now at.requires.1 at.loop-i.invariant.0 (wide c)
 
 -- The test of the component at i and those behind it decide for the whole list.
-turn : (c : tie.After-in-marks invariant_loop decreases_loop) → let at = c.before.before.before.before.before in let args = at.before.args in
-    let next = next_column args.d at.loop.column in let rest = drop (at.loop.i + 1) args.vectors.now in
+turn : (c : tie.After-in_marks invariant_loop decreases_loop) → let at = c in let args = at.args in
+    let next = next_column args.d at.loop-i.column in let rest = drop (at.loop-i.i + 1) args.vectors.now in
     vectors_inside args.d args.b args.marks.now args.vectors.now
-    ≡ c.in-marks.result && inside_from args.d args.b args.marks.now next rest
+    ≡ c.in_marks.result && inside_from args.d args.b args.marks.now next rest
 turn c =
-    let column = c.before.before.before in
-    let at = column.before.before in
-    let args = at.before.args in
-    let own = part_is args.marks.now at.before.requires.1 at.loop.invariant.0 (wide column) in
-    let read = to_z-of_z w32 (get_or args.vectors.now at.loop.i (pos 0)) (record { sfits = c.before.in-marks-arg2.given }) in
-    let i = at.loop.i in
-    at.loop.invariant.1
-    ∙ inside_next args.d args.b args.marks.now at.loop.column args.vectors.now i column.before.loop-test.true
-    ∙ rw (c.in-marks.ensures ∙ ap₂ in_marks own read)
+    let column = c in
+    let at = column in
+    let args = at.args in
+    let own = part_is args.marks.now at.requires.1 at.loop-i.invariant.0 (wide column.before.before.before) in
+    let read = to_z-of_z w32 (get_or args.vectors.now at.loop-i.i (pos 0)) (record { sfits = c.in_marks-arg-in-loop-i-1.given }) in
+    let i = at.loop-i.i in
+    at.loop-i.invariant.1
+    ∙ inside_next args.d args.b args.marks.now at.loop-i.column args.vectors.now i column.loop-i-test.true
+    ∙ rw (c.in_marks.ensures ∙ ap₂ in_marks own read)
 
-returns : tie.Need-returns invariant_loop decreases_loop
-returns c = sym (turn c.before ∙ rw (not-true c.before.in-marks.result c.if1.true))
+returns : tie.Need-returns-then-not-in_marks invariant_loop decreases_loop
+returns c = sym (turn c.before ∙ rw (not-true c.in_marks.result c.if-not-in_marks.true-raw))
 
-loop_again : tie.Need-loop-preserved invariant_loop decreases_loop
+loop_again : tie.Need-loop-i-preserved invariant_loop decreases_loop
 loop_again c =
-    let test = c.before.before.before in
-    let column = test.before.before.before in
-    let at = column.before.before in
-    rw (c.next-offset.ensures, c.before.column-behind.ensures) (
-      goes_on_lem at.before.args.marks.now at.before.requires.1 at.loop.invariant.0 (wide column),
-      turn test ∙ rw (not-false test.in-marks.result c.before.before.if1.false),
+    let test = c in
+    let column = test in
+    let at = column in
+    rw (c.next_offset-offset.ensures, c.column_behind-column.ensures) (
+      goes_on_lem at.args.marks.now at.requires.1 at.loop-i.invariant.0 (wide column.before.before.before.before.before.before),
+      turn test.before.before.before ∙ rw (not-false test.in_marks.result c.if-not-in_marks.false-raw),
     )
 
-returns_2 : tie.Need-returns-2 invariant_loop decreases_loop
+returns_2 : tie.Need-returns invariant_loop decreases_loop
 unfolding inside_from
-returns_2 c = sym (c.before.loop.invariant.1 ∙ rw (drop_of_length-le c.before.before.args.vectors.now c.loop-test.false))
+returns_2 c = sym (c.loop-i.invariant.1 ∙ rw (drop_of_length-le c.args.vectors.now c.loop-i-test.false))
 
 pub vectors_inside_spec : {M : Type 1} → statement M
 vectors_inside_spec =
@@ -78,10 +78,10 @@ vectors_inside_spec =
     (λ c. omega (arith, few_bits c.requires.0))
     (λ c. c.requires.0.some)
     (λ c. (begins c.requires.0, refl))
-    (λ c κs. fewest_few c.before.before.requires.0)
-    (λ c. omega (arith, within c, c.before.before.before.well-formed))
-    (λ c. omega (arith, within c, c.before.before.before.well-formed))
-    (λ c. omega (arith, within c, c.before.before.before.well-formed))
+    (λ c κs. fewest_few c.requires.0)
+    (λ c. omega (arith, within c, c.well_formed))
+    (λ c. omega (arith, within c, c.well_formed))
+    (λ c. omega (arith, within c, c.well_formed))
     (λ c. omega arith)
     (λ c. omega arith)
     (λ c. omega (arith, within c))
@@ -89,7 +89,7 @@ vectors_inside_spec =
     (λ c. search rules)
     (λ c κs. search rules)
     returns
-    (λ c κs. c.before.before.before.before.before.before.loop.invariant.0.inside)
+    (λ c κs. c.loop-i.invariant.0.inside)
     (λ c κs. search rules)
     (λ c. search rules)
     (λ c. search rules)

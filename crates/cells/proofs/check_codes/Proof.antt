@@ -7,20 +7,20 @@ use Rattle.cells.specs.CellCauses.{shaped_code_causes}
 use Rattle.cells.proofs.check_codes.Statement.{statement}
 use Rattle.cells.proofs.check_codes.Tie as tie
 
-returns : tie.Need-returns
+returns : tie.Need-returns-in-Accepted
 returns c =
-    let args = c.before.before.before.before.before.args in
-    c.check-shaped.ensures
+    let args = c.args in
+    c.check_shaped.ensures
     ∙ sym (first_append (shape_causes args.d args.b)
     (shaped_code_causes args.d args.b args.n args.marks.now args.codes.now)
-    ∙ outcome_accepted _ _ (sym c.before.before.before.check-shape.ensures ∙ c.before.enum_told.given.1))
+    ∙ outcome_accepted _ _ (sym c.check_shape.ensures ∙ c.in-Accepted.is))
 
-returns_2 : tie.Need-returns-2
+returns_2 : tie.Need-returns-in-Refused
 returns_2 c =
-    let args = c.before.before.before.before.before.args in
+    let args = c.args in
     sym (first_append (shape_causes args.d args.b)
     (shaped_code_causes args.d args.b args.n args.marks.now args.codes.now)
-    ∙ outcome_refused _ _ (sym c.before.before.before.check-shape.ensures ∙ c.before.cause.given.1))
+    ∙ outcome_refused _ _ (sym c.check_shape.ensures ∙ c.in-Refused.is))
 
 pub check_codes_spec : {M : Type 1} → statement M
 check_codes_spec =
@@ -28,7 +28,7 @@ check_codes_spec =
     (tie.spec
     (λ c κs. search rules)
     (λ c. search rules)
-    (λ c κs. sym c.before.before.check-shape.ensures ∙ c.enum_told.given.1)
+    (λ c κs. sym c.check_shape.ensures ∙ c.in-Accepted.is)
     (λ c. search rules)
     returns
     returns_2)

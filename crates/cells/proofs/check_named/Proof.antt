@@ -17,51 +17,51 @@ use Rattle.cells.proofs.check_named.Statement.{statement}
 use Rattle.cells.proofs.check_named.Tie as tie
 
 -- the two tests
-named : (c : tie.Else1) → let a = c.before.before.before.args in
+named : (c : tie.Else-not-no_empty_codes) → let a = c.args in
     no_empty_codes a.d a.b a.marks.now a.codes.now a.n ≡ true
-named c = sym c.before.no-empty-codes.ensures ∙ not-false c.before.no-empty-codes.result c.if1.false
+named c = sym c.no_empty_codes.ensures ∙ not-false c.no_empty_codes.result c.if-not-no_empty_codes.false-raw
 
-spare : (c : tie.After-bits-at) → let a = c.before.before.before.before.args in
+spare : (c : tie.After-bits_at) → let a = c.args in
     eqb c.bits_at.result 0 ≡ spare_zero a.b a.n a.codes.now
 spare c =
-    let start = c.before.before.before.before in
+    let start = c in
     ap (λ (x : ℕ). eqb x 0) c.bits_at.ensures
     ∙ spare_read start.args.b start.args.n start.args.codes.now start.requires.bytes
 
-returns : tie.Need-returns
+returns : tie.Need-returns-then-not-no_empty_codes
 returns c =
-    let args = c.before.before.before.args in
+    let args = c.args in
     sym
     (first_here Code []
     (ap (λ (t : Bool). not (t && spare_zero args.b args.n args.codes.now))
-    (sym c.before.no-empty-codes.ensures ∙ not-true c.before.no-empty-codes.result c.if1.true)))
+    (sym c.no_empty_codes.ensures ∙ not-true c.no_empty_codes.result c.if-not-no_empty_codes.true-raw)))
 
-mul_bits_at : tie.Need-overflow-mul-bits-at
+mul_bits_at : tie.Need-overflow_mul-n
 mul_bits_at c =
-    let start = c.before.before.before in
+    let start = c in
     omega (
       arith,
       codes_bits_le {d = start.args.d} {b = start.args.b} start.args.n (shape _ _ start.requires.shaped)
           start.requires.few,
     )
 
-returns_2 : tie.Need-returns-2
+returns_2 : tie.Need-returns-then-bits_at-ne0
 returns_2 c =
-    let read = c.before in
-    let set = sym (spare read) ∙ ne_eqb read.bits_at.result 0 c.if2.true in
-    sym (first_here Code [] (ap₂ (λ (e s : Bool). not (e && s)) (named read.before) set))
+    let read = c in
+    let set = sym (spare read.before) ∙ ne_eqb read.bits_at.result 0 c.if-bits_at-ne0.true in
+    sym (first_here Code [] (ap₂ (λ (e s : Bool). not (e && s)) (named read.before.before) set))
 
-returns_3 : tie.Need-returns-3
+returns_3 : tie.Need-returns
 returns_3 c =
-    let read = c.before in
-    let zero = sym (spare read) ∙ eq-eqb read.bits_at.result 0 c.if2.false in
-    sym (first_next Code [] (ap₂ (λ (e s : Bool). not (e && s)) (named read.before) zero) ∙ first_none)
+    let read = c in
+    let zero = sym (spare read.before) ∙ eq-eqb read.bits_at.result 0 c.if-bits_at-ne0.false in
+    sym (first_next Code [] (ap₂ (λ (e s : Bool). not (e && s)) (named read.before.before) zero) ∙ first_none)
 
 pub check_named_spec : {M : Type 1} → statement M
 check_named_spec =
     tie.close
     (tie.spec
-    (λ c κs. (c.before.requires.shaped, c.before.requires.few))
+    (λ c κs. (c.requires.shaped, c.requires.few))
     returns
     mul_bits_at
     (λ c κs. search rules)

@@ -15,63 +15,63 @@ use Rattle.cells.specs.CellLaws.{Named}
 use Rattle.cells.proofs.check_shaped.Statement.{statement}
 use Rattle.cells.proofs.check_shaped.Tie as tie
 
-counted : (c : tie.Else1) → is_vector_count c.before.before.before.args.n ≡ true
-counted c = sym c.before.is-vector-count.ensures ∙ not-false c.before.is-vector-count.result c.if1.false
+counted : (c : tie.Else-not-is_vector_count) → is_vector_count c.args.n ≡ true
+counted c = sym c.is_vector_count.ensures ∙ not-false c.is_vector_count.result c.if-not-is_vector_count.false-raw
 
-few : (c : tie.Else1) → c.before.before.before.args.n ≤ max_vectors
-few c = (between 1 c.before.before.before.args.n max_vectors (counted c)).below
+few : (c : tie.Else-not-is_vector_count) → c.args.n ≤ max_vectors
+few c = (between 1 c.args.n max_vectors (counted c)).below
 
-measured : (c : tie.Else2) → let a = c.before.before.before.before.before.args in
+measured : (c : tie.Else-not-exact_lengths) → let a = c.args in
     eqb (length a.marks.now) (first_marks a.d a.b a.d) && eqb (length a.codes.now) (code_length a.b a.n) ≡ true
-measured c = sym c.before.exact-lengths.ensures ∙ not-false c.before.exact-lengths.result c.if2.false
+measured c = sym c.exact_lengths.ensures ∙ not-false c.exact_lengths.result c.if-not-exact_lengths.false-raw
 
-marks_size : (c : tie.Else2) → let a = c.before.before.before.before.before.args in
+marks_size : (c : tie.Else-not-exact_lengths) → let a = c.args in
     length a.marks.now ≡ first_marks a.d a.b a.d
 marks_size c = eqb-true _ _ ((and-eq-true_iff _ _).0 (measured c)).0
 
-codes_size : (c : tie.Else2) → let a = c.before.before.before.before.before.args in length a.codes.now ≡ code_length a.b a.n
+codes_size : (c : tie.Else-not-exact_lengths) → let a = c.args in length a.codes.now ≡ code_length a.b a.n
 codes_size c =
-    let a = c.before.before.before.before.before.args in
+    let a = c.args in
     eqb-true _ _ ((and-eq-true_iff (eqb (length a.marks.now) (first_marks a.d a.b a.d)) _).0 (measured c)).1
 
-returns : tie.Need-returns
+returns : tie.Need-returns-then-not-is_vector_count
 unfolding first
-returns c = rw (← c.before.is-vector-count.ensures, c.if1.true)
+returns c = rw (← c.is_vector_count.ensures, c.if-not-is_vector_count.true-raw)
 
-returns_2 : tie.Need-returns-2
+returns_2 : tie.Need-returns-then-not-exact_lengths
 unfolding first
-returns_2 c = rw (counted c.before.before, ← c.before.exact-lengths.ensures, c.if2.true)
+returns_2 c = rw (counted c.before.before, ← c.exact_lengths.ensures, c.if-not-exact_lengths.true-raw)
 
-returns_3 : tie.Need-returns-3
+returns_3 : tie.Need-returns-in-Accepted
 unfolding first
 returns_3 c =
-    let told = c.before in
-    let verdict = told.before.before in
-    let test = verdict.before in
-    let start = test.before.before.before.before.before in
+    let told = c in
+    let verdict = told in
+    let test = verdict in
+    let start = test in
     let a = start.args in
-    let accepted = sym verdict.check-marks.ensures ∙ told.enum_told.given.1 in
-    let good = marks_good a.d a.b a.marks.now start.requires (marks_size test) accepted in
-    c.check-named.ensures ∙ rw (counted test.before.before, measured test, good)
+    let accepted = sym verdict.check_marks.ensures ∙ told.in-Accepted.is in
+    let good = marks_good a.d a.b a.marks.now start.requires (marks_size test.before.before.before) accepted in
+    c.check_named.ensures ∙ rw (counted test.before.before.before.before.before, measured test.before.before.before, good)
 
-returns_4 : tie.Need-returns-4
+returns_4 : tie.Need-returns-in-Refused
 unfolding first
 returns_4 c =
-    let verdict = c.before.before in
-    let test = verdict.before in
-    let start = test.before.before.before.before.before in
+    let verdict = c in
+    let test = verdict in
+    let start = test in
     let a = start.args in
-    let refused = sym verdict.check-marks.ensures ∙ c.enum-told2.given.1 in
-    rw (counted test.before.before, measured test, marks_bad a.d a.b a.marks.now start.requires (marks_size test) refused)
+    let refused = sym verdict.check_marks.ensures ∙ c.in-Refused.is in
+    rw (counted test.before.before.before.before, measured test.before.before, marks_bad a.d a.b a.marks.now start.requires (marks_size test.before.before) refused)
 
-named : (c : tie.After-enum-told) → let a = c.before.before.before.before.before.before.before.before.args in
+named : (c : tie.In-Accepted) → let a = c.args in
     Named a.d a.b a.n a.codes.now
 named c =
-    let test = c.before.before.before in
+    let test = c in
     record {
-      shaped = test.before.before.before.before.before.requires;
-      few = few test.before.before;
-      bytes = codes_size test;
+      shaped = test.requires;
+      few = few test.before.before.before.before;
+      bytes = codes_size test.before.before;
     }
 
 pub check_shaped_spec : {M : Type 1} → statement M
@@ -80,7 +80,7 @@ check_shaped_spec =
     (tie.spec
     (λ c κs. search rules)
     returns
-    (λ c κs. (c.before.before.before.requires, few c))
+    (λ c κs. (c.requires, few c))
     returns_2
     (λ c κs. search rules)
     (λ c. search rules)

@@ -13,20 +13,20 @@ use Rattle.cells.proofs.none_empty.Tie as tie
 few : (c : tie.Start) → c.args.d ≤ max_dimensions
 few c = (shape c.args.d c.args.b c.requires.0).few
 
-places_hold : tie.Need-array-share-prefix-places
-places_hold c = le_trans (few c.before.before.before.before) (le_of_eq (sym c.before.mark-places.auto.1.1.1.1.0))
+places_hold : tie.Need-slice_bounds-places-end
+places_hold c = le_trans (few c.before.before.before.before) (le_of_eq (sym c.mark_places.auto.places))
 
-rise_at_requires : tie.Need-rise-at-requires
+rise_at_requires : tie.Need-rise_at-requires
 rise_at_requires c κs =
-    let start = c.before.before.before.before.before in
+    let start = c in
     let args = start.args in
-    rw c.before.before.mark-places.ensures (places_small args.codes.now args.i (shape args.d args.b start.requires.0))
+    rw c.mark_places.ensures (places_small args.codes.now args.i (shape args.d args.b start.requires.0))
 
 returns : tie.Need-returns
 returns c =
-    let made = c.before.before.before in
-    let args = made.before.before.before.args in
-    rw (made.mark-places.ensures, length_places args.d args.b args.codes.now args.i 0 args.d) at c.rise-at.ensures
+    let made = c in
+    let args = made.args in
+    rw (made.mark_places.ensures, length_places args.d args.b args.codes.now args.i 0 args.d) at c.rise_at.ensures
     ∙ rise_none args.d args.b args.marks.now args.codes.now args.i args.d (le_refl args.d)
 
 pub none_empty_spec : {M : Type 1} → statement M
@@ -34,7 +34,7 @@ none_empty_spec =
     tie.close
     (tie.spec
     (λ c. refl)
-    (λ c κs. (c.before.before.requires.0, c.before.before.requires.1, few c.before.before))
+    (λ c κs. (c.requires.0, c.requires.1, few c.before.before))
     places_hold
     (λ c. sym (length-take-le _ _ (places_hold c.before)))
     rise_at_requires

@@ -15,10 +15,10 @@ use Rattle.cells.specs.CellLaws.{rise_at}
 use Rattle.cells.proofs.rise_at.Statement.{statement}
 use Rattle.cells.proofs.rise_at.Tie as tie
 
-abbrev invariant_loop : tie.invariant_loop
+abbrev invariant_loop : tie.invariant-loop-t
 invariant_loop marks places t₀ t = (t ≤ length places) × (rise_at marks places t ≡ true)
 
-abbrev decreases_loop : tie.decreases_loop
+abbrev decreases_loop : tie.decreases-loop-t
 decreases_loop marks places t₀ t = length places - t
 
 tests : (marks : List ℤ) (places : List ℕ)
@@ -26,34 +26,34 @@ tests : (marks : List ℤ) (places : List ℕ)
 unfolding rise_at
 tests marks places = record { next = λ t. refl }
 
-loop_holds : tie.Need-loop-init invariant_loop decreases_loop
+loop_holds : tie.Need-loop-t-init invariant_loop decreases_loop
 unfolding rise_at
 loop_holds c = (zero-le, refl)
 
-returns : tie.Need-returns invariant_loop decreases_loop
+returns : tie.Need-returns-then-not-is_below invariant_loop decreases_loop
 returns c =
-    let at = c.before.before.before.before in
-    let args = at.before.before.args in
+    let at = c in
+    let args = at.args in
     sym
-    (all_fails (tests args.marks.now args.places.now) (length args.places.now) at.loop.t
-    c.before.before.before.loop-test.true (sym c.before.is_below.ensures
-    ∙ not-true c.before.is_below.result c.if1.true))
+    (all_fails (tests args.marks.now args.places.now) (length args.places.now) at.loop-t.t
+    c.loop-t-test.true (sym c.is_below.ensures
+    ∙ not-true c.is_below.result c.if-not-is_below.true-raw))
 
-loop_again : tie.Need-loop-preserved invariant_loop decreases_loop
+loop_again : tie.Need-loop-t-preserved invariant_loop decreases_loop
 loop_again c =
-    let at = c.before.before.before.before in
-    let args = at.before.before.args in (
+    let at = c in
+    let args = at.args in (
       omega arith,
-      rw (add-one at.loop.t)
-          (all_next (tests args.marks.now args.places.now) at.loop.t at.loop.invariant.1
-          ∙ sym c.before.is_below.ensures ∙ not-false c.before.is_below.result c.if1.false),
+      rw (add-one at.loop-t.t)
+          (all_next (tests args.marks.now args.places.now) at.loop-t.t at.loop-t.invariant.1
+          ∙ sym c.is_below.ensures ∙ not-false c.is_below.result c.if-not-is_below.false-raw),
     )
 
-returns_2 : tie.Need-returns-2 invariant_loop decreases_loop
+returns_2 : tie.Need-returns invariant_loop decreases_loop
 returns_2 c =
-    let args = c.before.before.before.args in
-    let all : c.before.loop.t ≡ length args.places.now = omega arith in
-    sym (ap (rise_at args.marks.now args.places.now) (sym all) ∙ c.before.loop.invariant.1)
+    let args = c.args in
+    let all : c.loop-t.t ≡ length args.places.now = omega arith in
+    sym (ap (rise_at args.marks.now args.places.now) (sym all) ∙ c.loop-t.invariant.1)
 
 pub rise_at_spec : {M : Type 1} → statement M
 rise_at_spec =
@@ -64,7 +64,7 @@ rise_at_spec =
     loop_holds
     (λ c. omega arith)
     (λ c. omega arith)
-    (λ c. omega (arith, c.before.before.before.before.requires.each c.before.before.loop.t))
+    (λ c. omega (arith, c.requires.each c.loop-t.t))
     (λ c κs. search rules)
     returns
     (λ c. omega arith)

@@ -21,7 +21,7 @@ use Rattle.codes.proofs.pack.Tie as tie
 abbrev rows : (c : tie.After-check_sizes) → List Row
 rows c =
     let args = c.args in
-    size_causes args.d args.b args.n (length args.regions.now) (length args.codes-1.now)
+    size_causes args.d args.b args.n (length args.regions.now) (length args.codes.now)
 
 abbrev past : (c : tie.After-check_sizes) → Bool
 past c =
@@ -34,14 +34,14 @@ bytes c =
     packed args.d args.b args.n args.regions.now
 
 -- they are not refused
-right : (c : tie.In-Accepted) → first (rows c) ≡ Accepted
+right : (c : tie.In-Accepted) → first (rows c.before) ≡ Accepted
 right c = sym c.check_sizes.ensures ∙ c.in-Accepted.is
 
 sized : (c : tie.In-Accepted) → let args = c.args in
-    Sizes args.d args.b args.n (length args.regions.now) (length args.codes-1.now)
+    Sizes args.d args.b args.n (length args.regions.now) (length args.codes.now)
 sized c =
     let args = c.args in
-    sizes args.d args.b args.n (length args.regions.now) (length args.codes-1.now) (right c)
+    sizes args.d args.b args.n (length args.regions.now) (length args.codes.now) (right c)
 
 whole : (c : tie.In-Accepted) → let args = c.args in
     Rows args.d (length args.regions.now)
@@ -50,7 +50,7 @@ whole c = record { rows = c.args.n; whole = (sized c).rows }
 returns : tie.Need-returns-then-not-regions_fit
 returns c =
     let told = c in
-    let at = told in
+    let at = told.before.before.before in
     refused_last (rows at) (past at) Code at.args.codes.now (bytes at) (right told.before.before)
     (ap not (sym c.regions_fit.ensures) ∙ c.if-not-regions_fit.true-raw)
 
@@ -72,14 +72,14 @@ unfolding packed
 returns_2 c =
     let put = c in
     let told = put in
-    let at = told in
+    let at = told.before.before.before.before.before.before.before in
     accepted_all (rows at) (past at) Code at.args.codes.now (bytes at) (right told.before.before.before.before.before.before)
     (ap not (sym put.regions_fit.ensures) ∙ put.if-not-regions_fit.false-raw)
     (rw (← (sized told.before.before.before.before.before.before).bytes) put.put_all.ensures)
 
 returns_3 : tie.Need-returns-in-Refused
 returns_3 c =
-    let at = c in
+    let at = c.before in
     let refused : first (rows at) ≡ Refused c.in-Refused.cause =
     rw (← at.check_sizes.ensures) c.in-Refused.is in
     refused_before (rows at) ((past at ⇒ Code) ∷ []) at.args.codes.now (bytes at) refused

@@ -21,7 +21,7 @@ returns c =
     let took = c in
     let even = took.if-b-d-eq0.true in
     let a = took.args in
-    let count = length a.regions-1.now in
+    let count = length a.regions.now in
     sym (take_all count _ (omega (arith, c.regions-1.given))) ∙ rw sub-zero at took.take.ensures
     ∙ sym (split_uniform a.d a.b even 0 count (byte_bits a.codes.now))
 

@@ -62,8 +62,8 @@ module _ {d b : ℕ} {codes regions : List ℕ} {n from i : ℕ} (now : Taking d
 -- a row is there, and no sum is large
 small : (c : tie.In-loop-i invariant_loop decreases_loop) → let a = c.args in
     let at = c.loop-i in
-    let n = length a.regions-1.now in
-    (at.i + a.d ≤ n) × (n ≤ max_vectors * max_dimensions) × (length at.regions-1 ≡ n)
+    let n = length a.regions.now in
+    (at.i + a.d ≤ n) × (n ≤ max_vectors * max_dimensions) × (length at.regions ≡ n)
     × (at.from ≤ max_dimension_bits * at.i) × (a.b ≤ max_dimension_bits * a.d)
     × (a.b % a.d < a.d) × (a.b / a.d ≤ max_dimension_bits) × (a.b % a.d * (a.b / a.d + 1) ≤ a.b)
 small c =

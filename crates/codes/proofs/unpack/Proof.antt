@@ -23,7 +23,7 @@ use Rattle.codes.proofs.unpack.Tie as tie
 abbrev rows : (c : tie.After-check_sizes) → List Row
 rows c =
     let args = c.args in
-    size_causes args.d args.b args.n (length args.regions-1.now) (length args.codes.now)
+    size_causes args.d args.b args.n (length args.regions.now) (length args.codes.now)
 
 abbrev spare_set : (c : tie.After-check_sizes) → Bool
 spare_set c =
@@ -36,14 +36,14 @@ numbers c =
     unpacked args.d args.b args.n args.codes.now
 
 -- they are not refused
-right : (c : tie.In-Accepted) → first (rows c) ≡ Accepted
+right : (c : tie.In-Accepted) → first (rows c.before) ≡ Accepted
 right c = sym c.check_sizes.ensures ∙ c.in-Accepted.is
 
 sized : (c : tie.In-Accepted) → let args = c.args in
-    Sizes args.d args.b args.n (length args.regions-1.now) (length args.codes.now)
+    Sizes args.d args.b args.n (length args.regions.now) (length args.codes.now)
 sized c =
     let args = c.args in
-    sizes args.d args.b args.n (length args.regions-1.now) (length args.codes.now) (right c)
+    sizes args.d args.b args.n (length args.regions.now) (length args.codes.now) (right c)
 
 -- what the spare bits make is 0 if none is set
 spare : (c : tie.After-bits_at) → eqb c.bits_at.result 0
@@ -60,7 +60,7 @@ mul_bits_at c =
 returns : tie.Need-returns-then-bits_at-ne0
 returns c =
     let told = c in
-    let at = told in
+    let at = told.before.before.before in
     refused_last (rows at) (spare_set at) Code at.args.regions.now (numbers at) (right told.before.before)
     (ap not (sym (spare c.before) ∙ ne_eqb c.bits_at.result 0 c.if-bits_at-ne0.true))
 
@@ -76,7 +76,7 @@ unfolding unpacked
 returns_2 c =
     let took = c in
     let told = took in
-    let at = told in
+    let at = told.before.before.before.before.before.before.before in
     accepted_all (rows at) (spare_set at) Code at.args.regions.now (numbers at) (right told.before.before.before.before.before.before)
     (ap not (sym (spare took.before.before.before.before.before)
     ∙ eq-eqb took.bits_at.result 0 took.if-bits_at-ne0.false))
@@ -84,7 +84,7 @@ returns_2 c =
 
 returns_3 : tie.Need-returns-in-Refused
 returns_3 c =
-    let at = c in
+    let at = c.before in
     let refused : first (rows at) ≡ Refused c.in-Refused.cause =
     rw (← at.check_sizes.ensures) c.in-Refused.is in
     refused_before (rows at) ((spare_set at ⇒ Code) ∷ []) at.args.regions.now (numbers at) refused

@@ -17,10 +17,10 @@ record Filling (keys numbers : List ℕ) (count : ℕ) (entries : List Entry) (i
   within : i ≤ count
   are : entries ≡ in_array (take i (entries_of (pairs_of keys numbers)))
 
-abbrev invariant_loop : tie.invariant_loop
+abbrev invariant_loop : tie.invariant-loop-i
 invariant_loop keys numbers count entries₀ i₀ entries i = Filling keys numbers count entries i
 
-abbrev decreases_loop : tie.decreases_loop
+abbrev decreases_loop : tie.decreases-loop-i
 decreases_loop keys numbers count entries₀ i₀ entries i = count - i
 
 module _ {keys numbers : List ℕ} {count : ℕ} {entries : List Entry} {i : ℕ} (at : Filling keys numbers count entries i)
@@ -41,13 +41,13 @@ module _ {keys numbers : List ℕ} {count : ℕ} {entries : List Entry} {i : ℕ
   done : count ≤ i → entries ≡ in_array (entries_of (pairs_of keys numbers))
   done past = at.are ∙ array_all (entries_of (pairs_of keys numbers)) i (omega (arith, counted, long, at.within))
 
-loop_holds : tie.Need-loop-init invariant_loop decreases_loop
-loop_holds c = record { within = omega arith; are = c.no-entries.ensures }
+loop_holds : tie.Need-loop-i-init invariant_loop decreases_loop
+loop_holds c = record { within = omega arith; are = c.no_entries-entries.ensures }
 
 -- how many entries there are to store
-counted : (c : tie.After-entry-count invariant_loop decreases_loop) → let a = c.before.before.before.args in
-    c.entry-count.result ≡ min (min (length a.keys.now) (length a.numbers.now)) max_neighbours
-counted c = c.entry-count.ensures
+counted : (c : tie.After-entry_count-count invariant_loop decreases_loop) → let a = c.args in
+    c.entry_count-count.result ≡ min (min (length a.keys.now) (length a.numbers.now)) max_neighbours
+counted c = c.entry_count-count.ensures
 
 pub entries_of_spec : {M : Type 1} → statement M
 entries_of_spec =
@@ -66,5 +66,5 @@ entries_of_spec =
     (λ c. omega (arith, counted c.before.before.before.before.before))
     (λ c. omega arith)
     (λ c. omega arith)
-    (λ c. turn c.before.before.before.loop.invariant (counted c.before.before.before.before.before) (omega arith))
-    (λ c. done c.before.loop.invariant (counted c.before.before.before) (omega arith)))
+    (λ c. turn c.loop-i.invariant (counted c.before.before.before.before.before) (omega arith))
+    (λ c. done c.loop-i.invariant (counted c.before.before.before) (omega arith)))

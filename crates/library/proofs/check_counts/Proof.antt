@@ -13,28 +13,28 @@ use Rattle.library.proofs.check_counts.Statement.{statement}
 use Rattle.library.proofs.check_counts.Tie as tie
 
 -- behind a shape that passes, the count is what is left to test
-shape_passes : (c : tie.After-is-vector-count) → let args = c.before.before.before.before.args in
+shape_passes : (c : tie.After-is_vector_count) → let args = c.args in
     first (shape_causes args.d args.b) ≡ Accepted
-shape_passes c = sym c.before.before.before.check-shape.ensures ∙ c.before.enum_told.given.1
+shape_passes c = sym c.check_shape.ensures ∙ c.in-Accepted.is
 
-returns : tie.Need-returns
+returns : tie.Need-returns-then-not-is_vector_count
 unfolding first
 returns c =
-    let args = c.before.before.before.before.before.args in
+    let args = c.args in
     sym (go_on (shape_causes args.d args.b) ((not (is_vector_count args.n) ⇒ Count) ∷ []) (shape_passes c.before)
-    ∙ rw (← c.before.is-vector-count.ensures, c.if1.true))
+    ∙ rw (← c.is_vector_count.ensures, c.if-not-is_vector_count.true-raw))
 
-returns_2 : tie.Need-returns-2
+returns_2 : tie.Need-returns-else-not-is_vector_count
 unfolding first
 returns_2 c =
-    let args = c.before.before.before.before.before.args in
+    let args = c.args in
     sym (go_on (shape_causes args.d args.b) ((not (is_vector_count args.n) ⇒ Count) ∷ []) (shape_passes c.before)
-    ∙ rw (← c.before.is-vector-count.ensures, c.if1.false))
+    ∙ rw (← c.is_vector_count.ensures, c.if-not-is_vector_count.false-raw))
 
-returns_3 : tie.Need-returns-3
+returns_3 : tie.Need-returns-in-Refused
 returns_3 c =
-    let args = c.before.before.before.before.args in
-    sym (stop (shape_causes args.d args.b) _ (sym c.before.before.before.check-shape.ensures ∙ c.before.cause.given.1))
+    let args = c.args in
+    sym (stop (shape_causes args.d args.b) _ (sym c.check_shape.ensures ∙ c.in-Refused.is))
 
 pub check_counts_spec : {M : Type 1} → statement M
 check_counts_spec =

@@ -12,44 +12,44 @@ use Rattle.library.specs.Sizes.{Small, small, vector_place_lem, library_length_l
 use Rattle.library.proofs.library_length.Statement.{statement}
 use Rattle.library.proofs.library_length.Tie as tie
 
-module _ (c : tie.After-enum-told) where
+module _ (c : tie.In-Accepted) where
   abbrev start : tie.Start
-  start = c.before.before.before
+  start = c.before.before
 
   passes : first (counts_causes start.args.d start.args.b start.args.n) ≡ Accepted
-  passes = sym c.before.before.check-counts.ensures ∙ c.enum_told.given.1
+  passes = sym c.check_counts.ensures ∙ c.in-Accepted.is
 
   counts : Small start.args.d start.args.b start.args.n
   counts = small _ _ _ passes
 
 -- the marks' number
-module _ (c : tie.After-marks-length) where
-  count_is : c.marks-length.result ≡ mark_total (start c.before).args.d (start c.before).args.b
-  count_is = c.marks-length.ensures ∙ marks_length_is _ _ (counts c.before).shape_passes
+module _ (c : tie.After-marks_length) where
+  count_is : c.marks_length.result ≡ mark_total (start c.before).args.d (start c.before).args.b
+  count_is = c.marks_length.ensures ∙ marks_length_is _ _ (counts c.before).shape_passes
 
-  count_few : c.marks-length.result ≤ 2080
+  count_few : c.marks_length.result ≤ 2080
   count_few = rw count_is (marks_few _ _ (shape _ _ (counts c.before).shape_passes))
 
-add_result : tie.Need-overflow-add-result
+add_result : tie.Need-overflow_add-result
 add_result c =
     let marks = c.before in
     let n = (start marks.before).args.n in
-    omega (arith, c.vector_place.ensures, vector_place_lem marks.marks-length.result n, count_few marks, (counts marks.before).few)
+    omega (arith, c.vector_place.ensures, vector_place_lem marks.marks_length.result n, count_few marks, (counts marks.before).few)
 
-returns : tie.Need-returns
+returns : tie.Need-returns-in-Accepted
 returns c =
     let marks = c.before in
     let args = (start marks.before).args in
     rw (
       c.vector_place.ensures,
-      vector_place_lem marks.marks-length.result args.n,
+      vector_place_lem marks.marks_length.result args.n,
       count_is marks,
       outcome_accepted _ _ (passes marks.before),
       library_length_lem args.d args.b args.n,
     )
 
-returns_2 : tie.Need-returns-2
-returns_2 c = sym (outcome_refused _ _ (sym c.before.before.check-counts.ensures ∙ c.enum-told2.given.1))
+returns_2 : tie.Need-returns-in-Refused
+returns_2 c = sym (outcome_refused _ _ (sym c.check_counts.ensures ∙ c.in-Refused.is))
 
 pub library_length_spec : {M : Type 1} → statement M
 library_length_spec =

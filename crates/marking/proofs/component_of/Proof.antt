@@ -26,13 +26,13 @@ module _ (key : ℕ) (of : ComponentKey key) where
   back : to_z w64 (of_z w64 (to_z w64 key -ℤ pos (2 ^ 31))) ≡ whole_of key
   back = to_z-of_z w64 (to_z w64 key -ℤ pos (2 ^ 31)) difference_fits ∙ difference
 
-cast_result : tie.Need-overflow-cast-result
+cast_result : tie.Need-overflow_cast-result
 cast_result c = record { sfits = omega (arith, (key_between c.requires).below) }
 
-sub_result : tie.Need-overflow-sub-result
+sub_result : tie.Need-overflow_sub-result
 sub_result c = difference_fits c.args.key c.requires
 
-cast_result_2 : tie.Need-overflow-cast-result-2
+cast_result_2 : tie.Need-overflow_cast-result-2
 cast_result_2 c = subst⁻¹ (SFits w32) (back c.args.key c.requires) (small c.args.key c.requires)
 
 returns : tie.Need-returns

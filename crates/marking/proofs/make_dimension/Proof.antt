@@ -40,34 +40,34 @@ module _ {d n t w room : ℕ} {vectors : List ℤ} (given : MarksOf d n t w vect
         is ∙ ap (λ (l : List ℤ). l ++ rest) (ap₂ (λ (m : ℕ) (l : List ℤ). made_dimension m w l) count ordered)
 
 -- what came back from the sort: the column's keys in order, as many as were handed in
-ordered : (c : tie.After-sort) → let a = c.before.before.before.before.before.before.before.before.before.args in
-    c.sort.new.0 ≡ wordsInOrder (map key_of (column a.d (length a.keys.now) a.vectors.now a.t))
+ordered : (c : tie.After-sort) → let a = c.args in
+    c.sort.new.words ≡ wordsInOrder (map key_of (column a.d (length a.keys.now) a.vectors.now a.t))
 ordered c =
-    let filled = c.before.before.before.before.before in
-    let pre = filled.before.before.before.before.requires in
-    sorted pre.0 filled.column-keys.ensures (omega (arith, filled.column-keys.auto.1.1.1.0, pre.1)) c.sort.ensures.1.0
+    let filled = c in
+    let pre = filled.requires in
+    sorted pre.0 filled.column_keys.ensures (omega (arith, filled.column_keys.auto.keys, pre.1)) c.sort.ensures.1.0
 
-kept : (c : tie.After-sort) → length c.sort.new.0 ≡ length c.before.before.before.before.before.before.before.before.before.args.keys.now
-kept c = c.sort.auto.0 ∙ c.before.before.before.before.before.column-keys.auto.1.1.1.0
+kept : (c : tie.After-sort) → length c.sort.new.words ≡ length c.args.keys.now
+kept c = c.sort.auto.words ∙ c.column_keys.auto.keys
 
-write_marks_requires : tie.Need-write-marks-requires
+write_marks_requires : tie.Need-write_marks-requires
 write_marks_requires c κs =
-    let back = c.before.before.before.before.before.before in
-    asked back.before.before.before.before.before.before.before.before.before.requires.0 (kept back) (ordered back)
+    let back = c in
+    asked back.requires.0 (kept back.before.before.before.before.before) (ordered back.before.before.before.before.before)
 
 returns : tie.Need-returns
 returns c =
-    let back = c.before.before.before.before.before.before.before.before in
-    made back.before.before.before.before.before.before.before.before.before.requires.0 (kept back) (ordered back) _ c.before.write-marks.ensures
+    let back = c in
+    made back.requires.0 (kept back.before.before.before.before.before.before.before) (ordered back.before.before.before.before.before.before.before) _ c.write_marks.ensures
 
 pub make_dimension_spec : {M : Type 1} → statement M
 make_dimension_spec =
     tie.close
     (tie.spec
-    (λ c κs. c.before.before.before.requires.0.of_column)
+    (λ c κs. c.requires.0.of_column)
     (λ c κs. search rules)
     write_marks_requires
-    (λ c. kept c.before.before.before.before.before.before.before.before)
-    (λ c. c.before.before.before.before.before.before.before.before.sort.auto.1.0)
+    (λ c. kept c.before.before.before.before.before.before.before)
+    (λ c. c.sort.auto.spare)
     (λ c. search rules)
     returns)

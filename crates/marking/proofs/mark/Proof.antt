@@ -26,56 +26,56 @@ product w i n few below count =
     omega arith
 
 -- an inner mark's number is below that of the regions, and its place is one of the keys'
-among : (c : tie.Then2) → let a = c.before.before.before.args in a.i < 2 ^ a.w
+among : (c : tie.Then-i-regions) → let a = c.args in a.i < 2 ^ a.w
 among c =
-    let start = c.before.before.before in
-    omega (arith, c.if2.true, shifted start.args.w start.requires.0.bits)
+    let start = c in
+    omega (arith, c.if-i-regions.true, shifted start.args.w start.requires.0.bits)
 
-in_keys : (c : tie.Then2) → let a = c.before.before.before.args in a.i * length a.keys.now / 2 ^ a.w < length a.keys.now
+in_keys : (c : tie.Then-i-regions) → let a = c.args in a.i * length a.keys.now / 2 ^ a.w < length a.keys.now
 in_keys c =
-    let start = c.before.before.before in
+    let start = c in
     place_below start.args.i (length start.args.keys.now) start.args.w (among c) start.requires.0.some
 
-mul_component_of : tie.Need-overflow-mul-component-of
+mul_component_of : tie.Need-overflow_mul-i
 mul_component_of c =
-    let start = c.before.before.before in
+    let start = c in
     let a = start.args in
     record { fits = product a.w a.i (length a.keys.now) start.requires.0.bits (among c) start.requires.0.few }
 
 -- the first mark, an inner one, the last
-returns : tie.Need-returns
+returns : tie.Need-returns-then-i-lt1
 returns c =
-    let a = c.before.before.args in
-    let is : a.i ≡ 0 = omega (arith, c.if1.true) in
+    let a = c.args in
+    let is : a.i ≡ 0 = omega (arith, c.if-i-lt1.true) in
     rw is (sym (mark_first scale_ends (length a.keys.now) a.w _))
 
-returns_2 : tie.Need-returns-2
+returns_2 : tie.Need-returns-then-i-regions
 returns_2 c =
-    let taken = c.before.before in
-    let a = taken.before.before.before.args in
+    let taken = c in
+    let a = taken.args in
     let keys = a.keys.now in
-    to_z-of_z w32 _ (record { sfits = c.component-of.type-inv })
-    ∙ c.component-of.ensures
-    ∙ sym (map_at whole_of keys (a.i * length keys / 2 ^ a.w) 0 (pos 0) (in_keys taken))
-    ∙ sym (mark_inner scale_ends (length keys) a.w _ a.i (omega (arith, taken.before.if1.false)) (among taken))
+    to_z-of_z w32 _ (record { sfits = c.component_of.type_inv })
+    ∙ c.component_of.ensures
+    ∙ sym (map_at whole_of keys (a.i * length keys / 2 ^ a.w) 0 (pos 0) (in_keys taken.before.before))
+    ∙ sym (mark_inner scale_ends (length keys) a.w _ a.i (omega (arith, taken.if-i-lt1.false)) (among taken.before.before))
 
-returns_3 : tie.Need-returns-3
+returns_3 : tie.Need-returns
 returns_3 c =
-    let start = c.before.before.before in
+    let start = c in
     let a = start.args in
     sym (mark_last scale_ends (length a.keys.now) a.w _ a.i
-    (omega (arith, c.if2.false, shifted a.w start.requires.0.bits)))
+    (omega (arith, c.if-i-regions.false, shifted a.w start.requires.0.bits)))
 
 pub mark_spec : {M : Type 1} → statement M
 mark_spec =
     tie.close
     (tie.spec
-    (λ c. omega (arith, c.before.requires.0.bits))
+    (λ c. omega (arith, c.requires.0.bits))
     returns
     mul_component_of
-    (λ c. omega (arith, c.before.before.before.requires.0.bits))
-    (λ c. omega (arith, in_keys c, c.before.before.before.requires.0.few))
+    (λ c. omega (arith, c.requires.0.bits))
+    (λ c. omega (arith, in_keys c, c.requires.0.few))
     (λ c. in_keys c.before)
-    (λ c κs. c.before.before.before.before.requires.1 _ (in_keys c.before))
+    (λ c κs. c.requires.1 _ (in_keys c.before))
     returns_2
     returns_3)

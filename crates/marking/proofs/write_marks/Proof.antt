@@ -27,10 +27,10 @@ record Filling (w : ℕ) (keys : List ℕ) (old : List ℤ) (regions : ℕ) (par
   so_far : take i part ≡ take i (whole w keys)
   rest : drop (2 ^ w + 1) part ≡ drop (2 ^ w + 1) old
 
-abbrev invariant_loop : tie.invariant_loop
+abbrev invariant_loop : tie.invariant-loop-i
 invariant_loop w keys part₀ regions i₀ part i = Filling w keys part₀ regions part i
 
-abbrev decreases_loop : tie.decreases_loop
+abbrev decreases_loop : tie.decreases-loop-i
 decreases_loop w keys part₀ regions i₀ part i = regions + 1 - i
 
 module _ {w : ℕ} {keys : List ℕ} {old : List ℤ} {regions : ℕ} {part : List ℤ} {i : ℕ} (fits : 2 ^ w + 1 ≤ length old)
@@ -58,18 +58,18 @@ module _ {w : ℕ} {keys : List ℕ} {old : List ℤ} {regions : ℕ} {part : Li
       let front = rw all at at.so_far ∙ take_all (2 ^ w + 1) (whole w keys) (omega (arith, count_made)) in
       sym (take-append-drop (2 ^ w + 1) part) ∙ ap₂ ◌++◌ front at.rest
 
-loop_holds : tie.Need-loop-init invariant_loop decreases_loop
+loop_holds : tie.Need-loop-i-init invariant_loop decreases_loop
 loop_holds c =
-    record { count = shifted c.before.args.w c.before.requires.0.bits; among = omega arith; same = refl; so_far = refl; rest = refl }
+    record { count = shifted c.args.w c.requires.0.bits; among = omega arith; same = refl; so_far = refl; rest = refl }
 
-loop_again : tie.Need-loop-preserved invariant_loop decreases_loop
+loop_again : tie.Need-loop-i-preserved invariant_loop decreases_loop
 loop_again c =
-    let at = c.before.before in
-    turn at.before.before.requires.1 at.loop.invariant c.before.loop-test.true _
-    (to_z-of_z w32 _ (record { sfits = c.mark.type-inv }) ∙ c.mark.ensures)
+    let at = c in
+    turn at.requires.1 at.loop-i.invariant c.loop-i-test.true _
+    (to_z-of_z w32 _ (record { sfits = c.mark.type_inv }) ∙ c.mark.ensures)
 
 returns : tie.Need-returns invariant_loop decreases_loop
-returns c = end c.before.before.before.requires.1 c.before.loop.invariant c.loop-test.false
+returns c = end c.requires.1 c.loop-i.invariant c.loop-i-test.false
 
 pub write_marks_spec : {M : Type 1} → statement M
 write_marks_spec =
@@ -77,13 +77,13 @@ write_marks_spec =
     (tie.spec
     invariant_loop
     decreases_loop
-    (λ c. omega (arith, c.before.requires.0.bits))
+    (λ c. omega (arith, c.requires.0.bits))
     loop_holds
-    (λ c κs. (c.before.before.before.requires.0, c.before.before.before.requires.2))
-    (λ c. omega (arith, c.before.before.before.before.requires.1))
-    (λ c. omega (arith, c.before.before.before.before.requires.1))
+    (λ c κs. (c.requires.0, c.requires.2))
+    (λ c. omega (arith, c.requires.1))
+    (λ c. omega (arith, c.requires.1))
     (λ c. omega arith)
     (λ c. omega arith)
     loop_again
-    (λ c. c.before.loop.invariant.same)
+    (λ c. c.loop-i.invariant.same)
     returns)

@@ -4,13 +4,13 @@ use Rattle.refusal.specs.First.{first}
 use Rattle.partition.proofs.check_part.Statement.{statement}
 use Rattle.partition.proofs.check_part.Tie as tie
 
-returns : tie.Need-returns
+returns : tie.Need-returns-then-not-is_between
 unfolding first
-returns c = rw (← c.before.is-between.ensures, c.if1.true)
+returns c = rw (← c.is_between.ensures, c.if-not-is_between.true-raw)
 
-returns_2 : tie.Need-returns-2
+returns_2 : tie.Need-returns
 unfolding first
-returns_2 c = rw (← c.before.before.is-between.ensures, c.before.if1.false) c.check-marks.ensures
+returns_2 c = rw (← c.is_between.ensures, c.if-not-is_between.false-raw) c.check_marks.ensures
 
 pub check_part_spec : {M : Type 1} → statement M
 check_part_spec = tie.close (tie.spec (λ c κs. search rules) returns (λ c κs. search rules) returns_2)

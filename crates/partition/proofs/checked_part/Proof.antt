@@ -8,8 +8,8 @@ use Rattle.partition.proofs.checked_part.Tie as tie
 
 part_requires : tie.Need-part-requires
 part_requires c κs =
-    let args = c.before.before.before.args in
-    part_accepted args.d args.b args.j args.marks.now (sym c.before.before.check-part.ensures ∙ c.enum_told.given.1)
+    let args = c.args in
+    part_accepted args.d args.b args.j args.marks.now (sym c.check_part.ensures ∙ c.in-Accepted.is)
 
 pub checked_part_spec : {M : Type 1} → statement M
 checked_part_spec =
@@ -23,5 +23,5 @@ checked_part_spec =
     (λ c. search rules)
     (λ c. search rules)
     (λ c. c.part.ensures
-    ∙ sym (outcome_accepted _ _ (sym c.before.before.before.check-part.ensures ∙ c.before.enum_told.given.1)))
-    (λ c. sym (outcome_refused _ _ (sym c.before.before.before.check-part.ensures ∙ c.before.enum-told2.given.1))))
+    ∙ sym (outcome_accepted _ _ (sym c.check_part.ensures ∙ c.in-Accepted.is)))
+    (λ c. sym (outcome_refused _ _ (sym c.check_part.ensures ∙ c.in-Refused.is))))

@@ -14,12 +14,12 @@ use Rattle.partition.proofs.fits_at.Statement.{statement}
 use Rattle.partition.proofs.fits_at.Tie as tie
 
 -- The code's shift gives the number of regions.
-power : (c : tie.Else1) → 1 * 2 ^ c.before.args.bits % 2 ^ 64 ≡ 2 ^ c.before.args.bits
-power c = shifted c.before.args.bits c.if1.false
+power : (c : tie.Else-bits-gt-MAX_DIMENSION_BITS) → 1 * 2 ^ c.args.bits % 2 ^ 64 ≡ 2 ^ c.args.bits
+power c = shifted c.args.bits c.if-bits-gt-MAX_DIMENSION_BITS.false
 
-add_count : tie.Need-overflow-add-count
+add_count : tie.Need-overflow_add-count
 add_count c =
-    let most : 2 ^ c.before.args.bits ≤ 2 ^ max_dimension_bits = pow_mono c.if1.false in
+    let most : 2 ^ c.args.bits ≤ 2 ^ max_dimension_bits = pow_mono c.if-bits-gt-MAX_DIMENSION_BITS.false in
     omega (arith, power c)
 
 -- The marks fit from an offset on if they fit behind it.
@@ -30,25 +30,25 @@ fits size offset w few room = rw (le-leb w max_dimension_bits few) (go (leb offs
     go true e = sym (le-leb (offset + (2 ^ w + 1)) size (omega (arith, leb-true offset (size - (2 ^ w + 1)) e)))
     go false e = sym (lt-leb (offset + (2 ^ w + 1)) size (omega (arith, leb-false offset (size - (2 ^ w + 1)) e)))
 
-returns_2 : tie.Need-returns-2
+returns_2 : tie.Need-returns-then-length-count
 returns_2 c =
-    let args = c.before.before.args in
+    let args = c.args in
     rw (
-      le-leb args.bits max_dimension_bits c.before.if1.false,
-      lt-leb (args.offset + (2 ^ args.bits + 1)) args.length (omega (arith, power c.before, c.if2.true)),
+      le-leb args.bits max_dimension_bits c.if-bits-gt-MAX_DIMENSION_BITS.false,
+      lt-leb (args.offset + (2 ^ args.bits + 1)) args.length (omega (arith, power c.before, c.if-length-count.true)),
     )
 
-returns_3 : tie.Need-returns-3
+returns_3 : tie.Need-returns
 returns_3 c =
-    let args = c.before.before.args in
+    let args = c.args in
     rw (power c.before)
-    (fits args.length args.offset args.bits c.before.if1.false (omega (arith, power c.before, c.if2.false)))
+    (fits args.length args.offset args.bits c.if-bits-gt-MAX_DIMENSION_BITS.false (omega (arith, power c.before, c.if-length-count.false)))
 
 pub fits_at_spec : {M : Type 1} → statement M
 fits_at_spec =
     tie.close
     (tie.spec
-    (λ c. rw (lt-leb c.before.args.bits max_dimension_bits c.if1.true))
+    (λ c. rw (lt-leb c.args.bits max_dimension_bits c.if-bits-gt-MAX_DIMENSION_BITS.true))
     (λ c. search rules)
     add_count
     returns_2

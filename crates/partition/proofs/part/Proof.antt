@@ -7,10 +7,10 @@ use Rattle.partition.proofs.part.Tie as tie
 
 returns : tie.Need-returns
 returns c =
-    let start = c.before.before in
+    let start = c in
     let args = start.args in
     c.part_at.ensures ∙ stretch_marks args.d args.b args.j args.marks.now start.requires.0 start.requires.1
-    c.before.stretch-of.ensures
+    c.stretch_of-stretch.ensures
 
 pub part_spec : {M : Type 1} → statement M
 part_spec = tie.close (tie.spec (λ c κs. search rules) (λ c κs. search rules) returns)

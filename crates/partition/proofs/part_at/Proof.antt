@@ -27,11 +27,11 @@ fits size offset w holds =
     let few = leb-true w max_dimension_bits tests.0 in
     record { few = few; within = leb-true (offset + (2 ^ w + 1)) size tests.1; power = shifted w few }
 
-fitted : (c : tie.Else1) → let args = c.before.before.args in Fits (length args.marks.now) args.offset args.bits
+fitted : (c : tie.Else-not-fits_at) → let args = c.args in Fits (length args.marks.now) args.offset args.bits
 fitted c =
-    let args = c.before.before.args in
+    let args = c.args in
     fits (length args.marks.now) args.offset args.bits
-    (sym c.before.fits-at.ensures ∙ not-false c.before.fits-at.result c.if1.false)
+    (sym c.fits_at.ensures ∙ not-false c.fits_at.result c.if-not-fits_at.false-raw)
 
 -- The part up to the code's end is the part of so many marks.
 cut : (marks : List ℤ) (offset w : ℕ) → Fits (length marks) offset w
@@ -40,14 +40,14 @@ cut marks offset w is =
     let count : offset + 2 ^ w + 1 - offset ≡ 2 ^ w + 1 = omega arith in
     rw (is.power, count) (sym (marks_at_lem marks offset w is.few is.within))
 
-returns : tie.Need-returns
+returns : tie.Need-returns-then-not-fits_at
 returns c =
-    let test = c.before.before in
-    rw (sym test.fits-at.ensures ∙ not-true test.fits-at.result c.before.if1.true)
+    let test = c in
+    rw (sym test.fits_at.ensures ∙ not-true test.fits_at.result c.if-not-fits_at.true-raw)
 
-returns_2 : tie.Need-returns-2
+returns_2 : tie.Need-returns
 returns_2 c =
-    let args = c.before.before.before.args in
+    let args = c.args in
     cut args.marks.now args.offset args.bits (fitted c.before)
 
 pub part_at_spec : {M : Type 1} → statement M
@@ -60,9 +60,9 @@ part_at_spec =
     (λ c. search rules)
     returns
     (λ c. omega (arith, (fitted c).few))
-    (λ c. omega (arith, (fitted c).power, (fitted c).within, c.before.before.well-formed))
-    (λ c. omega (arith, (fitted c).power, (fitted c).within, c.before.before.well-formed))
-    (λ c. omega (arith, (fitted c).power, (fitted c).within, c.before.before.well-formed))
+    (λ c. omega (arith, (fitted c).power, (fitted c).within, c.well_formed))
+    (λ c. omega (arith, (fitted c).power, (fitted c).within, c.well_formed))
+    (λ c. omega (arith, (fitted c).power, (fitted c).within, c.well_formed))
     (λ c. omega (arith, (fitted c).power))
     (λ c. omega (arith, (fitted c).power))
     (λ c. omega (arith, (fitted c).power, (fitted c).within))

@@ -8,7 +8,7 @@ returns_8 : tie.Need-returns-in_default
 unfolding record_length sum widths_of widths_among formats
 returns_8 c =
     let kind = c.args.kind in
-    let none = c.match.rest in
+    let none = c.in_default.in_default-own.rest in
     rw (
       ne_eqb kind 1 none.0.0.0.0.0.0.1,
       ne_eqb kind 2 none.0.0.0.0.0.1,

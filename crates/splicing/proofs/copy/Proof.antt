@@ -10,10 +10,10 @@ use lib.Seq.{paste-suc}
 use Rattle.splicing.proofs.copy.Statement.{statement}
 use Rattle.splicing.proofs.copy.Tie as tie
 
-abbrev invariant_loop : tie.invariant_loop
+abbrev invariant_loop : tie.invariant-loop-i
 invariant_loop front count out₀ i₀ out i = (i ≤ count) × (length out ≡ length out₀) × (out ≡ take i front ++ drop i out₀)
 
-abbrev decreases_loop : tie.decreases_loop
+abbrev decreases_loop : tie.decreases-loop-i
 decreases_loop front count out₀ i₀ out i = count - i
 
 copies : (front out : List ℕ) (i : ℕ) → i < length front → i < length out
@@ -21,22 +21,22 @@ copies : (front out : List ℕ) (i : ℕ) → i < length front → i < length ou
 copies front out i has room =
     rw (add-one i) (rw (zero-add i, zero-add (suc i)) at (paste-suc out 0 front i 0 (rw (zero-add i) room) has))
 
-loop_again : tie.Need-loop-preserved invariant_loop decreases_loop
+loop_again : tie.Need-loop-i-preserved invariant_loop decreases_loop
 loop_again c =
-    let at = c.before.before in
-    let args = at.before.args in
-    let inv = at.loop.invariant in (
+    let at = c in
+    let args = at.args in
+    let inv = at.loop-i.invariant in (
       omega arith,
       simp length-set inv.1,
       rw inv.2
-          (copies args.front.now args.out.now at.loop.i (omega (arith, at.before.requires.0))
-          (omega (arith, at.before.requires.1))),
+          (copies args.front.now args.out.now at.loop-i.i (omega (arith, at.requires.0))
+          (omega (arith, at.requires.1))),
     )
 
 done : tie.Need-returns invariant_loop decreases_loop
 done c =
-    let all : c.before.loop.i ≡ c.before.before.args.count = omega (arith, c.before.loop.invariant.0) in
-    rw all at c.before.loop.invariant.2
+    let all : c.loop-i.i ≡ c.args.count = omega (arith, c.loop-i.invariant.0) in
+    rw all at c.loop-i.invariant.2
 
 pub copy_spec : {M : Type 1} → statement M
 copy_spec =
@@ -45,10 +45,10 @@ copy_spec =
     invariant_loop
     decreases_loop
     (λ c. (omega arith, refl, refl))
-    (λ c. omega (arith, c.before.before.before.requires.0))
-    (λ c. omega (arith, c.before.before.loop.invariant.1, c.before.before.before.requires.1))
+    (λ c. omega (arith, c.requires.0))
+    (λ c. omega (arith, c.loop-i.invariant.1, c.requires.1))
     (λ c. omega arith)
     (λ c. omega arith)
     loop_again
-    (λ c. c.before.loop.invariant.1)
+    (λ c. c.loop-i.invariant.1)
     done)

@@ -11,34 +11,34 @@ use Rattle.splicing.proofs.seam.Statement.{statement}
 use Rattle.splicing.proofs.seam.Tie as tie
 
 -- The first bits are fewer than 8, and shifted up they leave room for the others.
-abbrev upper : tie.After-bits-at2 → ℕ
+abbrev upper : tie.After-bits_at-2 → ℕ
 upper c =
-    let args = c.before.before.before.before.args in
+    let args = c.args in
     from_bits args.used (drop (args.whole * 8) (byte_bits args.front.now))
 
-upper_is : (c : tie.After-bits-at2) → c.before.bits_at.result ≡ upper c
+upper_is : (c : tie.After-bits_at-2) → c.bits_at.result ≡ upper c
 upper_is c =
-    let start = c.before.before.before.before in
+    let start = c in
     let args = start.args in
-    c.before.bits_at.ensures ∙ bits_at_lem args.front.now (args.whole * 8) args.used (omega (arith, start.requires.1))
+    c.bits_at.ensures ∙ bits_at_lem args.front.now (args.whole * 8) args.used (omega (arith, start.requires.1))
 
-lower_is : (c : tie.After-bits-at2) → let args = c.before.before.before.before.args in
-    c.bits-at2.result ≡ from_bits (8 - args.used) (drop args.q (byte_bits args.back.now))
+lower_is : (c : tie.After-bits_at-2) → let args = c.args in
+    c.bits_at-2.result ≡ from_bits (8 - args.used) (drop args.q (byte_bits args.back.now))
 lower_is c =
-    let args = c.before.before.before.before.args in
-    c.bits-at2.ensures ∙ bits_at_lem args.back.now args.q (8 - args.used) (omega arith)
+    let args = c.args in
+    c.bits_at-2.ensures ∙ bits_at_lem args.back.now args.q (8 - args.used) (omega arith)
 
-shifted : (c : tie.After-bits-at2) → let used = c.before.before.before.before.args.used in
+shifted : (c : tie.After-bits_at-2) → let used = c.args.used in
     upper c * 2 ^ (8 - used) % 2 ^ 64 ≡ upper c * 2 ^ (8 - used)
 shifted c =
-    let start = c.before.before.before.before in
+    let start = c in
     shl_exact start.args.used (8 - start.args.used) 64
     (from_lt start.args.used (binary_drop (start.args.whole * 8) (binary_bytes start.args.front.now)))
     (omega (arith, start.requires.1))
 
-add_result : tie.Need-overflow-add-result
+add_result : tie.Need-overflow_add-result
 add_result c =
-    let start = c.before.before.before.before in
+    let start = c in
     let used = start.args.used in
     let eight : used + (8 - used) ≡ 8 = omega (arith, start.requires.1) in
     let high = rw eight at (shl_lt used (8 - used)

@@ -21,10 +21,10 @@ record Shifting (back : List ℕ) (first bit at : ℕ) (out₀ out : List ℕ) (
   so_far : take o out ++ bytes_of (length out₀ - o) (drop (i * 8 + bit) (byte_bits back))
       ≡ take at out₀ ++ bytes_of (length out₀ - at) (drop (first * 8 + bit) (byte_bits back))
 
-abbrev invariant_loop : tie.invariant_loop
+abbrev invariant_loop : tie.invariant-loop-o
 invariant_loop back first bit at out₀ high₀ i₀ o₀ out high i o = Shifting back first bit at out₀ out high i o
 
-abbrev decreases_loop : tie.decreases_loop
+abbrev decreases_loop : tie.decreases-loop-o
 decreases_loop back first bit at out₀ high₀ i₀ o₀ out high i o = length out₀ - o
 
 module _ {back : List ℕ} {first bit at : ℕ} {out₀ out : List ℕ} {high i o : ℕ} (now : Shifting back first bit at out₀ out high i o) where
@@ -53,24 +53,24 @@ module _ {back : List ℕ} {first bit at : ℕ} {out₀ out : List ℕ} {high i 
       written_all out o _ (omega (arith, now.room)) (rw none at now.so_far)
 
 -- The slice's numbers are bytes.
-small : (c : tie.At-loop invariant_loop decreases_loop) → Bytes c.before.before.before.before.args.back.now
-small c i = omega (arith, c.before.before.before.shared-slice-known.given i)
+small : (c : tie.At-loop-o invariant_loop decreases_loop) → Bytes c.args.back.now
+small c i = omega (arith, c.shared_slice_known-1.given i)
 
-loop_again : tie.Need-loop-preserved invariant_loop decreases_loop
+loop_again : tie.Need-loop-o-preserved invariant_loop decreases_loop
 loop_again c =
-    let at = c.before.before.before in
+    let at = c in
     rw c.middle.ensures
-    (shifts at.loop.invariant (small at) at.before.before.before.before.requires.1
-    (omega (arith, c.before.before.loop-test.true, at.loop.invariant.room))
-    c.before.byte-at2.ensures)
+    (shifts at.loop-o.invariant (small at.before.before.before) at.requires.1
+    (omega (arith, c.loop-o-test.true, at.loop-o.invariant.room))
+    c.byte_at-next.ensures)
 
 middle_requires : tie.Need-middle-requires invariant_loop decreases_loop
 middle_requires c κs =
-    let at = c.before.before in
-    let i = at.loop.i in (
-      omega (arith, at.loop.invariant.known, small at i),
-      omega (arith, c.byte-at2.ensures, small at (i + 1)),
-      at.before.before.before.before.requires.1,
+    let at = c in
+    let i = at.loop-o.i in (
+      omega (arith, at.loop-o.invariant.known, small at.before.before i),
+      omega (arith, c.byte_at-next.ensures, small at.before.before (i + 1)),
+      at.requires.1,
     )
 
 pub shift_spec : {M : Type 1} → statement M
@@ -80,16 +80,16 @@ shift_spec =
     invariant_loop
     decreases_loop
     (λ c κs. search rules)
-    (λ c. record { room = refl; within = c.before.before.before.requires.2; place = refl; known = c.byte_at.ensures; so_far = refl })
+    (λ c. record { room = refl; within = c.requires.2; place = refl; known = c.byte_at-high.ensures; so_far = refl })
     (λ c.
-    let start = c.before.before.before.before.before in
-    omega (arith, c.before.loop.invariant.place, start.well-formed, start.requires.0))
+    let start = c in
+    omega (arith, c.loop-o.invariant.place, start.well_formed, start.requires.0))
     (λ c κs. search rules)
     middle_requires
     (λ c. omega (arith, c.middle.ensures))
-    (λ c. omega (arith, c.before.before.before.loop.invariant.room))
+    (λ c. omega (arith, c.loop-o.invariant.room))
     (λ c. omega arith)
     (λ c. omega arith)
     loop_again
-    (λ c. c.before.loop.invariant.room)
-    (λ c. shifted c.before.loop.invariant (omega (arith, c.before.loop.invariant.room, c.loop-test.false))))
+    (λ c. c.loop-o.invariant.room)
+    (λ c. shifted c.loop-o.invariant (omega (arith, c.loop-o.invariant.room, c.loop-o-test.false))))

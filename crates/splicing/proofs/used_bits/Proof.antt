@@ -7,5 +7,5 @@ pub used_bits_spec : {M : Type 1} → statement M
 used_bits_spec =
     tie.close
     (tie.spec
-    (λ c. rw (lt-ltb _ _ c.if1.true))
-    (λ c. rw (le-ltb _ _ c.if1.false)))
+    (λ c. rw (lt-ltb _ _ c.if-p-bytes.true))
+    (λ c. rw (le-ltb _ _ c.if-p-bytes.false)))

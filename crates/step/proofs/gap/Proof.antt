@@ -36,19 +36,19 @@ apart start key-a key-b =
       second = key-b.small;
     }
 
-below : (c : tie.After-key2)
-    → Apart c.before.before.before c.key2.result c.before.key.result × (c.key2.result < c.before.key.result)
+below : (c : tie.After-key-then-a-b)
+    → Apart c.before.before.before c.key-then-a-b.result c.key.result × (c.key-then-a-b.result < c.key.result)
 below c =
     let start = c.before.before.before in
-    let keys = apart start (key_back start.ranges.a c.key2.ensures) (key_back start.ranges.b c.before.key.ensures) in
-    (keys, ltb-true _ _ (sym keys.order ∙ c.before.before.if1.true))
+    let keys = apart start (key_back start.ranges.a c.key-then-a-b.ensures) (key_back start.ranges.b c.key.ensures) in
+    (keys, ltb-true _ _ (sym keys.order ∙ c.if-a-b.true))
 
-above : (c : tie.After-key4)
-    → Apart c.before.before.before c.before.key3.result c.key4.result × (c.key4.result ≤ c.before.key3.result)
+above : (c : tie.After-key-3)
+    → Apart c.before.before.before c.key-2.result c.key-3.result × (c.key-3.result ≤ c.key-2.result)
 above c =
     let start = c.before.before.before in
-    let keys = apart start (key_back start.ranges.a c.before.key3.ensures) (key_back start.ranges.b c.key4.ensures) in
-    (keys, ltb-false _ _ (sym keys.order ∙ c.before.before.if1.false))
+    let keys = apart start (key_back start.ranges.a c.key-2.ensures) (key_back start.ranges.b c.key-3.ensures) in
+    (keys, ltb-false _ _ (sym keys.order ∙ c.if-a-b.false))
 
 pub gap_spec : {M : Type 1} → statement M
 gap_spec =

@@ -8,9 +8,9 @@ use Rattle.step.proofs.gap_to_last.Tie as tie
 
 returns : tie.Need-returns
 returns c =
-    let start = c.before.before.before in
-    let q = key_back start.ranges.q c.before.before.key.ensures in
-    let high = key_back start.ranges.high c.before.key2.ensures in
+    let start = c in
+    let q = key_back start.ranges.q c.key.ensures in
+    let high = key_back start.ranges.high c.key-2.ensures in
     omega (arith, c.difference.ensures, gap_key_pred start.args.q start.args.high start.ranges.q.sfits start.ranges.high.sfits)
 
 pub gap_to_last_spec : {M : Type 1} → statement M
@@ -18,7 +18,7 @@ gap_to_last_spec =
     tie.close
     (tie.spec
     (λ c κs. search rules)
-    (λ c. omega (arith, key_back c.before.ranges.q c.key.ensures))
+    (λ c. omega (arith, key_back c.ranges.q c.key.ensures))
     (λ c κs. search rules)
     (λ c κs. search rules)
     returns)

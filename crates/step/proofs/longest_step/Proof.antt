@@ -9,16 +9,16 @@ use Rattle.step.specs.Step.{longest}
 use Rattle.step.proofs.longest_step.Statement.{statement}
 use Rattle.step.proofs.longest_step.Tie as tie
 
-ends : (c : tie.After-gap-to-last) → let args = c.before.before.args in
-    longest args.q args.low args.high ≡ max c.before.gap.result c.gap-to-last.result
+ends : (c : tie.After-gap_to_last-last) → let args = c.args in
+    longest args.q args.low args.high ≡ max c.gap-first.result c.gap_to_last-last.result
 unfolding longest
 ends c =
-    let args = c.before.before.args in
-    let fits = c.before.before.ranges in
+    let args = c.args in
+    let fits = c.ranges in
     let q = to_z-of_z w32 args.q fits.q in
     let low = to_z-of_z w32 args.low fits.low in
     let high = to_z-of_z w32 args.high fits.high in
-    rw (rw (q, low) at c.before.gap.ensures, rw (q, high) at c.gap-to-last.ensures.0)
+    rw (rw (q, low) at c.gap-first.ensures, rw (q, high) at c.gap_to_last-last.ensures.0)
 
 pub longest_step_spec : {M : Type 1} → statement M
 longest_step_spec =

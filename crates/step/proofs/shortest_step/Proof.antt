@@ -17,32 +17,32 @@ module _ (start : tie.Start) where
   q_back = to_z-of_z w32 start.args.q start.ranges.q
 
   low_back : to_z w32 (of_z w32 start.args.low) ≡ start.args.low
-  low_back = to_z-of_z w32 start.args.low start.fits.low
+  low_back = to_z-of_z w32 start.args.low start.ranges.low
 
   high_back : to_z w32 (of_z w32 start.args.high) ≡ start.args.high
-  high_back = to_z-of_z w32 start.args.high start.fits.high
+  high_back = to_z-of_z w32 start.args.high start.ranges.high
 
-returns : tie.Need-returns
+returns : tie.Need-returns-then-q-low
 unfolding shortest
 returns c =
     let start = c.before.before in
-    let below = rw (q_back start, low_back start) at c.before.if1.true in
-    (rw below (rw (q_back start, low_back start) at c.gap.ensures), omega (arith, c.gap.type-inv))
+    let below = rw (q_back start, low_back start) at c.if-q-low.true in
+    (rw below (rw (q_back start, low_back start) at c.gap.ensures), omega (arith, c.gap.type_inv))
 
-returns_2 : tie.Need-returns-2
+returns_2 : tie.Need-returns-then-high-q
 unfolding shortest
 returns_2 c =
     let start = c.before.before.before in
-    let below = rw (q_back start, low_back start) at c.before.before.if1.false in
-    let above = rw (q_back start, high_back start) at c.before.if2.true in
-    (rw (below, pred_lt start.args.high start.args.q, above) (rw (q_back start, high_back start) at c.gap-to-last.ensures.0), c.gap-to-last.ensures.1)
+    let below = rw (q_back start, low_back start) at c.if-q-low.false in
+    let above = rw (q_back start, high_back start) at c.if-high-q.true in
+    (rw (below, pred_lt start.args.high start.args.q, above) (rw (q_back start, high_back start) at c.gap_to_last.ensures.0), c.gap_to_last.ensures.1)
 
-returns_3 : tie.Need-returns-3
+returns_3 : tie.Need-returns
 unfolding shortest
 returns_3 c =
     let start = c.before.before in
-    let below = rw (q_back start, low_back start) at c.before.if1.false in
-    let above = rw (q_back start, high_back start) at c.if2.false in
+    let below = rw (q_back start, low_back start) at c.if-q-low.false in
+    let above = rw (q_back start, high_back start) at c.if-high-q.false in
     (rw (below, pred_lt start.args.high start.args.q, above), omega arith)
 
 pub shortest_step_spec : {M : Type 1} → statement M

@@ -7,13 +7,13 @@ use Rattle.step.specs.Step.{weighed_word, squared_le}
 use Rattle.step.proofs.weighed.Statement.{statement}
 use Rattle.step.proofs.weighed.Tie as tie
 
-mul_product : tie.Need-overflow-mul-product
+mul_product : tie.Need-overflow_mul-product
 mul_product c =
     let few : c.args.factor ≤ 4294967295 = omega (arith, c.ranges.factor.fits) in
     let product : c.args.factor * c.args.step ≤ 4294967295 * 2 ^ 32 = mul-le-mul few c.requires in
     record { fits = omega arith }
 
-mul_result : tie.Need-overflow-mul-result
+mul_result : tie.Need-overflow_mul-result
 mul_result c =
     let product = c.args.factor * c.args.step % 2 ^ 32 in
     let square : product * product ≤ 4294967295 * 4294967295 = squared_le {a = product} {b = 4294967295} (omega arith) in

@@ -6,23 +6,23 @@ use Rattle.step.proofs.Read.{step_back}
 use Rattle.step.proofs.weighed_step.Statement.{statement}
 use Rattle.step.proofs.weighed_step.Tie as tie
 
-returns : tie.Need-returns
+returns : tie.Need-returns-in-Lower
 returns c =
-    let told = c.before.before in
-    let fits = told.before.before.ranges in
-    rw told.enum_told.given.1
+    let told = c in
+    let fits = told.ranges in
+    rw told.in-Lower.is
     (c.weighed.ensures
-    ∙ ap (weighed_word told.before.before.args.factor)
-    (step_back shortest fits.q fits.low fits.high c.before.shortest-step.ensures.0))
+    ∙ ap (weighed_word told.args.factor)
+    (step_back shortest fits.q fits.low fits.high c.shortest_step.ensures.0))
 
-returns_2 : tie.Need-returns-2
+returns_2 : tie.Need-returns-in-Upper
 returns_2 c =
-    let told = c.before.before in
-    let fits = told.before.before.ranges in
-    rw told.enum-told2.given.1
-    (c.weighed2.ensures
-    ∙ ap (weighed_word told.before.before.args.factor)
-    (step_back longest fits.q fits.low fits.high c.before.longest-step.ensures.0))
+    let told = c in
+    let fits = told.ranges in
+    rw told.in-Upper.is
+    (c.weighed-in-Upper.ensures
+    ∙ ap (weighed_word told.args.factor)
+    (step_back longest fits.q fits.low fits.high c.longest_step.ensures.0))
 
 pub weighed_step_spec : {M : Type 1} → statement M
 weighed_step_spec =

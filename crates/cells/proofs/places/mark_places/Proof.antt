@@ -12,33 +12,33 @@ told start = sized start.args.d start.args.b start.args.i start.requires.0 start
 
 returns : tie.Need-returns
 returns c =
-    let two = c.before.before in
-    let one = two.before.before.before.before in
-    let start = one.before.before.before.before in
+    let two = c in
+    let one = two in
+    let start = one in
     let args = start.args in
-    let sizes = told start in
-    rw (sizes.shift.exact, one.place-run.ensures, sub-zero) at two.place-run2.ensures
+    let sizes = told start.before.before.before.before.before.before.before.before.before.before in
+    rw (sizes.shift.exact, one.place_run.ensures, sub-zero) at two.place_run-2.ensures
     ∙ two_runs args.d args.b args.codes.now args.i sizes.fewest (omega (arith, sizes.more))
 
-first_requires : tie.Need-place-run-requires
+first_requires : tie.Need-place_run-requires
 first_requires c κs =
-    let start = c.before.before.before in
-    omega (arith, told start, start.requires.2)
+    let start = c in
+    omega (arith, told start.before.before.before, start.requires.2)
 
 -- the second run behind the first
-second_requires : tie.Need-place-run-requires-2
+second_requires : tie.Need-place_run-requires-2
 second_requires c κs =
-    let one = c.before.before.before in
-    let start = one.before.before.before.before in
-    rw (told start).shift.exact (omega (arith, told start, start.requires.2, one.place-run.auto.1.1.1.1.1.1.0))
+    let one = c in
+    let start = one in
+    rw (told start.before.before.before.before.before.before.before).shift.exact (omega (arith, told start.before.before.before.before.before.before.before, start.requires.2, one.place_run.auto.places))
 
-same_length : tie.Need-same-length
+same_length : tie.Need-shape_of-places
 same_length c =
-    let two = c.before.before in
-    let one = two.before.before.before.before in
-    two.place-run2.auto.1.1.1.1.1.1.0 ∙ one.place-run.auto.1.1.1.1.1.1.0
+    let two = c in
+    let one = two in
+    two.place_run-2.auto.places ∙ one.place_run.auto.places
 
-second_bit : tie.Need-overflow-add-place-run
+second_bit : tie.Need-overflow_add-bit
 second_bit c =
     let sizes = told c.before.before.before.before.before.before in
     omega (arith, sizes.wide_bits, sizes.bits)

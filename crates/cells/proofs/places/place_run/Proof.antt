@@ -21,16 +21,16 @@ record Running (codes : List ℕ) (w end room : ℕ) (whole places : List ℕ) (
   start_small : start ≤ 2 ^ 32 + 129 * t
   so_far : take t places ++ run_places codes w bit start (end - t) ≡ whole
 
-abbrev invariant_loop : tie.invariant_loop
+abbrev invariant_loop : tie.invariant-loop-t
 invariant_loop codes w first_bit first-start first end places₀ bit₀ start₀ t₀ places bit start t =
     Running codes w end (length places₀) (take first places₀ ++ run_places codes w first_bit first-start (end - first)) places bit start t
 
-abbrev decreases_loop : tie.decreases_loop
+abbrev decreases_loop : tie.decreases-loop-t
 decreases_loop codes w first_bit first-start first end places₀ bit₀ start₀ t₀ places bit start t = end - t
 
-loop_holds : tie.Need-loop-init invariant_loop decreases_loop
+loop_holds : tie.Need-loop-t-init invariant_loop decreases_loop
 loop_holds c =
-    let pre = c.before.before.requires in
+    let pre = c.requires in
     record {
       within = pre.3;
       length_is = refl;
@@ -71,25 +71,25 @@ record Sums (bit start w region : ℕ) : Type 0 where
   power : 1 * 2 ^ w % 2 ^ 64 ≤ 128
   number : region < 256
 
-sums : (c : tie.After-bits-at invariant_loop decreases_loop) → let at = c.before.before in
-    Sums at.loop.bit at.loop.start at.before.before.before.args.w c.bits_at.result
+sums : (c : tie.After-bits_at invariant_loop decreases_loop) → let at = c in
+    Sums at.loop-t.bit at.loop-t.start at.args.w c.bits_at.result
 sums c =
-    let at = c.before.before in
-    let start = at.before.before.before in
+    let at = c in
+    let start = at in
     let shift = regions start.args.w start.requires.0 in
     record {
-      bit_small = omega (arith, at.loop.invariant.bit_small, at.loop.invariant.within, start.requires);
-      start_small = omega (arith, at.loop.invariant.start_small, at.loop.invariant.within, start.requires);
+      bit_small = omega (arith, at.loop-t.invariant.bit_small, at.loop-t.invariant.within, start.requires);
+      start_small = omega (arith, at.loop-t.invariant.start_small, at.loop-t.invariant.within, start.requires);
       few = start.requires.0;
       power = rw shift.exact shift.most;
-      number = rw c.bits_at.ensures (bits_at_lt start.args.codes.now at.loop.bit start.args.w
+      number = rw c.bits_at.ensures (bits_at_lt start.args.codes.now at.loop-t.bit start.args.w
           (omega (arith, start.requires.0)));
     }
 
-loop_again : tie.Need-loop-preserved invariant_loop decreases_loop
+loop_again : tie.Need-loop-t-preserved invariant_loop decreases_loop
 loop_again c =
-    let at = c.before.before in
-    rw c.bits_at.ensures (next at.loop.invariant at.before.before.before.requires.0 (omega arith) at.before.before.before.requires.5)
+    let at = c in
+    rw c.bits_at.ensures (next at.loop-t.invariant at.requires.0 (omega arith) at.requires.5)
 
 pub place_run_spec : {M : Type 1} → statement M
 place_run_spec =
@@ -101,13 +101,13 @@ place_run_spec =
     (λ c κs. search rules)
     (λ c. omega (arith, sums c))
     (λ c. omega arith)
-    (λ c. omega (arith, c.before.before.loop.invariant.length_is, c.before.before.before.before.before.requires.5))
+    (λ c. omega (arith, c.loop-t.invariant.length_is, c.requires.5))
     (λ c. omega (arith, sums c))
     (λ c. omega (arith, sums c))
     (λ c. omega (arith, sums c))
     (λ c. omega (arith, sums c))
     (λ c. omega arith)
-    (λ c. omega (arith, c.before.before.loop.invariant.length_is, c.before.before.before.before.before.requires.5))
+    (λ c. omega (arith, c.loop-t.invariant.length_is, c.requires.5))
     loop_again
-    (λ c. c.before.loop.invariant.length_is)
-    (λ c. done c.before.loop.invariant (omega arith)))
+    (λ c. c.loop-t.invariant.length_is)
+    (λ c. done c.loop-t.invariant (omega arith)))

@@ -15,13 +15,13 @@ use Rattle.cells.specs.Rising.{rises_from, rises_first, first_tests}
 use Rattle.cells.proofs.rising.all_rise.Statement.{statement}
 use Rattle.cells.proofs.rising.all_rise.Tie as tie
 
-abbrev invariant_loop : tie.invariant_loop
+abbrev invariant_loop : tie.invariant-loop-t
 invariant_loop d b marks t₀ t = (t ≤ d) × (rises_first d b marks t ≡ true)
 
-abbrev decreases_loop : tie.decreases_loop
+abbrev decreases_loop : tie.decreases-loop-t
 decreases_loop d b marks t₀ t = d - t
 
-loop_holds : tie.Need-loop-init invariant_loop decreases_loop
+loop_holds : tie.Need-loop-t-init invariant_loop decreases_loop
 unfolding rises_first
 loop_holds c = (zero-le, refl)
 
@@ -32,18 +32,18 @@ record Placed (d b t : ℕ) (s : Stretch) : Type 0 where
   count_is : 1 * 2 ^ s.bits % 2 ^ 64 ≡ region_count d b (suc t)
   small : s.offset + 1 * 2 ^ s.bits % 2 ^ 64 ≤ 4096
 
-placed : (c : tie.After-struct-known invariant_loop decreases_loop) → let at = c.before.before.before in let a = at.before.args in
-    Placed a.d a.b at.loop.t c.before.stretch-of.result
+placed : (c : tie.After-struct_known-1 invariant_loop decreases_loop) → let at = c in let a = at.args in
+    Placed a.d a.b at.loop-t.t c.stretch_of-stretch.result
 placed c =
-    let known = c.before in
-    let at = known.before.before in
-    let start = at.before in
+    let known = c in
+    let at = known in
+    let start = at in
     let d = start.args.d in
     let b = start.args.b in
-    let t = at.loop.t in
-    let s = stretches (dimension_accepted d b t start.requires known.before.loop-test.true) known.stretch-of.ensures in
+    let t = at.loop-t.t in
+    let s = stretches (dimension_accepted d b t start.requires known.loop-t-test.true) known.stretch_of-stretch.ensures in
     let back : t + 1 - 1 ≡ t = omega arith in
-    let power = shifted known.stretch-of.result.bits (omega (arith, s.few_bits)) in
+    let power = shifted known.stretch_of-stretch.result.bits (omega (arith, s.few_bits)) in
     record {
       offset_is = s.offset_is ∙ ap (first_marks d b) back;
       few_bits = s.few_bits;
@@ -52,34 +52,34 @@ placed c =
     }
 
 -- what the dimension's test gave
-tested : (c : tie.After-rises invariant_loop decreases_loop) → let at = c.before.before.before.before in let a = at.before.args in
-    c.rises.result ≡ rises_from a.marks.now (first_marks a.d a.b at.loop.t) (region_count a.d a.b (suc at.loop.t))
+tested : (c : tie.After-rises invariant_loop decreases_loop) → let at = c in let a = at.args in
+    c.rises.result ≡ rises_from a.marks.now (first_marks a.d a.b at.loop-t.t) (region_count a.d a.b (suc at.loop-t.t))
 tested c = c.rises.ensures ∙ rw ((placed c.before).offset_is, (placed c.before).count_is)
 
-returns : tie.Need-returns invariant_loop decreases_loop
+returns : tie.Need-returns-then-not-rises invariant_loop decreases_loop
 returns c =
-    let at = c.before.before.before.before.before in
-    let args = at.before.args in
+    let at = c in
+    let args = at.args in
     sym
-    (all_fails (first_tests args.d args.b args.marks.now) args.d at.loop.t
-    c.before.before.before.before.loop-test.true
-    (sym (tested c.before) ∙ not-true c.before.rises.result c.if1.true))
+    (all_fails (first_tests args.d args.b args.marks.now) args.d at.loop-t.t
+    c.loop-t-test.true
+    (sym (tested c.before) ∙ not-true c.rises.result c.if-not-rises.true-raw))
 
-loop_again : tie.Need-loop-preserved invariant_loop decreases_loop
+loop_again : tie.Need-loop-t-preserved invariant_loop decreases_loop
 loop_again c =
-    let at = c.before.before.before.before.before in
-    let args = at.before.args in (
+    let at = c in
+    let args = at.args in (
       omega arith,
-      rw (add-one at.loop.t)
-          (all_next (first_tests args.d args.b args.marks.now) at.loop.t at.loop.invariant.1
-          ∙ sym (tested c.before) ∙ not-false c.before.rises.result c.if1.false),
+      rw (add-one at.loop-t.t)
+          (all_next (first_tests args.d args.b args.marks.now) at.loop-t.t at.loop-t.invariant.1
+          ∙ sym (tested c.before) ∙ not-false c.rises.result c.if-not-rises.false-raw),
     )
 
-returns_2 : tie.Need-returns-2 invariant_loop decreases_loop
+returns_2 : tie.Need-returns invariant_loop decreases_loop
 returns_2 c =
-    let args = c.before.before.args in
-    let all : c.before.loop.t ≡ args.d = omega arith in
-    sym (ap (rises_first args.d args.b args.marks.now) (sym all) ∙ c.before.loop.invariant.1)
+    let args = c.args in
+    let all : c.loop-t.t ≡ args.d = omega arith in
+    sym (ap (rises_first args.d args.b args.marks.now) (sym all) ∙ c.loop-t.invariant.1)
 
 pub all_rise_spec : {M : Type 1} → statement M
 all_rise_spec =

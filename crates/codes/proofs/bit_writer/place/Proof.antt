@@ -42,7 +42,7 @@ add_full c =
     let pre = c.requires in
     omega (
       arith,
-      c.first_bits_lem.ensures,
+      c.first_bits.ensures,
       moved_lt a.byte a.free a.free pre.2 pre.3,
       number_lt a.x a.left pre.0 pre.1,
       shr_le a.x (a.left - a.free),
@@ -53,7 +53,7 @@ returns_2 c =
     let a = c.args in
     let pre = c.requires in
     let most : min a.left a.free ≡ a.free = min-eq_right c.if-left-free.false in
-    rw (most, exact a.byte a.free a.free pre.2 pre.3, c.first_bits_lem.ensures) (refl, refl)
+    rw (most, exact a.byte a.free a.free pre.2 pre.3, c.first_bits.ensures) (refl, refl)
 
 pub place_spec : {M : Type 1} → statement M
 place_spec =

@@ -100,7 +100,7 @@ own c = (fits c.loop-i.invariant c.loop-i-test.true).0
 place_requires : tie.Need-place-first-requires invariant_loop decreases_loop
 place_requires c κs =
     let at = c.loop-i.invariant in
-    (own c, few c, at.filled.small, at.filled.few)
+    (own c, few c.before.before.before, at.filled.small, at.filled.few)
 
 loop_again : tie.Need-loop-i-preserved-then-count-free invariant_loop decreases_loop
 loop_again c =
@@ -127,11 +127,11 @@ cast_bytes c =
 inside : (c : tie.Else-count-free invariant_loop decreases_loop) → let loop = c.loop-i in loop.next < length loop.bytes
 inside c =
     let loop = c in
-    has_room loop.loop-i.invariant c.loop-i-test.true (filled c).1 (fit loop)
+    has_room loop.loop-i.invariant c.loop-i-test.true (filled c).1 (fit loop.before.before.before.before.before)
 
 place_requires_2 : tie.Need-place-second-requires invariant_loop decreases_loop
 place_requires_2 c κs =
-    let loop = c in
+    let loop = c.before.before.before.before.before.before.before in
     (rw c.low.ensures (mod-lt _ (pow_pos _)), omega (arith, few loop), omega arith, omega arith)
 
 loop_again_2 : tie.Need-loop-i-preserved invariant_loop decreases_loop
@@ -140,7 +140,7 @@ loop_again_2 c =
     let full = second in
     let step = full in
     let loop = step in
-    let start = loop in
+    let start = loop.before.before.before.before.before.before.before.before.before in
     let all : second.place-second.result.count ≡ start.low-width.result - loop.loop-i.free =
     omega (arith, second.place-second.ensures.0, (filled full.before.before.before.before).0, few start) in
     rw (step.place-first.ensures.1, all, second.place-second.ensures.1, second.low.ensures, (filled full.before.before.before.before).0)
@@ -148,7 +148,7 @@ loop_again_2 c =
 
 returns : tie.Need-returns invariant_loop decreases_loop
 returns c =
-    let start = c in
+    let start = c.before.before in
     let at = c.loop-i.invariant in
     let numbers = start.args.numbers.now in
     let all : take c.loop-i.i numbers ≡ numbers = take_all c.loop-i.i numbers c.loop-i-test.false in (
@@ -181,7 +181,7 @@ put_spec =
     (λ c. inside c.before)
     (λ c. omega (arith, inside c.before, c.loop-i.invariant.long))
     (λ c. omega (arith, filled c.before))
-    (λ c κs. omega (arith, few c))
+    (λ c κs. omega (arith, few c.before.before.before.before.before.before))
     place_requires_2
     (λ c. omega (arith, c.place-second.ensures.0))
     (λ c. omega arith)

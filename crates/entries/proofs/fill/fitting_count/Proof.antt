@@ -9,7 +9,7 @@ pub fitting_count_spec : {M : Type 1} → statement M
 fitting_count_spec =
     tie.close
     (tie.spec
-    (λ c. let a = c.before.args in sym (fitting_many a.room a.start a.count (omega arith)))
-    (λ c. let a = c.before.before.args in sym (fitting_past a.room a.start a.count (omega arith)))
-    (λ c. let a = c.before.before.before.args in sym (fitting_past a.room a.start a.count (omega arith)))
-    (λ c. let a = c.before.before.before.args in sym (fitting_fits a.room a.start a.count (omega arith) (omega arith))))
+    (λ c. let a = c.args in sym (fitting_many a.room a.start a.count (omega arith)))
+    (λ c. let a = c.args in sym (fitting_past a.room a.start a.count (omega arith)))
+    (λ c. let a = c.args in sym (fitting_past a.room a.start a.count (omega arith)))
+    (λ c. let a = c.args in sym (fitting_fits a.room a.start a.count (omega arith) (omega arith))))

@@ -1,16 +1,7 @@
 -- `region_of` meets its contract: the view's lookup gives the region wherever there is one; where it refuses, so does the part, or the value
 -- lies outside the marks. Assumes nothing.
-use mathlib.Core.Path.{◌≡◌, refl, sym, ap, ◌∙◌}
-use mathlib.Core.Bool.{Bool, true, false, not}
-use mathlib.Core.List.{List, [], ◌∷◌}
-use Prim.Native.Nat.{ℕ, ◌+◌}
-use native.Mathlib.Omega.{arith}
-use borrow.Author.Rules.{rules}
-use borrow.Author.Tests.{eq-eqb}
-use lib.IntN.{ℤ}
-use lib.ListN.{length}
-use mir.Syntax.{w32}
-use mir.ValLaws.{to_z-of_z}
+use Rattle.std.proofs.Common.{◌≡◌, refl, sym, ap, ◌∙◌, Bool, true, false, not, List, [], ◌∷◌, ℕ, ◌+◌, ℤ, length, arith, eq-eqb, w32}
+use Rattle.std.proofs.lemmas.Int.{to_z-of_z}
 use Rattle.refusal.specs.declared.Refusal.{Refusal}
 use Rattle.refusal.specs.declared.Refusal.TheVariants.{Bits, Length, Mark, Outside}
 use Rattle.refusal.specs.declared.Verdict.{Verdict}
@@ -26,8 +17,7 @@ use Rattle.partition.specs.Marks.{dimension_marks}
 use Rattle.partition.specs.MarksCauses.{part_causes}
 use Rattle.partition.specs.Parts.{seen_marks}
 use Rattle.view.specs.View.{seen_regions, value_causes, part_is}
-use Rattle.view.proofs.region_of.Statement.{statement}
-use Rattle.view.proofs.region_of.Tie as tie
+use Rattle.view.proofs.region_of.Goals as goal
 
 no_regions : not (is_region_count 0) ≡ true
 unfolding is_power
@@ -94,33 +84,19 @@ module _ (d b : ℕ) (marks : List ℤ) (j : ℕ) (v : ℤ) where
           absurd (omega arith)
       go false e = sym (ap told (first_here Outside [] (ap not e)))
 
-looked_up_lem : (c : tie.After-look-up) → let a = c.before.args in c.look_up.result ≡ seen a.d a.b a.marks.now a.j a.v
-looked_up_lem c =
-    let a = c.before.args in
-    c.look_up.ensures ∙ ap (seen a.d a.b a.marks.now a.j) (to_z-of_z w32 a.v c.before.ranges.v)
+pub returns-in-Region : goal.returns-in-Region
+returns-in-Region c =
+    let a = c.args in
+    let same = ap (seen a.d a.b a.marks.now a.j) (to_z-of_z w32 a.v c.ranges.v) in
+    found a.d a.b a.marks.now a.j a.v (sym (c.in-Region.ensures ∙ same))
 
-returns : tie.Need-returns
-returns c =
-    let asked = c.before.before.before in
-    let a = asked.before.args in
-    found a.d a.b a.marks.now a.j a.v (sym (looked_up_lem asked) ∙ c.before.number.given.1)
+pub returns-in-Accepted : goal.returns-in-Accepted
+returns-in-Accepted c =
+    let a = c.args in
+    let same = ap (seen a.d a.b a.marks.now a.j) (to_z-of_z w32 a.v c.ranges.v) in
+    outside a.d a.b a.marks.now a.j a.v (sym (c.in-Refused.ensures ∙ same)) (sym c.in-Accepted.ensures)
 
-returns_2 : tie.Need-returns-2
-returns_2 c =
-    let checked = c.before.before in
-    let asked = checked.before.before.before in
-    let a = asked.before.args in
-    outside a.d a.b a.marks.now a.j a.v (sym (looked_up_lem asked) ∙ checked.before.enum_told.given.1)
-    (sym checked.check-part.ensures ∙ c.enum-told2.given.1)
-
-returns_3 : tie.Need-returns-3
-returns_3 c =
-    let checked = c.before.before.before in
-    let a = checked.before.before.before.before.args in
-    sym (told_refused a.d a.b a.marks.now a.j a.v (sym checked.check-part.ensures ∙ c.before.cause.given.1))
-
-pub region_of_spec : {M : Type 1} → statement M
-region_of_spec =
-    tie.close
-    (tie.spec (λ c κs. search rules) (λ c. search rules) (λ c. search rules) (λ c κs. search rules) (λ c. search rules) (λ c. search rules)
-    returns returns_2 returns_3)
+pub returns-in-Refused-check_part : goal.returns-in-Refused-check_part
+returns-in-Refused-check_part c =
+    let a = c.args in
+    sym (told_refused a.d a.b a.marks.now a.j a.v (sym c.in-Refused-check_part.ensures))

@@ -1,3 +1,0 @@
-pub mod Turn
-pub mod InArray
-pub mod ToFill
