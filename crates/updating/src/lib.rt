@@ -1,6 +1,7 @@
 // A vector added to a library, or one removed from it, with the marks kept (document 02, Slip 3). The old library is only read; the new
 // one's vectors, settings and codes fill buffers of their own.
 #![tactic(auto)]
+
 mod copying;
 mod place;
 
@@ -26,7 +27,7 @@ use splicing::splice;
 const MAX_CODE: usize = MAX_DIMENSIONS * MAX_DIMENSION_BITS / 8;
 
 // The numbers of an addition: those of the library, and the settings number of the new vector.
-#[derive(Drop)]
+#[derive(Clone, Copy, Drop)]
 pub struct Addition {
     pub d: usize,
     pub b: usize,
@@ -35,7 +36,7 @@ pub struct Addition {
 }
 
 // The numbers of a removal: those of the library, and the number of the vector that goes.
-#[derive(Drop)]
+#[derive(Clone, Copy, Drop)]
 pub struct Removal {
     pub d: usize,
     pub b: usize,

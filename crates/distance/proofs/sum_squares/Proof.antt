@@ -6,34 +6,34 @@ use Rattle.distance.proofs.Sum.{sum_more}
 use Rattle.distance.proofs.sum_squares.Statement.{statement}
 use Rattle.distance.proofs.sum_squares.Tie as tie
 
-abbrev invariant_loop : tie.invariant_loop
+abbrev invariant_loop : tie.invariant-loop-t
 invariant_loop numbers sum₀ t₀ sum t = (t ≤ length numbers) × (sum ≡ first_squares numbers t % 2 ^ 64)
 
-abbrev decreases_loop : tie.decreases_loop
+abbrev decreases_loop : tie.decreases-loop-t
 decreases_loop numbers sum₀ t₀ sum t = length numbers - t
 
-mul_fits : tie.Need-overflow-mul-wrapping-add-u64 invariant_loop decreases_loop
+mul_fits : tie.Need-overflow_mul-number invariant_loop decreases_loop
 mul_fits c =
-    let at = c.before.before in
-    let number = get_or at.before.before.args.numbers.now at.loop.t 0 in
+    let at = c in
+    let number = get_or at.args.numbers.now at.loop-t.t 0 in
     let square : number * number ≤ 4294967295 * 4294967295 =
-    squared_le {a = number} {b = 4294967295} (omega (arith, c.shared-slice-known2.given at.loop.t)) in
+    squared_le {a = number} {b = 4294967295} (omega (arith, c.shared_slice_known-in-loop-t-1.given at.loop-t.t)) in
     record { fits = omega arith }
 
-loop_again : tie.Need-loop-preserved invariant_loop decreases_loop
+loop_again : tie.Need-loop-t-preserved invariant_loop decreases_loop
 unfolding first_squares
 loop_again c =
-    let at = c.before.before.before in
-    let numbers = at.before.before.args.numbers.now in (
+    let at = c in
+    let numbers = at.args.numbers.now in (
       omega arith,
-      rw add-one (sum_more (first_squares numbers at.loop.t) _ c.wrapping-add-u64.ensures at.loop.invariant.1),
+      rw add-one (sum_more (first_squares numbers at.loop-t.t) _ c.wrapping_add_u64-sum.ensures at.loop-t.invariant.1),
     )
 
 returns : tie.Need-returns invariant_loop decreases_loop
 returns c =
-    let at = c.before in
-    let all : at.loop.t ≡ length at.before.before.args.numbers.now = omega (arith, at.loop.invariant.0) in
-    rw (← all) at.loop.invariant.1
+    let at = c in
+    let all : at.loop-t.t ≡ length at.args.numbers.now = omega (arith, at.loop-t.invariant.0) in
+    rw (← all) at.loop-t.invariant.1
 
 pub sum_squares_spec : {M : Type 1} → statement M
 sum_squares_spec =
@@ -44,7 +44,7 @@ sum_squares_spec =
     (λ c. unfold first_squares in (omega arith, refl))
     (λ c. search rules)
     (λ c. search rules)
-    (λ c. record { fits = omega (arith, c.shared-slice-known2.given c.before.before.loop.t) })
+    (λ c. record { fits = omega (arith, c.shared_slice_known-in-loop-t-1.given c.loop-t.t) })
     mul_fits
     (λ c κs. search rules)
     (λ c. omega arith)

@@ -7,36 +7,36 @@ use Rattle.distance.specs.Values.{values_from, values_length, value_at}
 use Rattle.distance.proofs.weighed_distance.Statement.{statement}
 use Rattle.distance.proofs.weighed_distance.Tie as tie
 
-returns : tie.Need-returns
+returns : tie.Need-returns-then-vector-d
 unfolding measured_of
-returns c = rw (ne_eqb _ _ c.if1.true)
+returns c = rw (ne_eqb _ _ c.if-vector-d.true)
 
-returns_2 : tie.Need-returns-2
+returns_2 : tie.Need-returns-then-d-gt-MAX_DIMENSIONS
 unfolding measured_of
-returns_2 c = rw (eq-eqb _ _ c.before.if1.false, lt-leb _ _ c.if2.true)
+returns_2 c = rw (eq-eqb _ _ c.if-vector-d.false, lt-leb _ _ c.if-d-gt-MAX_DIMENSIONS.true)
 
-products_hold : tie.Need-array-borrow-prefix-products
-products_hold c = c.if2.false
+products_hold : tie.Need-slice_bounds-products-end
+products_hold c = c.if-d-gt-MAX_DIMENSIONS.false
 
-products_room : tie.Need-slice-aggregate-multiply
+products_room : tie.Need-slice_bounds-multiply-end
 products_room c = sym (length-take-le _ _ (products_hold c.before))
 
 multiply_requires : tie.Need-multiply-requires
 multiply_requires c κs =
-    let two = c.before in
+    let two = c in
     let size = products_room c in
-    (omega (arith, size, two.if2.false), omega (arith, size), omega (arith, size, two.before.if1.false))
+    (omega (arith, size, two.if-d-gt-MAX_DIMENSIONS.false), omega (arith, size), omega (arith, size, two.if-vector-d.false))
 
-products_within : tie.Need-array-share-prefix-products
+products_within : tie.Need-slice_bounds-products-end-2
 products_within c =
-    let back = c.before in
-    back_within _ _ back.multiply.new.1.1.1.0 (products_hold back.before.before) back.multiply.auto.1.1.1.0
+    let back = c in
+    back_within _ _ back.multiply.new.products (products_hold back.before.before.before) back.multiply.auto.products
 
-returns_3 : tie.Need-returns-3
+returns_3 : tie.Need-returns
 returns_3 c =
-    let back = c.before.before.before in
-    let two = back.before.before in
-    let start = two.before.before in
+    let back = c in
+    let two = c.before.before.before.before.before in
+    let start = two in
     let a = start.args in
     let d = length a.query.now in
     let factors = a.factors.now in
@@ -44,15 +44,15 @@ returns_3 c =
     let vector = a.vector.now in
     let product = product_at factors query vector in
     let filled =
-    shared_is _ _ back.multiply.new.1.1.1.0 (products_hold two) back.multiply.auto.1.1.1.0
+    shared_is _ _ back.multiply.new.products (products_hold two) back.multiply.auto.products
     ∙ back.multiply.ensures
     ∙ ap (values_from product 0) (length-take-le _ _ (products_hold two)) in
-    c.sum-squares.ensures
+    c.sum_squares.ensures
     ∙ ap (λ (products : List ℕ). first_squares products (length products) % 2 ^ 64) filled
     ∙ ap (λ (n : ℕ). first_squares (values_from product 0 d) n % 2 ^ 64) (values_length product 0 d)
     ∙ ap (λ (n : ℕ). n % 2 ^ 64)
     (squares_of_products factors query vector (values_from product 0 d) d (λ t h. value_at product d t h))
-    ∙ sym (measured_is d factors query vector two.if2.false refl two.before.if1.false)
+    ∙ sym (measured_is d factors query vector two.if-d-gt-MAX_DIMENSIONS.false refl two.if-vector-d.false)
 
 pub weighed_distance_spec : {M : Type 1} → statement M
 weighed_distance_spec =

@@ -23,34 +23,34 @@ library c =
 abbrev room : tie.Start → Lengths
 room c = lengths_with (length c.args.newvectors.now) (length c.args.newsettings.now) (length c.args.newcodes.now)
 
-abbrev start_of : tie.After-enum-told → tie.Start
-start_of c = c.before.before.before.before.before.before.before
+abbrev start_of : tie.In-Accepted → tie.Start
+start_of c = c.before.before.before.before.before.before
 
-accepted : (c : tie.After-enum-told)
+accepted : (c : tie.In-Accepted)
     → first (add_causes (library (start_of c)) (start_of c).args.vector.now (room (start_of c))) ≡ Accepted
-accepted c = sym c.before.before.check-add.ensures ∙ c.enum_told.given.1
+accepted c = sym c.check_add.ensures ∙ c.in-Accepted.is
 
-given : (c : tie.After-enum-told) → Addable (library (start_of c)) (start_of c).args.vector.now (room (start_of c))
+given : (c : tie.In-Accepted) → Addable (library (start_of c)) (start_of c).args.vector.now (room (start_of c))
 given c = addable (library (start_of c)) (start_of c).args.vector.now (room (start_of c)) (accepted c)
 
-components_requires : tie.Need-append-components-requires
+components_requires : tie.Need-append_components-requires
 components_requires c κs =
     let is = given c.before in
     let l = library (start_of c.before) in
     omega (arith, is.exact.of_vectors, is.library.exact.of_vectors, is.size, suc-mul l.n l.d)
 
-setting_requires : tie.Need-append-setting-requires
+setting_requires : tie.Need-append_setting-requires
 setting_requires c κs =
     let is = given c.before.before.before.before in
     omega (arith, is.exact.of_settings, is.library.exact.of_settings)
 
-code_requires : tie.Need-append-code-requires
+code_requires : tie.Need-append_code-requires
 code_requires c κs =
-    let told = c.before.before.before.before.before.before.before.before in
-    let is = given told in
+    let told = c in
+    let is = given told.before.before.before.before.before.before.before.before in
     record {
       shaped = is.library.shaped;
-      few = (between 1 (library (start_of told)).n max_vectors is.library.counted).below;
+      few = (between 1 (library (start_of told.before.before.before.before.before.before.before.before)).n max_vectors is.library.counted).below;
       exact = is.library.of_marks;
       size = is.size;
       bytes = is.exact.of_codes;
@@ -59,21 +59,21 @@ code_requires c κs =
       inside = is.contents.more_inside;
     }
 
-returns : tie.Need-returns
+returns : tie.Need-returns-in-Accepted
 returns c =
-    let coded = c.before.before in
-    let settled = coded.before.before.before.before in
-    let put = settled.before.before.before in
-    let is = accepted put.before.before in (
+    let coded = c in
+    let settled = coded in
+    let put = settled in
+    let is = accepted put.before.before.before.before.before.before.before.before.before.before.before in (
       sym is,
-      put.append-components.ensures ∙ sym (outcome_accepted _ _ is),
-      settled.append-setting.ensures ∙ sym (outcome_accepted _ _ is),
-      coded.append-code.ensures ∙ sym (outcome_accepted _ _ is),
+      put.append_components.ensures ∙ sym (outcome_accepted _ _ is),
+      settled.append_setting.ensures ∙ sym (outcome_accepted _ _ is),
+      coded.append_code.ensures ∙ sym (outcome_accepted _ _ is),
     )
 
-returns_2 : tie.Need-returns-2
+returns_2 : tie.Need-returns-in-Refused
 returns_2 c =
-    let is = sym c.before.before.before.check-add.ensures ∙ c.before.cause.given.1 in
+    let is = sym c.check_add.ensures ∙ c.in-Refused.is in
     (sym is, sym (outcome_refused _ _ is), sym (outcome_refused _ _ is), sym (outcome_refused _ _ is))
 
 pub add_spec : {M : Type 1} → statement M
@@ -86,8 +86,8 @@ add_spec =
     setting_requires
     code_requires
     (λ c. search rules)
-    (λ c. c.before.before.before.before.before.before.before.before.before.append-components.auto.1.1.0)
-    (λ c. c.before.before.before.before.before.before.append-setting.auto.1.1.0)
-    (λ c. c.before.before.append-code.auto.1.1.1.1.0)
+    (λ c. c.append_components.auto.out)
+    (λ c. c.append_setting.auto.out)
+    (λ c. c.append_code.auto.newcodes)
     returns
     returns_2)

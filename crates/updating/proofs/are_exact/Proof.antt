@@ -21,8 +21,8 @@ are_exact_spec =
     tie.close
     (tie.spec
     (λ c. omega (arith, components_few c))
-    (λ c. rw (ne_eqb _ _ c.if1.true))
-    (λ c. rw (eq-eqb _ _ c.before.before.if1.false, ne_eqb _ _ c.if2.true))
+    (λ c. rw (ne_eqb _ _ c.if-lengths-n.true))
+    (λ c. rw (eq-eqb _ _ c.if-lengths-n.false, ne_eqb _ _ c.if-lengths-n-2.true))
     (λ c. omega (arith, bits_few c.before.before.before.before))
     (λ c. omega (arith, bits_few c.before.before.before.before))
-    (λ c. rw (eq-eqb _ _ c.before.before.before.if1.false, eq-eqb _ _ c.before.if2.false)))
+    (λ c. rw (eq-eqb _ _ c.if-lengths-n.false, eq-eqb _ _ c.if-lengths-n-2.false)))

@@ -11,49 +11,49 @@ use Rattle.updating.specs.ContentLaws.{more_out, contents_in_turn}
 use Rattle.updating.proofs.check_contents.Statement.{statement}
 use Rattle.updating.proofs.check_contents.Tie as tie
 
-returns : tie.Need-returns
+returns : tie.Need-returns-then-not-are_components
 returns c =
-    let args = c.before.before.before.args in
+    let args = c.args in
     sym (more_out args.d args.b args.n args.marks.now args.codes.now args.vectors.now args.more.now
-    (sym c.before.are_components.ensures ∙ not-true c.before.are_components.result c.if1.true))
+    (sym c.are_components.ensures ∙ not-true c.are_components.result c.if-not-are_components.true-raw))
 
 -- The more components are in range, so the tests come in turn.
-in_turn : (c : tie.Else1) → let args = c.before.before.before.args in
+in_turn : (c : tie.Else-not-are_components) → let args = c.args in
     first (content_causes args.d args.b args.n args.marks.now args.codes.now args.vectors.now args.more.now)
     ≡ outcome (first (inside_causes args.d args.b args.vectors.now args.marks.now))
     (outcome (first (inside_causes args.d args.b args.more.now args.marks.now))
     (first (code_causes args.d args.b args.n args.marks.now args.codes.now)) Refused) Refused
 in_turn c =
-    let start = c.before.before.before in
+    let start = c in
     let args = start.args in
     contents_in_turn args.d args.b args.n args.marks.now args.codes.now args.vectors.now args.more.now
     start.requires.0 start.requires.2 start.requires.1 start.requires.3
-    (sym c.before.are_components.ensures ∙ not-false c.before.are_components.result c.if1.false)
+    (sym c.are_components.ensures ∙ not-false c.are_components.result c.if-not-are_components.false-raw)
 
-returns_2 : tie.Need-returns-2
+returns_2 : tie.Need-returns-in-Accepted-check_vectors
 returns_2 c =
-    let second = c.before.before.before in
-    let told = second.before in
-    let first-test = told.before.before in
-    c.check-codes.ensures
-    ∙ sym (in_turn first-test.before
-    ∙ outcome_accepted _ _ (sym first-test.check-vectors.ensures ∙ told.enum_told.given.1)
-    ∙ outcome_accepted _ _ (sym second.check-vectors2.ensures ∙ c.before.enum-told2.given.1))
+    let second = c in
+    let told = second in
+    let first-test = told in
+    c.check_codes.ensures
+    ∙ sym (in_turn first-test.before.before.before.before.before
+    ∙ outcome_accepted _ _ (sym first-test.check_vectors.ensures ∙ told.in-Accepted.is)
+    ∙ outcome_accepted _ _ (sym second.check_vectors-in-Accepted.ensures ∙ c.in-Accepted-check_vectors.is))
 
-returns_3 : tie.Need-returns-3
+returns_3 : tie.Need-returns-in-Refused-check_vectors
 returns_3 c =
-    let second = c.before.before.before in
-    let told = second.before in
-    let first-test = told.before.before in
-    sym (in_turn first-test.before
-    ∙ outcome_accepted _ _ (sym first-test.check-vectors.ensures ∙ told.enum_told.given.1)
-    ∙ outcome_refused _ _ (sym second.check-vectors2.ensures ∙ c.before.cause.given.1))
+    let second = c in
+    let told = second in
+    let first-test = told in
+    sym (in_turn first-test.before.before.before.before
+    ∙ outcome_accepted _ _ (sym first-test.check_vectors.ensures ∙ told.in-Accepted.is)
+    ∙ outcome_refused _ _ (sym second.check_vectors-in-Accepted.ensures ∙ c.in-Refused-check_vectors.is))
 
-returns_4 : tie.Need-returns-4
+returns_4 : tie.Need-returns-in-Refused
 returns_4 c =
-    let first-test = c.before.before.before in
-    sym (in_turn first-test.before
-    ∙ outcome_refused _ _ (sym first-test.check-vectors.ensures ∙ c.before.cause2.given.1))
+    let first-test = c in
+    sym (in_turn first-test.before.before
+    ∙ outcome_refused _ _ (sym first-test.check_vectors.ensures ∙ c.in-Refused.is))
 
 pub check_contents_spec : {M : Type 1} → statement M
 check_contents_spec =

@@ -22,52 +22,52 @@ library c =
     coded_library c.args.terms.d c.args.terms.b c.args.terms.n c.args.marks.now c.args.codes.now
     c.args.settings.now c.args.vectors.now
 
-abbrev start_of : tie.After-enum-told → tie.Start
-start_of c = c.before.before.before.before.before
+abbrev start_of : tie.In-Accepted → tie.Start
+start_of c = c.before.before.before.before
 
 -- The sizes of the library are tested first, ..
-right : (c : tie.After-enum-told) → first (sizes_of (library (start_of c))) ≡ Accepted
-right c = sym c.before.before.check-library.ensures ∙ c.enum_told.given.1
+right : (c : tie.In-Accepted) → first (sizes_of (library (start_of c))) ≡ Accepted
+right c = sym c.check_library.ensures ∙ c.in-Accepted.is
 
-sizes : (c : tie.After-enum-told) → Measured (library (start_of c))
+sizes : (c : tie.In-Accepted) → Measured (library (start_of c))
 sizes c = measured (library (start_of c)) (right c)
 
 -- .. and only the rows behind them are left.
-left : (c : tie.After-enum-told) (rows : List Row) → first (sizes_of (library (start_of c)) ++ rows) ≡ first rows
+left : (c : tie.In-Accepted) (rows : List Row) → first (sizes_of (library (start_of c)) ++ rows) ≡ first rows
 left c rows = first_append (sizes_of (library (start_of c))) rows ∙ outcome_accepted _ _ (right c)
 
-are_exact_requires : tie.Need-are-exact-requires
+are_exact_requires : tie.Need-are_exact-requires
 are_exact_requires c κs =
     let told = c in
     let l = library (start_of told) in
     (shape l.d l.b (sizes told).shaped, omega (arith, (between 1 l.n max_vectors (sizes told).counted).below))
 
-returns : tie.Need-returns
-returns c = sym (left c.before.before _ ∙ first_here Length _ (told c.before.are-exact.ensures c.if1.true))
+returns : tie.Need-returns-then-not-are_exact
+returns c = sym (left c.before.before _ ∙ first_here Length _ (told c.are_exact.ensures c.if-not-are_exact.true-raw))
 
-passed_lengths : (c : tie.Else1) (rows : List Row) → let start = start_of c.before.before in let l = library start in
+passed_lengths : (c : tie.Else-not-are_exact) (rows : List Row) → let start = start_of c.before.before in let l = library start in
     first (sizes_of l ++ ((not (exact_for l.d l.b (l.n - 1) start.args.room) ⇒ Length) ∷ rows)) ≡ first rows
-passed_lengths c rows = left c.before.before _ ∙ first_next Length rows (told c.before.are-exact.ensures c.if1.false)
+passed_lengths c rows = left c.before.before _ ∙ first_next Length rows (told c.are_exact.ensures c.if-not-are_exact.false-raw)
 
-returns_2 : tie.Need-returns-2
+returns_2 : tie.Need-returns-then-not-is_removable
 returns_2 c =
-    sym (passed_lengths c.before.before _ ∙ first_here NotRemovable _ (told c.before.is-removable.ensures c.if2.true))
+    sym (passed_lengths c.before.before _ ∙ first_here NotRemovable _ (told c.is_removable.ensures c.if-not-is_removable.true-raw))
 
-returns_3 : tie.Need-returns-3
+returns_3 : tie.Need-returns-else-not-is_removable
 returns_3 c =
-    let last = c.before.before in
-    c.check-contents.ensures
-    ∙ sym (passed_lengths last.before.before _
-    ∙ first_next NotRemovable _ (told last.before.is-removable.ensures last.if2.false))
+    let last = c in
+    c.check_contents.ensures
+    ∙ sym (passed_lengths last.before.before.before _
+    ∙ first_next NotRemovable _ (told last.is_removable.ensures last.if-not-is_removable.false-raw))
 
-returns_4 : tie.Need-returns-4
+returns_4 : tie.Need-returns-in-Refused
 returns_4 c =
-    sym (first_append (sizes_of (library c.before.before.before.before.before.before)) _
-    ∙ outcome_refused _ _ (sym c.before.before.before.check-library.ensures ∙ c.before.cause.given.1))
+    sym (first_append (sizes_of (library c.before.before.before.before)) _
+    ∙ outcome_refused _ _ (sym c.check_library.ensures ∙ c.in-Refused.is))
 
-check_contents_requires : tie.Need-check-contents-requires
+check_contents_requires : tie.Need-check_contents-requires
 check_contents_requires c κs =
-    let is = sizes c.before.before.before.before.before in
+    let is = sizes c.before.before.before.before in
     (is.shaped, is.counted, is.of_marks, is.exact.of_codes)
 
 pub check_remove_spec : {M : Type 1} → statement M

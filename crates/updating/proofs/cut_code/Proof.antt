@@ -20,8 +20,8 @@ few c =
 
 returns : tie.Need-returns
 returns c =
-    let made = c.before.before in
-    let start = made.before.before.before.before.before.before in
+    let made = c in
+    let start = made in
     let terms = start.args.terms in
     cut_out start.requires (rw (← suc-mul terms.number terms.b) at made.splice.ensures)
 
@@ -31,9 +31,9 @@ cut_code_spec =
     (tie.spec
     (λ c. omega (arith, few c.before.before.before))
     (λ c.
-    let start = c.before.before.before.before in
+    let start = c in
     let terms = start.args.terms in
-    omega (arith, few start, (shape terms.d terms.b start.requires.shaped).few))
+    omega (arith, few start.before.before.before.before, (shape terms.d terms.b start.requires.shaped).few))
     (λ c κs. search rules)
-    (λ c. c.before.before.splice.auto.1.1.1.1.0)
+    (λ c. c.splice.auto.out)
     returns)

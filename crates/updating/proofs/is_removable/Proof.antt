@@ -4,4 +4,4 @@ use Rattle.updating.proofs.is_removable.Statement.{statement}
 use Rattle.updating.proofs.is_removable.Tie as tie
 
 pub is_removable_spec : {M : Type 1} → statement M
-is_removable_spec = tie.close (tie.spec (λ c. rw (lt-ltb _ _ c.if1.true)) (λ c. rw (le-ltb _ _ c.if1.false)))
+is_removable_spec = tie.close (tie.spec (λ c. rw (lt-ltb _ _ c.if-number-n.true)) (λ c. rw (le-ltb _ _ c.if-number-n.false)))

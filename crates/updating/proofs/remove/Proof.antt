@@ -26,17 +26,17 @@ library c =
 abbrev room : tie.Start → Lengths
 room c = lengths_with (length c.args.newvectors.now) (length c.args.newsettings.now) (length c.args.newcodes.now)
 
-abbrev start_of : tie.After-enum-told → tie.Start
-start_of c = c.before.before.before.before.before.before.before
+abbrev start_of : tie.In-Accepted → tie.Start
+start_of c = c.before.before.before.before.before.before
 
-accepted : (c : tie.After-enum-told)
+accepted : (c : tie.In-Accepted)
     → first (remove_causes (library (start_of c)) (start_of c).args.terms.number (room (start_of c))) ≡ Accepted
-accepted c = sym c.before.before.check-remove.ensures ∙ c.enum_told.given.1
+accepted c = sym c.check_remove.ensures ∙ c.in-Accepted.is
 
-given : (c : tie.After-enum-told) → Removable (library (start_of c)) (start_of c).args.terms.number (room (start_of c))
+given : (c : tie.In-Accepted) → Removable (library (start_of c)) (start_of c).args.terms.number (room (start_of c))
 given c = removable (library (start_of c)) (start_of c).args.terms.number (room (start_of c)) (accepted c)
 
-components_requires : tie.Need-cut-components-requires
+components_requires : tie.Need-cut_components-requires
 components_requires c κs =
     let is = given c.before in
     let start = start_of c.before in
@@ -47,18 +47,18 @@ components_requires c κs =
       omega (arith, is.exact.of_vectors, is.library.exact.of_vectors),
     )
 
-settings_requires : tie.Need-cut-settings-requires
+settings_requires : tie.Need-cut_settings-requires
 settings_requires c κs =
     let is = given c.before.before.before.before in (
       omega (arith, is.stored, is.library.exact.of_settings),
       omega (arith, is.others, is.exact.of_settings, is.library.exact.of_settings),
     )
 
-code_requires : tie.Need-cut-code-requires
+code_requires : tie.Need-cut_code-requires
 code_requires c κs =
-    let told = c.before.before.before.before.before.before.before.before in
-    let is = given told in
-    let l = library (start_of told) in
+    let told = c in
+    let is = given told.before.before.before.before.before.before.before.before in
+    let l = library (start_of told.before.before.before.before.before.before.before.before) in
     record {
       shaped = is.library.shaped;
       few = (between 1 l.n max_vectors is.library.counted).below;
@@ -67,21 +67,21 @@ code_requires c κs =
       spare = ((and-eq-true_iff (no_empty_codes l.d l.b l.marks l.codes l.n) _).0 is.contents.named).1;
     }
 
-returns : tie.Need-returns
+returns : tie.Need-returns-in-Accepted
 returns c =
-    let coded = c.before.before in
-    let settled = coded.before.before.before.before in
-    let put = settled.before.before.before in
-    let is = accepted put.before.before in (
+    let coded = c in
+    let settled = coded in
+    let put = settled in
+    let is = accepted put.before.before.before.before.before.before.before.before.before.before.before in (
       sym is,
-      put.cut-components.ensures ∙ sym (outcome_accepted _ _ is),
-      settled.cut-settings.ensures ∙ sym (outcome_accepted _ _ is),
-      coded.cut-code.ensures ∙ sym (outcome_accepted _ _ is),
+      put.cut_components.ensures ∙ sym (outcome_accepted _ _ is),
+      settled.cut_settings.ensures ∙ sym (outcome_accepted _ _ is),
+      coded.cut_code.ensures ∙ sym (outcome_accepted _ _ is),
     )
 
-returns_2 : tie.Need-returns-2
+returns_2 : tie.Need-returns-in-Refused
 returns_2 c =
-    let is = sym c.before.before.before.check-remove.ensures ∙ c.before.cause.given.1 in
+    let is = sym c.check_remove.ensures ∙ c.in-Refused.is in
     (sym is, sym (outcome_refused _ _ is), sym (outcome_refused _ _ is), sym (outcome_refused _ _ is))
 
 pub remove_spec : {M : Type 1} → statement M
@@ -94,8 +94,8 @@ remove_spec =
     settings_requires
     code_requires
     (λ c. search rules)
-    (λ c. c.before.before.before.before.before.before.before.before.before.cut-components.auto.1.1.1.0)
-    (λ c. c.before.before.before.before.before.before.cut-settings.auto.1.1.0)
-    (λ c. c.before.before.cut-code.auto.1.1.0)
+    (λ c. c.cut_components.auto.out)
+    (λ c. c.cut_settings.auto.out)
+    (λ c. c.cut_code.auto.newcodes)
     returns
     returns_2)

@@ -10,12 +10,12 @@ pub append_setting_spec : {M : Type 1} → statement M
 append_setting_spec =
     tie.close
     (tie.spec
-    (λ c κs. omega (arith, c.before.before.before.requires))
+    (λ c κs. omega (arith, c.requires))
     (λ c. search rules)
-    (λ c. omega (arith, c.before.before.put-settings.auto.1.1.0, c.before.before.before.before.before.before.requires))
-    (λ c. simp length-set c.before.before.put-settings.auto.1.1.0)
+    (λ c. omega (arith, c.put_settings.auto.out, c.requires))
+    (λ c. simp length-set c.put_settings.auto.out)
     (λ c.
-    let first = c.before.before in
-    let start = first.before.before.before.before in
-    rw first.put-settings.ensures
+    let first = c in
+    let start = first in
+    rw first.put_settings.ensures
     (paste_one start.args.out.now start.args.settings.now start.args.setting start.requires)))

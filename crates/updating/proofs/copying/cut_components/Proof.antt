@@ -18,40 +18,40 @@ before_row : (c : tie.Start) → length (take (c.args.i * c.args.d) c.args.vecto
 before_row c = length-take-le (c.args.i * c.args.d) c.args.vectors.now (omega (arith, row c))
 
 -- The buffer keeps its length.
-kept : (c : tie.After-put-components) → length c.put-components.new.1.1.0 ≡ length c.before.before.before.args.out.now
-kept c = c.put-components.auto.1.1.0
+kept : (c : tie.After-put_components) → length c.put_components.new.out ≡ length c.args.out.now
+kept c = c.put_components.auto.out
 
-put_requires : tie.Need-put-components-requires-2
+put_requires : tie.Need-put_components-requires-2
 put_requires c κs =
-    let first = c.before.before.before in
-    let start = first.before.before.before in
+    let first = c in
+    let start = first in
     let args = start.args in
-    omega (arith, rest_length args.vectors.now (args.i * args.d + args.d), kept first, row start, start.requires.1)
+    omega (arith, rest_length args.vectors.now (args.i * args.d + args.d), kept first.before.before.before, row start.before.before.before.before.before, start.requires.1)
 
 returns : tie.Need-returns
 returns c =
-    let made = c.before in
-    let first = made.before.before.before.before in
-    let start = first.before.before.before in
+    let made = c in
+    let first = made in
+    let start = first in
     let args = start.args in
     let from = args.i * args.d in
     let next : suc args.i * args.d ≡ from + args.d = suc-mul args.i args.d in
     rw next
-    (paste_cut args.vectors.now from (from + args.d) (omega (arith, row start)) args.out.now _ _
-    (omega (arith, row start, start.requires.1)) first.put-components.ensures made.put-components2.ensures)
+    (paste_cut args.vectors.now from (from + args.d) (omega (arith, row start.before.before.before.before.before.before.before)) args.out.now _ _
+    (omega (arith, row start.before.before.before.before.before.before.before, start.requires.1)) first.put_components.ensures made.put_components-2.ensures)
 
 pub cut_components_spec : {M : Type 1} → statement M
 cut_components_spec =
     tie.close
     (tie.spec
-    (λ c. omega (arith, row c, c.well-formed))
-    (λ c. omega (arith, row c, c.well-formed))
-    (λ c. sym (before_row c.before))
-    (λ c κs. omega (arith, before_row c.before.before, row c.before.before, c.before.before.requires.1))
-    (λ c. omega (arith, row c.before.before.before.before, c.before.before.before.before.well-formed))
-    (λ c. row c.before.before.before.before)
+    (λ c. omega (arith, row c, c.well_formed))
+    (λ c. omega (arith, row c, c.well_formed))
+    (λ c. sym (before_row c))
+    (λ c κs. omega (arith, before_row c.before, row c.before, c.requires.1))
+    (λ c. omega (arith, row c.before.before.before, c.well_formed))
+    (λ c. row c.before.before.before)
     (λ c. search rules)
     (λ c. search rules)
     put_requires
-    (λ c. c.before.put-components2.auto.1.1.0 ∙ kept c.before.before.before.before.before)
+    (λ c. c.put_components-2.auto.out ∙ kept c.before.before.before.before.before)
     returns)

@@ -15,25 +15,25 @@ before_it : (c : tie.Start) → length (take c.args.i c.args.settings.now) ≡ c
 before_it c = length-take-le c.args.i c.args.settings.now (omega (arith, c.requires.0))
 
 -- The buffer keeps its length.
-kept : (c : tie.After-put-settings)
-    → length c.put-settings.new.1.1.0 ≡ length c.before.before.before.before.before.args.out.now
-kept c = c.put-settings.auto.1.1.0
+kept : (c : tie.After-put_settings)
+    → length c.put_settings.new.out ≡ length c.args.out.now
+kept c = c.put_settings.auto.out
 
-put_requires : tie.Need-put-settings-requires-2
+put_requires : tie.Need-put_settings-requires-2
 put_requires c κs =
-    let first = c.before.before.before.before in
-    let start = first.before.before.before.before.before in
+    let first = c in
+    let start = first in
     let args = start.args in
-    omega (arith, rest_length args.settings.now (args.i + 1), kept first, start.requires.0, start.requires.1)
+    omega (arith, rest_length args.settings.now (args.i + 1), kept first.before.before.before.before, start.requires.0, start.requires.1)
 
 returns : tie.Need-returns
 returns c =
-    let made = c.before.before in
-    let first = made.before.before.before.before.before in
-    let start = first.before.before.before.before.before in
+    let made = c in
+    let first = made in
+    let start = first in
     let args = start.args in
     let both = paste_cut args.settings.now args.i (args.i + 1) (omega (arith, start.requires.0)) args.out.now _ _
-    (omega (arith, start.requires.0, start.requires.1)) first.put-settings.ensures made.put-settings2.ensures in
+    (omega (arith, start.requires.0, start.requires.1)) first.put_settings.ensures made.put_settings-2.ensures in
     rw (mul-one args.i, mul-one (suc args.i)) (rw (add-one args.i) at both)
 
 pub cut_settings_spec : {M : Type 1} → statement M
@@ -41,14 +41,14 @@ cut_settings_spec =
     tie.close
     (tie.spec
     (λ c. search rules)
-    (λ c. sym (before_it c.before.before.before))
+    (λ c. sym (before_it c.before.before))
     (λ c κs.
-    let start = c.before.before.before.before in
-    omega (arith, before_it start, start.requires.0, start.requires.1))
+    let start = c in
+    omega (arith, before_it start.before.before.before, start.requires.0, start.requires.1))
     (λ c. search rules)
-    (λ c. omega (arith, c.before.before.before.before.before.before.before.requires.0))
+    (λ c. omega (arith, c.requires.0))
     (λ c. search rules)
     (λ c. search rules)
     put_requires
-    (λ c. c.before.before.put-settings2.auto.1.1.0 ∙ kept c.before.before.before.before.before.before.before)
+    (λ c. c.put_settings-2.auto.out ∙ kept c.before.before.before.before.before.before.before)
     returns)

@@ -7,16 +7,16 @@ use Rattle.updating.proofs.Pasting.{Pasting, starts, pastes, pasted}
 use Rattle.updating.proofs.copying.put_settings.Statement.{statement}
 use Rattle.updating.proofs.copying.put_settings.Tie as tie
 
-abbrev invariant_loop : tie.invariant_loop
+abbrev invariant_loop : tie.invariant-loop-i
 invariant_loop from at before i₀ out i = Pasting from at before out i
 
-abbrev decreases_loop : tie.decreases_loop
+abbrev decreases_loop : tie.decreases-loop-i
 decreases_loop from at before i₀ out i = length from - i
 
-loop_again : tie.Need-loop-preserved invariant_loop decreases_loop
+loop_again : tie.Need-loop-i-preserved invariant_loop decreases_loop
 loop_again c =
-    let at = c.before.before in
-    pastes at.loop.invariant at.before.requires c.before.loop-test.true 0
+    let at = c in
+    pastes at.loop-i.invariant at.requires c.loop-i-test.true 0
 
 pub put_settings_spec : {M : Type 1} → statement M
 put_settings_spec =
@@ -29,9 +29,9 @@ put_settings_spec =
     (λ c. search rules)
     (λ c. search rules)
     (λ c. search rules)
-    (λ c. omega (arith, c.before.before.loop.invariant.room, c.before.before.before.requires))
+    (λ c. omega (arith, c.loop-i.invariant.room, c.requires))
     (λ c. search rules)
     (λ c. omega arith)
     loop_again
-    (λ c. c.before.loop.invariant.room)
-    (λ c. pasted c.before.loop.invariant c.before.before.requires c.loop-test.false))
+    (λ c. c.loop-i.invariant.room)
+    (λ c. pasted c.loop-i.invariant c.requires c.loop-i-test.false))

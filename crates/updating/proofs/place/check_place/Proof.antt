@@ -9,6 +9,6 @@ pub check_place_spec : {M : Type 1} → statement M
 check_place_spec =
     tie.close
     (tie.spec
-    (λ c. sym (first_here Length _ c.if1.true))
-    (λ c. sym (first_next Length _ c.before.if1.false ∙ first_here Full _ c.if2.true))
-    (λ c. sym (first_next Length _ c.before.if1.false ∙ first_next Full _ c.if2.false ∙ first_none)))
+    (λ c. sym (first_here Length _ c.if-inexact.true-raw))
+    (λ c. sym (first_next Length _ c.if-inexact.false-raw ∙ first_here Full _ c.if-full.true-raw))
+    (λ c. sym (first_next Length _ c.if-inexact.false-raw ∙ first_next Full _ c.if-full.false-raw ∙ first_none)))
