@@ -10,8 +10,10 @@ type Groups = Vec<(String, Names)>;
 fn listed(crates: &str) -> BTreeMap<String, BTreeSet<String>> {
     let lines = crates.lines().filter_map(|line| line.split('#').next()?.split_once(':'));
     let words = |text: &str| text.split_whitespace().map(str::to_string).collect();
+    // behind the name may stand that it is a static library
+    let name = |head: &str| head.split_whitespace().next().unwrap_or_default().to_string();
     let listed: BTreeMap<String, BTreeSet<String>> =
-        lines.map(|(name, others)| (name.trim().to_string(), words(others))).collect();
+        lines.map(|(head, others)| (name(head), words(others))).collect();
     let inside =
         |others: &BTreeSet<String>| others.iter().filter(|other| listed.contains_key(*other)).cloned().collect();
     listed.iter().map(|(name, others)| (name.clone(), inside(others))).collect()

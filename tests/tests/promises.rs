@@ -51,7 +51,7 @@ fn has_public_function(source: &Path) -> bool {
 fn no_public_function_without_edits_that_must_fail() {
     let listed = read("crates.txt").expect("crates.txt can be read");
     let lines = listed.lines().map(|line| line.split('#').next().unwrap_or_default());
-    let names: Vec<&str> = lines.filter_map(|line| Some(line.split_once(':')?.0.trim())).collect();
+    let names: Vec<&str> = lines.filter_map(|line| line.split_once(':')?.0.split_whitespace().next()).collect();
     let folder = |name: &str| root().join("crates").join(name);
     let is_public = |name: &&str| {
         let src = folder(name).join("src");

@@ -1,5 +1,6 @@
 // A library loaded from bytes: one pass over the bytes finds the verdict, and a second fills the buffers.
 #![tactic(auto)]
+
 mod check;
 mod fill;
 mod values;

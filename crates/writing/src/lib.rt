@@ -1,5 +1,6 @@
 // A library written to bytes.
 #![tactic(auto)]
+
 mod check;
 mod put;
 

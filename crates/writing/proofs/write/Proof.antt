@@ -5,15 +5,15 @@ use Rattle.refusal.specs.First.{outcome_accepted, outcome_refused}
 use Rattle.writing.proofs.write.Statement.{statement}
 use Rattle.writing.proofs.write.Tie as tie
 
-returns : tie.Need-returns
+returns : tie.Need-returns-in-Accepted
 returns c =
-    let told = c.before.before.before.before in
-    let passes = sym told.before.before.check-library.ensures ∙ told.enum_told.given.1 in
-    (sym passes, c.before.before.write-all.ensures ∙ sym (outcome_accepted _ _ passes))
+    let told = c in
+    let passes = sym told.check_library.ensures ∙ told.in-Accepted.is in
+    (sym passes, c.write_all.ensures ∙ sym (outcome_accepted _ _ passes))
 
-returns_2 : tie.Need-returns-2
+returns_2 : tie.Need-returns-in-Refused
 returns_2 c =
-    let refused = sym c.before.before.before.check-library.ensures ∙ c.before.cause.given.1 in
+    let refused = sym c.check_library.ensures ∙ c.in-Refused.is in
     (sym refused, sym (outcome_refused _ _ refused))
 
 pub write_spec : {M : Type 1} → statement M
@@ -22,7 +22,7 @@ write_spec =
     (tie.spec
     (λ c κs. search rules)
     (λ c. search rules)
-    (λ c κs. sym c.before.before.before.check-library.ensures ∙ c.before.enum_told.given.1)
+    (λ c κs. sym c.check_library.ensures ∙ c.in-Accepted.is)
     (λ c. search rules)
     (λ c. search rules)
     returns

@@ -31,33 +31,33 @@ module _ (c : tie.Start) where
       ∙ ap (λ (m : ℕ). 5 + m * 5 + c.args.n * 69 + 1) (sym marks_counted)
 
 -- the states behind the head and behind the marks, and the start
-abbrev before_head : tie.After-write-head → tie.Start
+abbrev before_head : tie.After-write_head → tie.Start
 before_head c = c.before.before.before.before
 
-abbrev before_marks : tie.After-write-marks → tie.After-write-head
+abbrev before_marks : tie.After-write_marks → tie.After-write_head
 before_marks c = c.before.before.before.before
 
-abbrev before_vectors : tie.After-write-vectors → tie.After-write-marks
+abbrev before_vectors : tie.After-write_vectors → tie.After-write_marks
 before_vectors c = c.before.before.before.before
 
-abbrev begin : tie.After-write-vectors → tie.Start
+abbrev begin : tie.After-write_vectors → tie.Start
 begin c = before_head (before_marks (before_vectors c))
 
-write_head_requires : tie.Need-write-head-requires
+write_head_requires : tie.Need-write_head-requires
 write_head_requires c κs = rw (mark_place_lem 0) (omega (arith, whole c.before.before.before))
 
-write_marks_requires : tie.Need-write-marks-requires
+write_marks_requires : tie.Need-write_marks-requires
 write_marks_requires c κs =
-    let head = c.before.before.before in
-    let start = before_head head in (
+    let head = c in
+    let start = before_head head.before.before.before in (
       omega (arith, few_marks start),
-      rw (mark_place_lem (length start.args.marks.now)) (omega (arith, whole start, head.write-head.auto)),
+      rw (mark_place_lem (length start.args.marks.now)) (omega (arith, whole start, head.write_head.auto.bytes)),
     )
 
-write_vectors_requires : tie.Need-write-vectors-requires
+write_vectors_requires : tie.Need-write_vectors-requires
 write_vectors_requires c κs =
-    let marks = c.before.before.before in
-    let head = before_marks marks in
+    let marks = c in
+    let head = before_marks marks.before.before.before in
     let start = before_head head in
     record {
       few_dimensions = (can start).shaped.few;
@@ -67,13 +67,13 @@ write_vectors_requires c κs =
       components_count = (can start).sizes.components_count;
       of_components = (can start).components;
       fits = rw (vector_place_lem (length start.args.marks.now) start.args.n)
-          (omega (arith, whole start, head.write-head.kept, marks.write-marks.auto));
+          (omega (arith, whole start, head.write_head.auto.bytes, marks.write_marks.auto.bytes));
     }
 
-put_byte_requires : tie.Need-put-byte-requires
+put_byte_requires : tie.Need-put_byte-requires
 put_byte_requires c κs =
-    let vectors = c.before.before.before.before in
-    let marks = before_vectors vectors in
+    let vectors = c in
+    let marks = before_vectors vectors.before.before.before.before in
     let head = before_marks marks in
     let start = before_head head in
     omega (
@@ -81,42 +81,42 @@ put_byte_requires c κs =
       c.vector_place.ensures,
       vector_place_lem (length start.args.marks.now) start.args.n,
       whole start,
-      head.write-head.kept,
-      marks.write-marks.kept,
-      vectors.write-vectors.auto,
+      head.write_head.auto.bytes,
+      marks.write_marks.auto.bytes,
+      vectors.write_vectors.auto.bytes,
     )
 
 -- the buffer's length is kept by all four
-kept : (c : tie.After-put-byte)
-    → length c.put_byte.new.0 ≡ length (begin c.before.before.before.before.before).args.bytes.now
+kept : (c : tie.After-put_byte)
+    → length c.put_byte.new.bytes ≡ length (begin c.before.before.before.before.before).args.bytes.now
 kept c =
-    let vectors = c.before.before.before.before.before in
-    let marks = before_vectors vectors in
+    let vectors = c in
+    let marks = before_vectors vectors.before.before.before.before.before in
     let head = before_marks marks in
-    c.put_byte.auto.0 ∙ vectors.write-vectors.auto.1.1.1.1.1.0 ∙ marks.write-marks.kept.1.0
-    ∙ head.write-head.kept.1.1.1.0
+    c.put_byte.auto.bytes ∙ vectors.write_vectors.auto.bytes ∙ marks.write_marks.auto.bytes
+    ∙ head.write_head.auto.bytes
 
 returns : tie.Need-returns
 unfolding library_bytes
 returns c =
-    let last = c.before.before in
-    let vectors = last.before.before.before.before.before in
-    let marks = before_vectors vectors in
+    let last = c in
+    let vectors = last in
+    let marks = before_vectors vectors.before.before.before.before.before.before.before in
     let head = before_marks marks in
     let start = before_head head in
     let m = length start.args.marks.now in
-    let full : last.before.vector_place.result + 1 ≡ length last.put_byte.new.0 =
-    omega (arith, last.before.vector_place.ensures, vector_place_lem m start.args.n, whole start, kept last) in
+    let full : last.vector_place.result + 1 ≡ length last.put_byte.new.bytes =
+    omega (arith, last.vector_place.ensures, vector_place_lem m start.args.n, whole start, kept last.before.before) in
     let from : vector_place m 0 ≡ mark_place m = omega (arith, vector_place_lem m 0, mark_place_lem m) in
     let filled = rw full at last.put_byte.ensures in
-    sym (take_all (length last.put_byte.new.0) last.put_byte.new.0 (omega arith))
+    sym (take_all (length last.put_byte.new.bytes) last.put_byte.new.bytes (omega arith))
     ∙ filled
     ∙ rw (
-      last.before.vector_place.ensures,
-      vectors.write-vectors.ensures,
+      last.vector_place.ensures,
+      vectors.write_vectors.ensures,
       from,
-      marks.write-marks.ensures,
-      head.write-head.ensures,
+      marks.write_marks.ensures,
+      head.write_head.ensures,
       marks_counted start,
       end_part,
     )

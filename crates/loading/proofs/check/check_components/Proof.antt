@@ -3,26 +3,26 @@ use Rattle.refusal.specs.First.{first}
 use Rattle.loading.proofs.check.check_components.Statement.{statement}
 use Rattle.loading.proofs.check.check_components.Tie as tie
 
-returns : tie.Need-returns
+returns : tie.Need-returns-then-not-zero
 unfolding first
-returns c = rw (← c.before.before.is-zero-beyond.ensures, c.if1.true)
+returns c = rw (← c.is_zero_beyond-zero.ensures, c.if-not-zero.true-raw)
 
-returns_2 : tie.Need-returns-2
+returns_2 : tie.Need-returns-then-not-inside
 unfolding first
 returns_2 c =
-    rw (← c.before.before.before.is-zero-beyond.ensures, c.before.if1.false, ← c.before.before.is-between.ensures, c.if2.true)
+    rw (← c.is_zero_beyond-zero.ensures, c.if-not-zero.false-raw, ← c.is_between-inside.ensures, c.if-not-inside.true-raw)
 
-returns_3 : tie.Need-returns-3
+returns_3 : tie.Need-returns
 unfolding first
 returns_3 c =
-    rw (← c.before.before.before.is-zero-beyond.ensures, c.before.if1.false, ← c.before.before.is-between.ensures, c.if2.false)
+    rw (← c.is_zero_beyond-zero.ensures, c.if-not-zero.false-raw, ← c.is_between-inside.ensures, c.if-not-inside.false-raw)
 
 pub check_components_spec : {M : Type 1} → statement M
 check_components_spec =
     tie.close
     (tie.spec
-    (λ c κs. c.before.requires.1)
-    (λ c κs. (c.before.before.requires.0, c.before.before.requires.1))
+    (λ c κs. c.requires.1)
+    (λ c κs. (c.requires.0, c.requires.1))
     returns
     returns_2
     returns_3)

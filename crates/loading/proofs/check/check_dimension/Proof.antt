@@ -11,32 +11,32 @@ use Rattle.loading.specs.Load.{mark_causes}
 use Rattle.loading.proofs.check.check_dimension.Statement.{statement}
 use Rattle.loading.proofs.check.check_dimension.Tie as tie
 
-abbrev invariant_loop : tie.invariant_loop
+abbrev invariant_loop : tie.invariant-loop-i
 invariant_loop bytes from count i₀ i = (i ≤ count) × (first (each i (mark_causes bytes from)) ≡ Accepted)
 
-abbrev decreases_loop : tie.decreases_loop
+abbrev decreases_loop : tie.decreases-loop-i
 decreases_loop bytes from count i₀ i = count - i
 
-loop_again : tie.Need-loop-preserved invariant_loop decreases_loop
+loop_again : tie.Need-loop-i-preserved invariant_loop decreases_loop
 loop_again c =
-    let now = c.before.before.before.before in
-    let args = now.before.before.args in
-    let passes = sym c.before.before.check-mark.ensures ∙ c.enum_told.given.1 in
-    (omega arith, each_more now.loop.i (mark_causes args.bytes.now args.from) now.loop.invariant.1 passes)
+    let now = c in
+    let args = now.args in
+    let passes = sym c.check_mark.ensures ∙ c.in-Accepted.is in
+    (omega arith, each_more now.loop-i.i (mark_causes args.bytes.now args.from) now.loop-i.invariant.1 passes)
 
-returns : tie.Need-returns invariant_loop decreases_loop
+returns : tie.Need-returns-in-Refused invariant_loop decreases_loop
 returns c =
-    let here = c.before.before.before in
-    let now = here.before.before in
-    let args = now.before.before.args in
-    let refused = sym here.check-mark.ensures ∙ c.before.cause.given.1 in
-    sym (each_stops args.count (mark_causes args.bytes.now args.from) now.loop.i here.before.loop-test.true
-    now.loop.invariant.1 refused)
+    let here = c in
+    let now = here in
+    let args = now.args in
+    let refused = sym here.check_mark.ensures ∙ c.in-Refused.is in
+    sym (each_stops args.count (mark_causes args.bytes.now args.from) now.loop-i.i here.loop-i-test.true
+    now.loop-i.invariant.1 refused)
 
-returns_2 : tie.Need-returns-2 invariant_loop decreases_loop
+returns_2 : tie.Need-returns invariant_loop decreases_loop
 returns_2 c =
-    let now = c.before.loop in
-    let all : now.i ≡ c.before.before.before.args.count = omega (arith, now.invariant.0, c.loop-test.false) in
+    let now = c.loop-i in
+    let all : now.i ≡ c.args.count = omega (arith, now.invariant.0, c.loop-i-test.false) in
     sym (rw all at now.invariant.1)
 
 pub check_dimension_spec : {M : Type 1} → statement M

@@ -19,42 +19,42 @@ use Rattle.loading.proofs.check.check_each.Tie as tie
 abbrev causes : List ℕ → ℕ → ℕ → List ℤ → List ℤ → ℕ → List Row
 causes bytes d m lows highs i = between_causes d lows highs (drop (vector_place m i) bytes)
 
-abbrev invariant_loop : tie.invariant_loop
+abbrev invariant_loop : tie.invariant-loop-i
 invariant_loop bytes d m n lows highs i₀ i = (i ≤ n) × (first (each i (causes bytes d m lows highs)) ≡ Accepted)
 
-abbrev decreases_loop : tie.decreases_loop
+abbrev decreases_loop : tie.decreases-loop-i
 decreases_loop bytes d m n lows highs i₀ i = n - i
 
 -- the verdict on a vector
-here : (c : tie.After-check-vector invariant_loop decreases_loop) → let now = c.before.before.before in let args = now.before.before.args in
-    c.check-vector.result ≡ first (causes args.bytes.now args.d args.m args.lows.now args.highs.now now.loop.i)
-here c = c.check-vector.ensures ∙ rw c.before.vector_place.ensures
+here : (c : tie.After-check_vector invariant_loop decreases_loop) → let now = c in let args = now.args in
+    c.check_vector.result ≡ first (causes args.bytes.now args.d args.m args.lows.now args.highs.now now.loop-i.i)
+here c = c.check_vector.ensures ∙ rw c.vector_place.ensures
 
-loop_again : tie.Need-loop-preserved invariant_loop decreases_loop
+loop_again : tie.Need-loop-i-preserved invariant_loop decreases_loop
 loop_again c =
-    let vector = c.before.before in
-    let now = vector.before.before.before in
-    let args = now.before.before.args in
-    let passes = sym (here vector) ∙ c.enum_told.given.1 in (
-      omega (arith, vector.before.before.loop-test.true),
-      each_more now.loop.i (causes args.bytes.now args.d args.m args.lows.now args.highs.now)
-          now.loop.invariant.1 passes,
+    let vector = c in
+    let now = vector in
+    let args = now.args in
+    let passes = sym (here vector.before) ∙ c.in-Accepted.is in (
+      omega (arith, vector.loop-i-test.true),
+      each_more now.loop-i.i (causes args.bytes.now args.d args.m args.lows.now args.highs.now)
+          now.loop-i.invariant.1 passes,
     )
 
-returns : tie.Need-returns invariant_loop decreases_loop
+returns : tie.Need-returns-in-Refused invariant_loop decreases_loop
 returns c =
-    let vector = c.before.before.before in
-    let now = vector.before.before.before in
-    let args = now.before.before.args in
-    let refused = sym (here vector) ∙ c.before.cause.given.1 in
-    sym (each_stops args.n (causes args.bytes.now args.d args.m args.lows.now args.highs.now) now.loop.i
-    vector.before.before.loop-test.true now.loop.invariant.1 refused)
+    let vector = c in
+    let now = vector in
+    let args = now.args in
+    let refused = sym (here vector.before) ∙ c.in-Refused.is in
+    sym (each_stops args.n (causes args.bytes.now args.d args.m args.lows.now args.highs.now) now.loop-i.i
+    vector.loop-i-test.true now.loop-i.invariant.1 refused)
 
-returns_2 : tie.Need-returns-2 invariant_loop decreases_loop
+returns_2 : tie.Need-returns invariant_loop decreases_loop
 returns_2 c =
-    let now = c.before in
-    let all : now.loop.i ≡ now.before.before.args.n = omega (arith, now.loop.invariant.0, c.loop-test.false) in
-    sym (rw all at now.loop.invariant.1)
+    let now = c in
+    let all : now.loop-i.i ≡ now.args.n = omega (arith, now.loop-i.invariant.0, c.loop-i-test.false) in
+    sym (rw all at now.loop-i.invariant.1)
 
 pub check_each_spec : {M : Type 1} → statement M
 unfolding each
@@ -64,13 +64,13 @@ check_each_spec =
     invariant_loop
     decreases_loop
     (λ c. (omega arith, first_none))
-    (λ c. omega (arith, c.before.before.before.requires.1))
-    (λ c. omega (arith, c.before.before.before.requires.2, c.loop-test.true))
+    (λ c. omega (arith, c.requires.1))
+    (λ c. omega (arith, c.requires.2, c.loop-i-test.true))
     (λ c κs. search rules)
-    (λ c κs. c.before.before.before.before.requires.0)
+    (λ c κs. c.requires.0)
     (λ c. search rules)
-    (λ c. omega (arith, c.before.before.before.before.loop-test.true))
-    (λ c. omega (arith, c.before.before.before.before.loop-test.true))
+    (λ c. omega (arith, c.loop-i-test.true))
+    (λ c. omega (arith, c.loop-i-test.true))
     loop_again
     (λ c. search rules)
     returns

@@ -12,26 +12,26 @@ use Rattle.loading.proofs.check.check_head.Statement.{statement}
 use Rattle.loading.proofs.check.check_head.Tie as tie
 
 -- the frame's verdict
-frame : (c : tie.After-check-frame) → let bytes = c.before.before.before.before.args.bytes.now in
-    c.check-frame.result ≡ first (frame_causes (eqb (kind_of bytes) head_kind) bytes)
+frame : (c : tie.After-check_frame) → let bytes = c.args.bytes.now in
+    c.check_frame.result ≡ first (frame_causes (eqb (kind_of bytes) head_kind) bytes)
 frame c =
-    frame_at {place = 0} head_kind c.before.before.before.before.args.bytes.now refl c.before.byte_at.ensures
-    c.check-frame.ensures
+    frame_at {place = 0} head_kind c.args.bytes.now refl c.byte_at.ensures
+    c.check_frame.ensures
 
-returns : tie.Need-returns
+returns : tie.Need-returns-in-Accepted
 unfolding read_library
 returns c =
-    let framed = c.before.before.before in
-    let bytes = framed.before.before.before.before.args.bytes.now in
-    let is = framed.before.before.Counts-of.ensures in
-    let passes = sym (frame framed) ∙ c.before.enum_told.given.1 in
-    c.check-counts.ensures ∙ rw (is.0, is.1, is.2) (sym (go_on (frame_causes (eqb (kind_of bytes) head_kind) bytes) _ passes))
+    let framed = c in
+    let bytes = framed.args.bytes.now in
+    let is = framed.counts_of-counts.ensures in
+    let passes = sym (frame framed.before.before) ∙ c.in-Accepted.is in
+    c.check_counts.ensures ∙ rw (is.0, is.1, is.2) (sym (go_on (frame_causes (eqb (kind_of bytes) head_kind) bytes) _ passes))
 
-returns_2 : tie.Need-returns-2
+returns_2 : tie.Need-returns-in-Refused
 returns_2 c =
-    let framed = c.before.before.before in
-    let bytes = framed.before.before.before.before.args.bytes.now in
-    sym (stop (frame_causes (eqb (kind_of bytes) head_kind) bytes) _ (sym (frame framed) ∙ c.before.cause.given.1))
+    let framed = c in
+    let bytes = framed.args.bytes.now in
+    sym (stop (frame_causes (eqb (kind_of bytes) head_kind) bytes) _ (sym (frame framed.before) ∙ c.in-Refused.is))
 
 pub check_head_spec : {M : Type 1} → statement M
 check_head_spec =

@@ -17,37 +17,37 @@ use Rattle.loading.proofs.check.check_mark.Statement.{statement}
 use Rattle.loading.proofs.check.check_mark.Tie as tie
 
 -- the frame's verdict
-frame : (c : tie.After-check-frame) → let args = c.before.before.before.before.args in
+frame : (c : tie.After-check_frame) → let args = c.args in
     let rest = drop (mark_place (args.from + args.i)) args.bytes.now in
-    c.check-frame.result ≡ first (frame_causes (eqb (kind_of rest) mark_kind) rest)
+    c.check_frame.result ≡ first (frame_causes (eqb (kind_of rest) mark_kind) rest)
 frame c =
-    frame_at mark_kind c.before.before.before.before.args.bytes.now c.before.before.mark_place.ensures
-    c.before.byte_at.ensures c.check-frame.ensures
+    frame_at mark_kind c.args.bytes.now c.mark_place-at.ensures
+    c.byte_at.ensures c.check_frame.ensures
 
 -- behind a frame that passes, the mark is what is left to test
-own : (c : tie.After-is-mark-wrong) → let args = c.before.before.before.before.before.before.before.args in
-    first (mark_causes args.bytes.now args.from args.i) ≡ first ((c.is-mark-wrong.result ⇒ Mark) ∷ [])
+own : (c : tie.After-is_mark_wrong) → let args = c.args in
+    first (mark_causes args.bytes.now args.from args.i) ≡ first ((c.is_mark_wrong.result ⇒ Mark) ∷ [])
 own c =
-    let framed = c.before.before.before in
-    let args = framed.before.before.before.before.args in
+    let framed = c in
+    let args = framed.args in
     let rest = drop (mark_place (args.from + args.i)) args.bytes.now in
-    go_on (frame_causes (eqb (kind_of rest) mark_kind) rest) _ (sym (frame framed) ∙ c.before.enum_told.given.1)
-    ∙ rw (← c.is-mark-wrong.ensures)
+    go_on (frame_causes (eqb (kind_of rest) mark_kind) rest) _ (sym (frame framed.before.before) ∙ c.in-Accepted.is)
+    ∙ rw (← c.is_mark_wrong.ensures)
 
-returns : tie.Need-returns
+returns : tie.Need-returns-then-is_mark_wrong
 unfolding first
-returns c = sym (own c.before ∙ rw c.if1.true)
+returns c = sym (own c.before ∙ rw c.if-is_mark_wrong.true)
 
-returns_2 : tie.Need-returns-2
+returns_2 : tie.Need-returns-else-is_mark_wrong
 unfolding first
-returns_2 c = sym (own c.before ∙ rw c.if1.false)
+returns_2 c = sym (own c.before ∙ rw c.if-is_mark_wrong.false)
 
-returns_3 : tie.Need-returns-3
+returns_3 : tie.Need-returns-in-Refused
 returns_3 c =
-    let framed = c.before.before.before in
-    let args = framed.before.before.before.before.args in
+    let framed = c in
+    let args = framed.args in
     let rest = drop (mark_place (args.from + args.i)) args.bytes.now in
-    sym (stop (frame_causes (eqb (kind_of rest) mark_kind) rest) _ (sym (frame framed) ∙ c.before.cause.given.1))
+    sym (stop (frame_causes (eqb (kind_of rest) mark_kind) rest) _ (sym (frame framed.before) ∙ c.in-Refused.is))
 
 pub check_mark_spec : {M : Type 1} → statement M
 check_mark_spec =

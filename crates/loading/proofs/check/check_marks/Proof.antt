@@ -21,93 +21,93 @@ use Rattle.loading.proofs.check.check_marks.Tie as tie
 abbrev causes : List ℕ → ℕ → ℕ → ℕ → List Row
 causes bytes d b t = each (mark_count d b (suc t)) (mark_causes bytes (first_marks d b t))
 
-abbrev invariant_loop : tie.invariant_loop
+abbrev invariant_loop : tie.invariant-loop-t
 invariant_loop bytes counts t₀ t = (t ≤ counts.d) × (first (each t (causes bytes counts.d counts.b)) ≡ Accepted)
 
-abbrev decreases_loop : tie.decreases_loop
+abbrev decreases_loop : tie.decreases-loop-t
 decreases_loop bytes counts t₀ t = counts.d - t
 
 -- the head
-head : (c : tie.After-counts-of invariant_loop decreases_loop) → let counts = c.Counts-of.result in
-    HeadOf c.before.before.args.bytes.now counts.d counts.b counts.n
+head : (c : tie.After-counts_of-counts invariant_loop decreases_loop) → let counts = c.counts_of-counts.result in
+    HeadOf c.args.bytes.now counts.d counts.b counts.n
 head c =
-    let start = c.before.before in
-    let is = c.Counts-of.ensures in
+    let start = c in
+    let is = c.counts_of-counts.ensures in
     head_of start.args.bytes.now start.requires is.0 is.1 is.2
 
 regions_requires : tie.Need-regions-requires invariant_loop decreases_loop
 regions_requires c κs =
-    let now = c.before.before.before in
-    let counts = now.before.Counts-of.result in
-    stretch_bits counts.d counts.b now.loop.t (head now.before).of_shape.shape_passes c.before.if1.true
-    c.stretch-of.ensures
+    let now = c in
+    let counts = now.counts_of-counts.result in
+    stretch_bits counts.d counts.b now.loop-t.t (head now.before.before.before.before).of_shape.shape_passes c.loop-t-test.true
+    c.stretch_of-stretch.ensures
 
 -- the turn of the loop, and the numbers of its dimension's first and last mark
 module _ (c : tie.After-regions invariant_loop decreases_loop) where
-  abbrev turn : tie.Then1 invariant_loop decreases_loop
+  abbrev turn : tie.In-loop-t invariant_loop decreases_loop
   turn = c.before.before
 
-  abbrev now : tie.At-loop invariant_loop decreases_loop
+  abbrev now : tie.At-loop-t invariant_loop decreases_loop
   now = turn.before.before
 
   abbrev counts : Counts
-  counts = now.before.Counts-of.result
+  counts = now.counts_of-counts.result
 
-  ends_are : let s = c.before.stretch-of.result in
-      EndsAt counts.d counts.b now.loop.t s.offset (s.offset + c.regions.result)
+  ends_are : let s = c.stretch_of-stretch.result in
+      EndsAt counts.d counts.b now.loop-t.t s.offset (s.offset + c.regions.result)
   ends_are =
       let passes = (head now.before).of_shape.shape_passes in
-      ends_at counts.d counts.b now.loop.t passes turn.if1.taken c.before.stretch-of.ensures c.regions.ensures
+      ends_at counts.d counts.b now.loop-t.t passes turn.loop-t-test.true c.stretch_of-stretch.ensures c.regions.ensures
 
 -- the verdict on a dimension
-here : (c : tie.After-check-dimension invariant_loop decreases_loop) → let at = c.before in
-    c.check-dimension.result
-    ≡ first (causes (now at).before.before.before.args.bytes.now (counts at).d (counts at).b (now at).loop.t)
+here : (c : tie.After-check_dimension invariant_loop decreases_loop) → let at = c in
+    c.check_dimension.result
+    ≡ first (causes (now at.before).args.bytes.now (counts at.before).d (counts at.before).b (now at.before).loop-t.t)
 here c =
-    let at = c.before in
-    let is = ends_are at in
-    let count : at.regions.result + 1 ≡ mark_count (counts at).d (counts at).b (suc (now at).loop.t) =
+    let at = c in
+    let is = ends_are at.before in
+    let count : at.regions.result + 1 ≡ mark_count (counts at.before).d (counts at.before).b (suc (now at.before).loop-t.t) =
     omega (arith, is.first_is, is.last_is) in
-    let bytes = (now at).before.before.before.args.bytes.now in
-    c.check-dimension.ensures ∙ ap₂ (λ (m from : ℕ). first (each m (mark_causes bytes from))) count is.first_is
+    let bytes = (now at.before).args.bytes.now in
+    c.check_dimension.ensures ∙ ap₂ (λ (m from : ℕ). first (each m (mark_causes bytes from))) count is.first_is
 
-loop_again : tie.Need-loop-preserved invariant_loop decreases_loop
+loop_again : tie.Need-loop-t-preserved invariant_loop decreases_loop
 loop_again c =
-    let dimension = c.before.before in
-    let at = dimension.before in
-    let bytes = (now at).before.before.before.args.bytes.now in
-    let passes = sym (here dimension) ∙ c.enum_told.given.1 in (
-      omega (arith, (turn at).if1.true),
-      each_more (now at).loop.t (causes bytes (counts at).d (counts at).b) (now at).loop.invariant.1 passes,
+    let dimension = c in
+    let at = dimension in
+    let bytes = (now at.before.before).args.bytes.now in
+    let passes = sym (here dimension.before) ∙ c.in-Accepted.is in (
+      omega (arith, (turn at.before.before).loop-t-test.true),
+      each_more (now at.before.before).loop-t.t (causes bytes (counts at.before.before).d (counts at.before.before).b) (now at.before.before).loop-t.invariant.1 passes,
     )
 
-returns : tie.Need-returns invariant_loop decreases_loop
+returns : tie.Need-returns-in-Refused invariant_loop decreases_loop
 returns c =
-    let dimension = c.before.before.before in
-    let at = dimension.before in
-    let bytes = (now at).before.before.before.args.bytes.now in
-    let is = (head (now at).before).of_shape in
-    let refused = sym (here dimension) ∙ c.before.cause.given.1 in
+    let dimension = c in
+    let at = dimension in
+    let bytes = (now at.before.before).args.bytes.now in
+    let is = (head (now at.before.before).before).of_shape in
+    let refused = sym (here dimension.before) ∙ c.in-Refused.is in
     let stops =
-    each_stops (counts at).d (causes bytes (counts at).d (counts at).b) (now at).loop.t (turn at).if1.true
-    (now at).loop.invariant.1 refused in
+    each_stops (counts at.before.before).d (causes bytes (counts at.before.before).d (counts at.before.before).b) (now at.before.before).loop-t.t (turn at.before.before).loop-t-test.true
+    (now at.before.before).loop-t.invariant.1 refused in
     rw (is.d_is, is.b_is) (sym stops)
 
-returns_2 : tie.Need-returns-2 invariant_loop decreases_loop
+returns_2 : tie.Need-returns invariant_loop decreases_loop
 returns_2 c =
-    let now = c.before.before in
-    let counts = now.before.Counts-of.result in
-    let bytes = now.before.before.before.args.bytes.now in
-    let is = (head now.before).of_shape in
-    let all : now.loop.t ≡ counts.d = omega (arith, now.loop.invariant.0, c.if1.false) in
-    let passes : first (each counts.d (causes bytes counts.d counts.b)) ≡ Accepted = rw all at now.loop.invariant.1 in
+    let now = c in
+    let counts = now.counts_of-counts.result in
+    let bytes = now.args.bytes.now in
+    let is = (head now.before.before.before).of_shape in
+    let all : now.loop-t.t ≡ counts.d = omega (arith, now.loop-t.invariant.0, c.loop-t-test.false) in
+    let passes : first (each counts.d (causes bytes counts.d counts.b)) ≡ Accepted = rw all at now.loop-t.invariant.1 in
     rw (is.d_is, is.b_is) (sym passes)
 
 -- a dimension's number is small
-few : (c : tie.Then1 invariant_loop decreases_loop) → c.before.before.loop.t ≤ 32
+few : (c : tie.In-loop-t invariant_loop decreases_loop) → c.loop-t.t ≤ 32
 few c =
-    let counts = c.before.before.before.Counts-of.result in
-    omega (arith, (shape counts.d counts.b (head c.before.before.before).of_shape.shape_passes).few, c.if1.true)
+    let counts = c.counts_of-counts.result in
+    omega (arith, (shape counts.d counts.b (head c.before.before.before).of_shape.shape_passes).few, c.loop-t-test.true)
 
 pub check_marks_spec : {M : Type 1} → statement M
 unfolding each
@@ -124,8 +124,8 @@ check_marks_spec =
     (λ c. omega (arith, (ends_are c).within, (ends_are c).small))
     (λ c κs. omega (arith, (ends_are c).within, (ends_are c).small))
     (λ c. search rules)
-    (λ c. omega (arith, few (turn c.before.before.before)))
-    (λ c. omega (arith, (turn c.before.before.before).if1.taken))
+    (λ c. omega (arith, few (turn c.before.before)))
+    (λ c. omega (arith, (turn c.before.before).loop-t-test.true))
     loop_again
     (λ c. search rules)
     returns

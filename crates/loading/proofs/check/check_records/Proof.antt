@@ -24,50 +24,50 @@ module _ (bytes : List ℕ) where
   abbrev end : List Row
   end = end_causes (read_library bytes) bytes
 
-head_passes : (c : tie.After-enum-told) → first (head c.before.before.before.before.args.bytes.now) ≡ Accepted
-head_passes c = sym c.before.before.check-head.ensures ∙ c.enum_told.given.1
+head_passes : (c : tie.In-Accepted) → first (head c.args.bytes.now) ≡ Accepted
+head_passes c = sym c.check_head-head.ensures ∙ c.in-Accepted.is
 
-to_marks_pass : (c : tie.After-enum-told3) → let bytes = c.before.before.before.before.before.before.before.args.bytes.now in
+to_marks_pass : (c : tie.In-Accepted-marks) → let bytes = c.args.bytes.now in
     first (head bytes ++ marks bytes) ≡ Accepted
 to_marks_pass c =
-    let bytes = c.before.before.before.before.before.before.before.args.bytes.now in
-    go_on (head bytes) (marks bytes) (head_passes c.before.before.before) ∙ sym c.before.before.check-marks.ensures
-    ∙ c.enum-told3.given.1
+    let bytes = c.args.bytes.now in
+    go_on (head bytes) (marks bytes) (head_passes c.before.before) ∙ sym c.check_marks-marks.ensures
+    ∙ c.in-Accepted-marks.is
 
-returns : tie.Need-returns
+returns : tie.Need-returns-in_default
 returns c =
-    let bytes = c.before.before.before.before.args.bytes.now in
-    let refused = sym c.before.before.check-head.ensures ∙ c.enum-told2.given.1 in
-    c.enum-told2.given.1
+    let bytes = c.args.bytes.now in
+    let refused = sym c.check_head-head.ensures ∙ c.in_default.is in
+    c.in_default.is
     ∙ sym (stop (head bytes ++ marks bytes ++ vectors bytes) (end bytes)
     (stop (head bytes ++ marks bytes) (vectors bytes) (stop (head bytes) (marks bytes) refused)))
 
-returns_2 : tie.Need-returns-2
+returns_2 : tie.Need-returns-in_default-marks
 returns_2 c =
-    let found = c.before.before in
-    let bytes = found.before.before.before.before.before.args.bytes.now in
+    let found = c in
+    let bytes = found.args.bytes.now in
     let refused =
-    go_on (head bytes) (marks bytes) (head_passes found.before) ∙ sym found.check-marks.ensures ∙ c.enum-told4.given.1 in
-    c.enum-told4.given.1
+    go_on (head bytes) (marks bytes) (head_passes found.before.before) ∙ sym found.check_marks-marks.ensures ∙ c.in_default-marks.is in
+    c.in_default-marks.is
     ∙ sym (stop (head bytes ++ marks bytes ++ vectors bytes) (end bytes) (stop (head bytes ++ marks bytes) (vectors bytes) refused))
 
-returns_3 : tie.Need-returns-3
+returns_3 : tie.Need-returns-in_default-vectors
 returns_3 c =
-    let found = c.before.before in
-    let bytes = found.before.before.before.before.before.before.before.before.args.bytes.now in
+    let found = c in
+    let bytes = found.args.bytes.now in
     let refused =
-    go_on (head bytes ++ marks bytes) (vectors bytes) (to_marks_pass found.before) ∙ sym found.check-vectors.ensures
-    ∙ c.enum-told6.given.1 in
-    c.enum-told6.given.1 ∙ sym (stop (head bytes ++ marks bytes ++ vectors bytes) (end bytes) refused)
+    go_on (head bytes ++ marks bytes) (vectors bytes) (to_marks_pass found.before.before) ∙ sym found.check_vectors-vectors.ensures
+    ∙ c.in_default-vectors.is in
+    c.in_default-vectors.is ∙ sym (stop (head bytes ++ marks bytes ++ vectors bytes) (end bytes) refused)
 
-returns_4 : tie.Need-returns-4
+returns_4 : tie.Need-returns
 returns_4 c =
-    let found = c.before.before.before in
-    let bytes = found.before.before.before.before.before.before.before.before.args.bytes.now in
+    let found = c in
+    let bytes = found.args.bytes.now in
     let passes =
-    go_on (head bytes ++ marks bytes) (vectors bytes) (to_marks_pass found.before) ∙ sym found.check-vectors.ensures
-    ∙ c.before.enum-told5.given.1 in
-    c.check-end.ensures ∙ sym (go_on (head bytes ++ marks bytes ++ vectors bytes) (end bytes) passes)
+    go_on (head bytes ++ marks bytes) (vectors bytes) (to_marks_pass found.before.before.before) ∙ sym found.check_vectors-vectors.ensures
+    ∙ c.in-Accepted-vectors.is in
+    c.check_end.ensures ∙ sym (go_on (head bytes ++ marks bytes ++ vectors bytes) (end bytes) passes)
 
 pub check_records_spec : {M : Type 1} → statement M
 check_records_spec =
@@ -81,9 +81,9 @@ check_records_spec =
     (λ c. search rules)
     (λ c. search rules)
     returns_2
-    (λ c κs. head_passes c.before.before.before)
+    (λ c κs. head_passes c.before.before)
     (λ c. search rules)
     (λ c. search rules)
     returns_3
-    (λ c κs. head_passes c.before.before.before.before.before.before)
+    (λ c κs. head_passes c.before.before.before.before)
     returns_4)

@@ -16,38 +16,38 @@ use Rattle.loading.proofs.check.check_vector.Statement.{statement}
 use Rattle.loading.proofs.check.check_vector.Tie as tie
 
 -- the frame's verdict
-frame : (c : tie.After-check-frame) → let args = c.before.before.before.args in
+frame : (c : tie.After-check_frame) → let args = c.args in
     let rest = drop args.at args.bytes.now in
-    c.check-frame.result ≡ first (frame_causes (eqb (kind_of rest) vector_kind) rest)
+    c.check_frame.result ≡ first (frame_causes (eqb (kind_of rest) vector_kind) rest)
 frame c =
-    frame_at {place = c.before.before.before.args.at} vector_kind c.before.before.before.args.bytes.now refl
-    c.before.byte_at.ensures c.check-frame.ensures
+    frame_at {place = c.args.at} vector_kind c.args.bytes.now refl
+    c.byte_at.ensures c.check_frame.ensures
 
 -- a record that passes is whole
-whole : (c : tie.After-enum-told) → let args = c.before.before.before.before.before.args in
+whole : (c : tie.In-Accepted) → let args = c.args in
     args.at + record_length vector_kind ≤ length args.bytes.now
 whole c =
-    let args = c.before.before.before.before.before.args in
+    let args = c.args in
     let rest = drop args.at args.bytes.now in
-    let is = framed (eqb (kind_of rest) vector_kind) rest (sym (frame c.before.before) ∙ c.enum_told.given.1) in
+    let is = framed (eqb (kind_of rest) vector_kind) rest (sym (frame c.before) ∙ c.in-Accepted.is) in
     let kind = eqb-true (kind_of rest) vector_kind is.there in
     let long = rw (kind, length-drop args.at args.bytes.now, vector_length) at is.whole in
     rw vector_length (omega arith)
 
-returns : tie.Need-returns
+returns : tie.Need-returns-in-Accepted
 returns c =
-    let told = c.before in
-    let args = told.before.before.before.before.before.args in
+    let told = c in
+    let args = told.args in
     let rest = drop args.at args.bytes.now in
-    c.check-components.ensures
-    ∙ sym (go_on (frame_causes (eqb (kind_of rest) vector_kind) rest) _ (sym (frame told.before.before) ∙ told.enum_told.given.1))
+    c.check_components.ensures
+    ∙ sym (go_on (frame_causes (eqb (kind_of rest) vector_kind) rest) _ (sym (frame told.before.before) ∙ told.in-Accepted.is))
 
-returns_2 : tie.Need-returns-2
+returns_2 : tie.Need-returns-in-Refused
 returns_2 c =
-    let found = c.before.before.before in
-    let args = found.before.before.before.args in
+    let found = c in
+    let args = found.args in
     let rest = drop args.at args.bytes.now in
-    sym (stop (frame_causes (eqb (kind_of rest) vector_kind) rest) _ (sym (frame found) ∙ c.before.cause.given.1))
+    sym (stop (frame_causes (eqb (kind_of rest) vector_kind) rest) _ (sym (frame found.before) ∙ c.in-Refused.is))
 
 pub check_vector_spec : {M : Type 1} → statement M
 check_vector_spec =
@@ -56,7 +56,7 @@ check_vector_spec =
     (λ c κs. search rules)
     (λ c κs. search rules)
     (λ c. search rules)
-    (λ c κs. (c.before.before.before.before.before.requires, whole c))
+    (λ c κs. (c.requires, whole c))
     (λ c. search rules)
     returns
     returns_2)

@@ -14,49 +14,49 @@ use Rattle.loading.specs.Checks.{vectors_between}
 use Rattle.loading.proofs.check.check_vectors.Statement.{statement}
 use Rattle.loading.proofs.check.check_vectors.Tie as tie
 
-module _ (c : tie.After-counts-of) where
-  head : HeadOf c.before.before.args.bytes.now c.Counts-of.result.d c.Counts-of.result.b c.Counts-of.result.n
+module _ (c : tie.After-counts_of-counts) where
+  head : HeadOf c.args.bytes.now c.counts_of-counts.result.d c.counts_of-counts.result.b c.counts_of-counts.result.n
   head =
-      let is = c.Counts-of.ensures in
-      head_of c.before.before.args.bytes.now c.before.before.requires is.0 is.1 is.2
+      let is = c.counts_of-counts.ensures in
+      head_of c.args.bytes.now c.requires is.0 is.1 is.2
 
-  few : c.Counts-of.result.d ≤ max_dimensions
+  few : c.counts_of-counts.result.d ≤ max_dimensions
   few = (shape _ _ head.of_shape.shape_passes).few
 
 -- the number of marks
-total_is : (c : tie.After-marks-length) → let counts = c.before.Counts-of.result in
-    c.marks-length.result ≡ mark_total counts.d counts.b
-total_is c = c.marks-length.ensures ∙ marks_length_is _ _ (head c.before).of_shape.shape_passes
+total_is : (c : tie.After-marks_length-m) → let counts = c.counts_of-counts.result in
+    c.marks_length-m.result ≡ mark_total counts.d counts.b
+total_is c = c.marks_length-m.ensures ∙ marks_length_is _ _ (head c.before).of_shape.shape_passes
 
-few_marks : (c : tie.After-marks-length) → c.marks-length.result ≤ 2080
+few_marks : (c : tie.After-marks_length-m) → c.marks_length-m.result ≤ 2080
 few_marks c = rw (total_is c) (marks_few _ _ (shape _ _ (head c.before).of_shape.shape_passes))
 
 -- the buffers hold the ends
-ends : (c : tie.After-read-ends) → let counts = c.before.before.before.before.Counts-of.result in
-    EndMarks counts.d counts.b (mark_at c.before.before.before.before.before.before.args.bytes.now)
-    c.read-ends.new.1.1.1.0 c.read-ends.new.1.1.1.1.0
-ends c = record { rest = _; rest' = _; lows_are = c.read-ends.ensures.0; highs_are = c.read-ends.ensures.1 }
+ends : (c : tie.After-read_ends) → let counts = c.counts_of-counts.result in
+    EndMarks counts.d counts.b (mark_at c.args.bytes.now)
+    c.read_ends.new.lows c.read_ends.new.highs
+ends c = record { rest = _; rest' = _; lows_are = c.read_ends.ensures.0; highs_are = c.read_ends.ensures.1 }
 
-check_each_requires : tie.Need-check-each-requires
+check_each_requires : tie.Need-check_each-requires
 check_each_requires c κs =
-    let filled = c.before.before.before.before in
-    let marks = filled.before.before.before in
-    let kept = filled.read-ends.auto.1.1.1 in (
+    let filled = c in
+    let marks = filled in
+    let kept = filled.read_ends.auto in (
       record {
-        few = few marks.before;
-        low = omega (arith, few marks.before, kept.0);
-        high = omega (arith, few marks.before, kept.1.0);
+        few = few marks.before.before.before.before.before.before.before.before;
+        low = omega (arith, few marks.before.before.before.before.before.before.before.before, kept.lows);
+        high = omega (arith, few marks.before.before.before.before.before.before.before.before, kept.highs);
       },
-      omega (arith, few_marks marks),
-      omega (arith, (head marks.before).few),
+      omega (arith, few_marks marks.before.before.before.before.before.before.before),
+      omega (arith, (head marks.before.before.before.before.before.before.before.before).few),
     )
 
 returns : tie.Need-returns
 returns c =
-    let filled = c.before.before.before.before.before in
-    let marks = filled.before.before.before in
-    let bytes = marks.before.before.before.args.bytes.now in
-    c.check-each.ensures ∙ ap first (vectors_between bytes (head marks.before) (total_is marks) (ends filled))
+    let filled = c in
+    let marks = filled in
+    let bytes = marks.args.bytes.now in
+    c.check_each.ensures ∙ ap first (vectors_between bytes (head marks.before.before.before.before.before.before.before.before.before) (total_is marks.before.before.before.before.before.before.before.before) (ends filled.before.before.before.before.before))
 
 pub check_vectors_spec : {M : Type 1} → statement M
 check_vectors_spec =
@@ -66,7 +66,7 @@ check_vectors_spec =
     (λ c κs. search rules)
     (λ c. search rules)
     (λ c. search rules)
-    (λ c κs. let at = c.before.before.before in ((head at).of_shape.shape_passes, few at, few at))
+    (λ c κs. let at = c in ((head at.before.before.before).of_shape.shape_passes, few at.before.before.before, few at.before.before.before))
     (λ c. search rules)
     (λ c. search rules)
     check_each_requires

@@ -22,48 +22,48 @@ use Rattle.loading.proofs.check.is_between.Tie as tie
 abbrev test : List ℤ → List ℤ → List ℕ → ℕ → ℕ → Bool
 test lows highs bytes at t = lies (get_or lows t (pos 0)) (stored_at (drop at bytes) t) (get_or highs t (pos 0))
 
-abbrev invariant_loop : tie.invariant_loop
+abbrev invariant_loop : tie.invariant-loop-t
 invariant_loop bytes d at lows highs t₀ t = (t ≤ d) × (every t (test lows highs bytes at) ≡ true)
 
-abbrev decreases_loop : tie.decreases_loop
+abbrev decreases_loop : tie.decreases-loop-t
 decreases_loop bytes d at lows highs t₀ t = d - t
 
 -- the code's test is that of the definition
-here : (c : tie.After-lies invariant_loop decreases_loop) → let now = c.before.before.before.before.before in let args = now.before.before.args in
-    test args.lows.now args.highs.now args.bytes.now args.at now.loop.t ≡ c.lies.result
+here : (c : tie.After-lies invariant_loop decreases_loop) → let now = c in let args = now.args in
+    test args.lows.now args.highs.now args.bytes.now args.at now.loop-t.t ≡ c.lies.result
 here c =
-    let component = c.before.before in
-    let now = component.before.before.before in
-    let args = now.before.before.args in
-    let t = now.loop.t in
-    let low = to_z-of_z w32 (get_or args.lows.now t (pos 0)) (record { sfits = component.before.lies_arg.given }) in
-    let high = to_z-of_z w32 (get_or args.highs.now t (pos 0)) (record { sfits = c.before.lies-arg2.given }) in
-    sym (c.lies.ensures ∙ rw (low, given component.component_at.type-inv component.component_at.ensures, high))
+    let component = c in
+    let now = component in
+    let args = now.args in
+    let t = now.loop-t.t in
+    let low = to_z-of_z w32 (get_or args.lows.now t (pos 0)) (record { sfits = component.lies-arg-1.given }) in
+    let high = to_z-of_z w32 (get_or args.highs.now t (pos 0)) (record { sfits = c.lies-arg-in-loop-t-1.given }) in
+    sym (c.lies.ensures ∙ rw (low, given component.component_at.type_inv component.component_at.ensures, high))
 
-returns : tie.Need-returns invariant_loop decreases_loop
+returns : tie.Need-returns-then-not-lies invariant_loop decreases_loop
 unfolding between
 returns c =
-    let inside = c.before.before.before.before.before in
-    let args = inside.before.before.before.args in
-    sym (every_fails args.d (test args.lows.now args.highs.now args.bytes.now args.at) inside.before.loop.t
-    inside.loop-test.true
-    (here c.before ∙ not-true c.before.lies.result c.if1.true))
+    let inside = c in
+    let args = inside.args in
+    sym (every_fails args.d (test args.lows.now args.highs.now args.bytes.now args.at) inside.loop-t.t
+    inside.loop-t-test.true
+    (here c.before ∙ not-true c.lies.result c.if-not-lies.true-raw))
 
-loop_again : tie.Need-loop-preserved invariant_loop decreases_loop
+loop_again : tie.Need-loop-t-preserved invariant_loop decreases_loop
 loop_again c =
-    let inside = c.before.before.before.before.before in
-    let now = inside.before.loop in
-    let args = inside.before.before.before.args in (
-      omega (arith, inside.loop-test.true),
+    let inside = c in
+    let now = inside.loop-t in
+    let args = inside.args in (
+      omega (arith, inside.loop-t-test.true),
       every_more now.t (test args.lows.now args.highs.now args.bytes.now args.at) now.invariant.1
-          (here c.before ∙ not-false c.before.lies.result c.if1.false),
+          (here c.before ∙ not-false c.lies.result c.if-not-lies.false-raw),
     )
 
-returns_2 : tie.Need-returns-2 invariant_loop decreases_loop
+returns_2 : tie.Need-returns invariant_loop decreases_loop
 unfolding between
 returns_2 c =
-    let now = c.before.loop in
-    let all : now.t ≡ c.before.before.before.args.d = omega (arith, now.invariant.0, c.loop-test.false) in
+    let now = c.loop-t in
+    let all : now.t ≡ c.args.d = omega (arith, now.invariant.0, c.loop-t-test.false) in
     sym (rw all at now.invariant.1)
 
 pub is_between_spec : {M : Type 1} → statement M
@@ -74,17 +74,17 @@ is_between_spec =
     invariant_loop
     decreases_loop
     (λ c. (omega arith, refl))
-    (λ c. omega (arith, c.before.before.before.requires.0.few))
-    (λ c. omega (arith, c.before.before.before.requires.0.low))
+    (λ c. omega (arith, c.requires.0.few))
+    (λ c. omega (arith, c.requires.0.low))
     (λ c κs. (
-      c.before.before.before.before.requires.1,
-      omega (arith, c.before.before.before.before.requires.0.few, c.before.loop-test.true),
+      c.requires.1,
+      omega (arith, c.requires.0.few, c.loop-t-test.true),
     ))
-    (λ c. omega (arith, c.before.before.before.before.before.requires.0.few))
-    (λ c. omega (arith, c.before.before.before.before.before.requires.0.high))
+    (λ c. omega (arith, c.requires.0.few))
+    (λ c. omega (arith, c.requires.0.high))
     (λ c κs. search rules)
     returns
-    (λ c. omega (arith, c.before.before.before.before.before.loop-test.true))
-    (λ c. omega (arith, c.before.before.before.before.before.loop-test.true))
+    (λ c. omega (arith, c.loop-t-test.true))
+    (λ c. omega (arith, c.loop-t-test.true))
     loop_again
     returns_2)

@@ -7,24 +7,24 @@ use Rattle.library.proofs.Filling.{Filling, filling_start, filling_next, filling
 use Rattle.loading.proofs.fill.fill_marks.Statement.{statement}
 use Rattle.loading.proofs.fill.fill_marks.Tie as tie
 
-abbrev invariant_loop : tie.invariant_loop
+abbrev invariant_loop : tie.invariant-loop-i
 invariant_loop bytes m marks₀ i₀ marks i = Filling m (mark_at bytes) marks₀ marks i
 
-abbrev decreases_loop : tie.decreases_loop
+abbrev decreases_loop : tie.decreases-loop-i
 decreases_loop bytes m marks₀ i₀ marks i = m - i
 
-loop_again : tie.Need-loop-preserved invariant_loop decreases_loop
+loop_again : tie.Need-loop-i-preserved invariant_loop decreases_loop
 loop_again c =
-    let now = c.before.before in
-    let start = now.before.before in
-    filling_next start.args.m (mark_at start.args.bytes.now) start.args.marks.now now.loop.i start.requires.1
-    c.before.loop-test.true
-    (given c.mark-at.type-inv c.mark-at.ensures) now.loop.invariant
+    let now = c in
+    let start = now in
+    filling_next start.args.m (mark_at start.args.bytes.now) start.args.marks.now now.loop-i.i start.requires.1
+    c.loop-i-test.true
+    (given c.mark_at.type_inv c.mark_at.ensures) now.loop-i.invariant
 
 returns : tie.Need-returns invariant_loop decreases_loop
 returns c =
-    let args = c.before.before.before.args in
-    filling_end args.m (mark_at args.bytes.now) args.marks.now c.before.loop.i c.loop-test.false c.before.loop.invariant
+    let args = c.args in
+    filling_end args.m (mark_at args.bytes.now) args.marks.now c.loop-i.i c.loop-i-test.false c.loop-i.invariant
 
 pub fill_marks_spec : {M : Type 1} → statement M
 fill_marks_spec =
@@ -32,12 +32,12 @@ fill_marks_spec =
     (tie.spec
     invariant_loop
     decreases_loop
-    (λ c. filling_start c.before.args.m (mark_at c.before.args.bytes.now) c.before.args.marks.now)
-    (λ c κs. omega (arith, c.before.before.before.requires))
-    (λ c. omega (arith, c.before.before.before.before.requires))
-    (λ c. omega (arith, c.before.before.before.before.requires, c.before.before.loop.invariant.room))
+    (λ c. filling_start c.args.m (mark_at c.args.bytes.now) c.args.marks.now)
+    (λ c κs. omega (arith, c.requires))
+    (λ c. omega (arith, c.requires))
+    (λ c. omega (arith, c.requires, c.loop-i.invariant.room))
     (λ c. omega arith)
     (λ c. omega arith)
     loop_again
-    (λ c. c.before.loop.invariant.room)
+    (λ c. c.loop-i.invariant.room)
     returns)

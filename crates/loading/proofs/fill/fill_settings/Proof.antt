@@ -10,34 +10,34 @@ use Rattle.loading.specs.ReadLaws.{settings_value}
 use Rattle.loading.proofs.fill.fill_settings.Statement.{statement}
 use Rattle.loading.proofs.fill.fill_settings.Tie as tie
 
-abbrev invariant_loop : tie.invariant_loop
+abbrev invariant_loop : tie.invariant-loop-i
 invariant_loop bytes m n settings₀ i₀ settings i = Filling n (settings_at m bytes) settings₀ settings i
 
-abbrev decreases_loop : tie.decreases_loop
+abbrev decreases_loop : tie.decreases-loop-i
 decreases_loop bytes m n settings₀ i₀ settings i = n - i
 
-add_u32_at : tie.Need-overflow-add-u32-at invariant_loop decreases_loop
+add_u32_at : tie.Need-overflow_add-vector_place invariant_loop decreases_loop
 add_u32_at c =
-    let start = c.before.before.before.before.before in
-    omega (arith, c.vector_place.ensures, vector_place_lem start.args.m c.before.before.loop.i, start.requires)
+    let start = c in
+    omega (arith, c.vector_place.ensures, vector_place_lem start.args.m c.loop-i.i, start.requires)
 
-loop_again : tie.Need-loop-preserved invariant_loop decreases_loop
+loop_again : tie.Need-loop-i-preserved invariant_loop decreases_loop
 loop_again c =
-    let place = c.before in
-    let now = place.before.before in
-    let start = now.before.before.before in
+    let place = c in
+    let now = place in
+    let start = now in
     let args = start.args in
-    let i = now.loop.i in
-    let is = rw place.vector_place.ensures at c.u32-at.ensures in
+    let i = now.loop-i.i in
+    let is = rw place.vector_place.ensures at c.u32_at.ensures in
     filling_next args.n (settings_at args.m args.bytes.now) args.settings.now i start.requires.2
-    place.before.loop-test.true
-    (is ∙ sym (settings_value args.m args.bytes.now i)) now.loop.invariant
+    place.loop-i-test.true
+    (is ∙ sym (settings_value args.m args.bytes.now i)) now.loop-i.invariant
 
 returns : tie.Need-returns invariant_loop decreases_loop
 returns c =
-    let args = c.before.before.before.before.args in
-    filling_end args.n (settings_at args.m args.bytes.now) args.settings.now c.before.loop.i c.loop-test.false
-    c.before.loop.invariant
+    let args = c.args in
+    filling_end args.n (settings_at args.m args.bytes.now) args.settings.now c.loop-i.i c.loop-i-test.false
+    c.loop-i.invariant
 
 pub fill_settings_spec : {M : Type 1} → statement M
 fill_settings_spec =
@@ -45,16 +45,16 @@ fill_settings_spec =
     (tie.spec
     invariant_loop
     decreases_loop
-    (λ c. let args = c.before.before.args in filling_start args.n (settings_at args.m args.bytes.now) args.settings.now)
-    (λ c. omega (arith, c.before.before.before.before.requires))
-    (λ c. omega (arith, c.before.before.before.before.requires))
+    (λ c. let args = c.args in filling_start args.n (settings_at args.m args.bytes.now) args.settings.now)
+    (λ c. omega (arith, c.requires))
+    (λ c. omega (arith, c.requires))
     (λ c κs. search rules)
     add_u32_at
     (λ c κs. search rules)
-    (λ c. omega (arith, c.before.before.before.before.before.before.requires))
-    (λ c. omega (arith, c.before.before.before.before.before.before.requires, c.before.before.before.loop.invariant.room))
+    (λ c. omega (arith, c.requires))
+    (λ c. omega (arith, c.requires, c.loop-i.invariant.room))
     (λ c. omega arith)
     (λ c. omega arith)
     loop_again
-    (λ c. c.before.loop.invariant.room)
+    (λ c. c.loop-i.invariant.room)
     returns)

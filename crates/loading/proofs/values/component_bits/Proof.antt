@@ -18,17 +18,17 @@ there : (c : tie.Start) → place c + 1 < length c.args.bytes.now
 there c = omega (arith, rw vector_length at c.requires.0, c.requires.1)
 
 -- they are bytes
-low : (c : tie.After-shared-slice-known) → get_or c.before.args.bytes.now (place c.before) 0 < 256
-low c = (c.shared-slice-known.given (place c.before)).fits
+low : (c : tie.After-shared_slice_known-1) → get_or c.args.bytes.now (place c.before) 0 < 256
+low c = (c.shared_slice_known-1.given (place c.before)).fits
 
-high : (c : tie.After-shared-slice-known) → get_or c.before.args.bytes.now (place c.before + 1) 0 < 256
-high c = (c.shared-slice-known.given (place c.before + 1)).fits
+high : (c : tie.After-shared_slice_known-1) → get_or c.args.bytes.now (place c.before + 1) 0 < 256
+high c = (c.shared_slice_known-1.given (place c.before + 1)).fits
 
 returns : tie.Need-returns
 returns c =
-    let start = c.before.before in
+    let start = c in
     let bytes = start.args.bytes.now in
-    sym (component_value bytes start.args.at start.args.t start.requires.1 ∙ two_bytes bytes (place start))
+    sym (component_value bytes start.args.at start.args.t start.requires.1 ∙ two_bytes bytes (place start.before.before))
 
 pub component_bits_spec : {M : Type 1} → statement M
 component_bits_spec =

@@ -7,10 +7,10 @@ use Rattle.loading.proofs.values.counts_of.Tie as tie
 
 returns : tie.Need-returns
 returns c =
-    let bytes = c.before.before.before.before.args.bytes.now in (
-      c.before.before.byte_at.ensures ∙ sym (head_d bytes),
-      c.before.byte-at2.ensures ∙ sym (head_b bytes),
-      c.u16-at.ensures
+    let bytes = c.args.bytes.now in (
+      c.byte_at.ensures ∙ sym (head_d bytes),
+      c.byte_at-2.ensures ∙ sym (head_b bytes),
+      c.u16_at.ensures
           ∙ sym (head_n bytes),
     )
 

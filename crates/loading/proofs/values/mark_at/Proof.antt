@@ -8,15 +8,15 @@ use Rattle.loading.specs.ReadLaws.{mark_bits}
 use Rattle.loading.proofs.values.mark_at.Statement.{statement}
 use Rattle.loading.proofs.values.mark_at.Tie as tie
 
-add_u32_at : tie.Need-overflow-add-u32-at
-add_u32_at c = omega (arith, c.mark_place.ensures, mark_place_lem c.before.before.args.i)
+add_u32_at : tie.Need-overflow_add-mark_place
+add_u32_at c = omega (arith, c.mark_place.ensures, mark_place_lem c.args.i)
 
 returns : tie.Need-returns
 returns c =
-    let bits = c.before in
-    let args = bits.before.before.before.args in
-    let is = rw (bits.u32-at.ensures, bits.before.mark_place.ensures) at c.signed.ensures in
-    given c.signed.type-inv (is ∙ sym (mark_bits args.bytes.now args.i))
+    let bits = c in
+    let args = bits.args in
+    let is = rw (bits.u32_at.ensures, bits.mark_place.ensures) at c.signed.ensures in
+    given c.signed.type_inv (is ∙ sym (mark_bits args.bytes.now args.i))
 
 pub mark_at_spec : {M : Type 1} → statement M
 mark_at_spec =

@@ -8,8 +8,8 @@ use Rattle.loading.proofs.values.mark_key.Tie as tie
 
 returns : tie.Need-returns
 returns c =
-    let mark = c.before.mark-at in
-    c.key.ensures ∙ ap key_of (given mark.type-inv mark.ensures)
+    let mark = c.mark_at in
+    c.key.ensures ∙ ap key_of (given mark.type_inv mark.ensures)
 
 pub mark_key_spec : {M : Type 1} → statement M
 mark_key_spec = tie.close (tie.spec (λ c κs. search rules) (λ c κs. search rules) returns)

@@ -12,18 +12,18 @@ use Rattle.signed.proofs.ReadBack.{given}
 use Rattle.loading.proofs.values.signed.Statement.{statement}
 use Rattle.loading.proofs.values.signed.Tie as tie
 
-returns : tie.Need-returns
+returns : tie.Need-returns-then-bits-half
 returns c =
-    let args = c.before.args in
-    rw (lt-ltb args.bits args.half c.if1.true, lt-ltb args.bits (2 ^ 31) (omega arith))
+    let args = c.args in
+    rw (lt-ltb args.bits args.half c.if-bits-half.true, lt-ltb args.bits (2 ^ 31) (omega arith))
 
 below_zero : (n : ℕ) → negsuc 0 -ℤ pos n ≡ negsuc n
 below_zero zero = refl
 below_zero (suc n) = ap (λ (m : ℕ). negsuc (suc m)) (zero-add n)
 
-module _ (c : tie.Else1) where
+module _ (c : tie.Else-bits-half) where
   abbrev left : ℕ
-  left = c.before.args.half - 1 - (c.before.args.bits - c.before.args.half)
+  left = c.args.half - 1 - (c.args.bits - c.args.half)
 
   difference : negsuc 0 -ℤ to_z w32 left ≡ negsuc left
   difference = rw (lt-ltb left (2 ^ 31) (omega arith)) (below_zero left)
@@ -31,10 +31,10 @@ module _ (c : tie.Else1) where
   fits : SFits w32 (negsuc 0 -ℤ to_z w32 left)
   fits = subst⁻¹ (SFits w32) difference (record { sfits = omega arith })
 
-returns_2 : tie.Need-returns-2
+returns_2 : tie.Need-returns
 returns_2 c =
-    let args = c.before.args in
-    rw (le-ltb args.bits args.half c.if1.false) (given (fits c).sfits (difference c ∙ ap negsuc (omega arith)))
+    let args = c.args in
+    rw (le-ltb args.bits args.half c.if-bits-half.false) (given (fits c).sfits (difference c ∙ ap negsuc (omega arith)))
 
 pub signed_spec : {M : Type 1} → statement M
 signed_spec =

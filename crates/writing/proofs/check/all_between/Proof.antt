@@ -19,40 +19,40 @@ use Rattle.writing.proofs.check.all_between.Tie as tie
 abbrev test : ℕ → List ℤ → List ℤ → List ℤ → ℕ → Bool
 test d lows highs components i = between d lows highs (λ t. get_or components (i * d + t) (pos 0))
 
-abbrev invariant_loop : tie.invariant_loop
+abbrev invariant_loop : tie.invariant-loop-i
 invariant_loop d n lows highs components i₀ i = (i ≤ n) × (every i (test d lows highs components) ≡ true)
 
-abbrev decreases_loop : tie.decreases_loop
+abbrev decreases_loop : tie.decreases-loop-i
 decreases_loop d n lows highs components i₀ i = n - i
 
 -- its components are there, and few
-row : (c : tie.In-loop invariant_loop decreases_loop) → let args = c.before.before.args in c.before.loop.i * args.d + args.d ≤ args.n * args.d
-row c = row_within c.before.before.args.d c.loop-test.true
+row : (c : tie.In-loop-i invariant_loop decreases_loop) → let args = c.args in c.loop-i.i * args.d + args.d ≤ args.n * args.d
+row c = row_within c.args.d c.loop-i-test.true
 
-few : (c : tie.In-loop invariant_loop decreases_loop) → c.before.before.args.n * c.before.before.args.d ≤ 16384
-few c = mul-le-mul c.before.before.requires.1 c.before.before.requires.0.few
+few : (c : tie.In-loop-i invariant_loop decreases_loop) → c.args.n * c.args.d ≤ 16384
+few c = mul-le-mul c.requires.1 c.requires.0.few
 
-returns : tie.Need-returns invariant_loop decreases_loop
+returns : tie.Need-returns-then-not-is_between invariant_loop decreases_loop
 returns c =
-    let now = c.before.before.before in
-    let args = now.before.args in
-    sym (every_fails args.n (test args.d args.lows.now args.highs.now args.components.now) now.loop.i
-    c.before.before.loop-test.true
-    (sym c.before.is-between.ensures ∙ not-true c.before.is-between.result c.if1.true))
+    let now = c in
+    let args = now.args in
+    sym (every_fails args.n (test args.d args.lows.now args.highs.now args.components.now) now.loop-i.i
+    c.loop-i-test.true
+    (sym c.is_between.ensures ∙ not-true c.is_between.result c.if-not-is_between.true-raw))
 
-loop_again : tie.Need-loop-preserved invariant_loop decreases_loop
+loop_again : tie.Need-loop-i-preserved invariant_loop decreases_loop
 loop_again c =
-    let now = c.before.before.before in
-    let args = now.before.args in (
+    let now = c in
+    let args = now.args in (
       omega arith,
-      every_more now.loop.i (test args.d args.lows.now args.highs.now args.components.now) now.loop.invariant.1
-          (sym c.before.is-between.ensures ∙ not-false c.before.is-between.result c.if1.false),
+      every_more now.loop-i.i (test args.d args.lows.now args.highs.now args.components.now) now.loop-i.invariant.1
+          (sym c.is_between.ensures ∙ not-false c.is_between.result c.if-not-is_between.false-raw),
     )
 
-returns_2 : tie.Need-returns-2 invariant_loop decreases_loop
+returns_2 : tie.Need-returns invariant_loop decreases_loop
 returns_2 c =
-    let now = c.before.loop in
-    let all : now.i ≡ c.before.before.args.n = omega (arith, now.invariant.0, c.loop-test.false) in
+    let now = c.loop-i in
+    let all : now.i ≡ c.args.n = omega (arith, now.invariant.0, c.loop-i-test.false) in
     sym (rw all at now.invariant.1)
 
 pub all_between_spec : {M : Type 1} → statement M
@@ -64,7 +64,7 @@ all_between_spec =
     decreases_loop
     (λ c. (omega arith, refl))
     (λ c. omega (arith, row c, few c))
-    (λ c κs. (c.before.before.requires.0, omega (arith, row c, c.before.before.requires.2)))
+    (λ c κs. (c.requires.0, omega (arith, row c, c.requires.2)))
     returns
     (λ c. omega arith)
     (λ c. omega arith)

@@ -8,22 +8,22 @@ use Rattle.writing.specs.Write.{shaped_causes}
 use Rattle.writing.proofs.check.check_library.Statement.{statement}
 use Rattle.writing.proofs.check.check_library.Tie as tie
 
-returns : tie.Need-returns
+returns : tie.Need-returns-in-Accepted
 returns c =
-    let shape = c.before.before.before in
-    let args = shape.before.before.args in
+    let shape = c in
+    let args = shape.args in
     let l = library_with args.d args.b args.n args.marks.now args.settings.now args.components.now in
-    c.check-shaped.ensures
+    c.check_shaped.ensures
     ∙ sym (go_on (shape_causes args.d args.b) (shaped_causes l args.room)
-    (sym shape.check-shape.ensures ∙ c.before.enum_told.given.1))
+    (sym shape.check_shape.ensures ∙ c.in-Accepted.is))
 
-returns_2 : tie.Need-returns-2
+returns_2 : tie.Need-returns-in-Refused
 returns_2 c =
-    let shape = c.before.before.before in
-    let args = shape.before.before.args in
+    let shape = c in
+    let args = shape.args in
     let l = library_with args.d args.b args.n args.marks.now args.settings.now args.components.now in
     sym
-    (stop (shape_causes args.d args.b) (shaped_causes l args.room) (sym shape.check-shape.ensures ∙ c.before.cause.given.1))
+    (stop (shape_causes args.d args.b) (shaped_causes l args.room) (sym shape.check_shape.ensures ∙ c.in-Refused.is))
 
 pub check_library_spec : {M : Type 1} → statement M
 check_library_spec =
@@ -31,7 +31,7 @@ check_library_spec =
     (tie.spec
     (λ c κs. search rules)
     (λ c. search rules)
-    (λ c κs. sym c.before.before.check-shape.ensures ∙ c.enum_told.given.1)
+    (λ c κs. sym c.check_shape.ensures ∙ c.in-Accepted.is)
     (λ c. search rules)
     returns
     returns_2)

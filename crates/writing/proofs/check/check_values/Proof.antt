@@ -40,40 +40,40 @@ module _ (d b : ℕ) (marks : List ℤ) (is : Dimensioned d b marks) where
       go true e = absurd (apart e)
       go false e = refl
 
-returns : tie.Need-returns
+returns : tie.Need-returns-then-not-are_components
 unfolding first
-returns c = rw (← c.before.are_components.ensures, c.if1.true)
+returns c = rw (← c.are_components.ensures, c.if-not-are_components.true-raw)
 
-returns_2 : tie.Need-returns-2
+returns_2 : tie.Need-returns-in_default
 unfolding first
 returns_2 c =
-    let marks = c.before.before in
-    let start = marks.before.before.before in
+    let marks = c in
+    let start = marks in
     let bad =
     bad_if start.args.d start.args.b start.args.marks.now start.requires.of_marks
-    (sym marks.check-marks.ensures ∙ c.enum-told2.given.1) in
-    rw (← marks.before.before.are_components.ensures, marks.before.if1.false, bad)
+    (sym marks.check_marks.ensures ∙ c.in_default.is) in
+    rw (← marks.are_components.ensures, marks.if-not-are_components.false-raw, bad)
 
 -- the components and the marks pass
-outside_left : (c : tie.After-all-inside) → let args = c.before.before.before.before.before.before.args in
+outside_left : (c : tie.After-all_inside) → let args = c.args in
     first (value_causes (library_with args.d args.b args.n args.marks.now [] args.components.now))
     ≡ first ((not c.all_inside.result ⇒ Outside) ∷ [])
 unfolding first
 outside_left c =
-    let marks = c.before.before.before in
-    let start = marks.before.before.before in
+    let marks = c in
+    let start = marks in
     let good =
     good_if start.args.d start.args.b start.args.marks.now start.requires.of_marks
-    (sym marks.check-marks.ensures ∙ c.before.enum_told.given.1) in
-    rw (← marks.before.before.are_components.ensures, marks.before.if1.false, good, ← c.all_inside.ensures)
+    (sym marks.check_marks.ensures ∙ c.in-Accepted.is) in
+    rw (← marks.are_components.ensures, marks.if-not-are_components.false-raw, good, ← c.all_inside.ensures)
 
-returns_3 : tie.Need-returns-3
+returns_3 : tie.Need-returns-then-not-all_inside
 unfolding first
-returns_3 c = sym (outside_left c.before ∙ rw c.if2.true)
+returns_3 c = sym (outside_left c.before ∙ rw c.if-not-all_inside.true-raw)
 
-returns_4 : tie.Need-returns-4
+returns_4 : tie.Need-returns
 unfolding first
-returns_4 c = sym (outside_left c.before ∙ rw c.if2.false)
+returns_4 c = sym (outside_left c.before ∙ rw c.if-not-all_inside.false-raw)
 
 pub check_values_spec : {M : Type 1} → statement M
 check_values_spec =
@@ -85,6 +85,6 @@ check_values_spec =
     (λ c. search rules)
     (λ c. search rules)
     returns_2
-    (λ c κs. c.before.before.before.before.before.requires)
+    (λ c κs. c.requires)
     returns_3
     returns_4)

@@ -29,39 +29,39 @@ or_none (suc a) b =
 abbrev test : List ℤ → List ℤ → List ℤ → ℕ → ℕ → Bool
 test lows highs components from t = lies (get_or lows t (pos 0)) (get_or components (from + t) (pos 0)) (get_or highs t (pos 0))
 
-abbrev invariant_loop : tie.invariant_loop
+abbrev invariant_loop : tie.invariant-loop-t
 invariant_loop d lows highs components from outside₀ t₀ outside t = (t ≤ d) × (eqb outside 0 ≡ every t (test lows highs components from))
 
-abbrev decreases_loop : tie.decreases_loop
+abbrev decreases_loop : tie.decreases-loop-t
 decreases_loop d lows highs components from outside₀ t₀ outside t = d - t
 
 -- an index is small
-small : (c : tie.In-loop invariant_loop decreases_loop) → c.before.loop.t ≤ 32
-small c = omega (arith, c.before.before.requires.0.few, c.loop-test.true)
+small : (c : tie.In-loop-t invariant_loop decreases_loop) → c.loop-t.t ≤ 32
+small c = omega (arith, c.requires.0.few, c.loop-t-test.true)
 
-loop_again : tie.Need-loop-preserved invariant_loop decreases_loop
+loop_again : tie.Need-loop-t-preserved invariant_loop decreases_loop
 loop_again c =
-    let three = c.before in
-    let two = three.before in
-    let one = two.before in
-    let now = one.before.before in
-    let args = now.before.args in
-    let t = now.loop.t in
-    let low = to_z-of_z w32 (get_or args.lows.now t (pos 0)) (record { sfits = one.lies-outside-arg.given }) in
-    let mid = to_z-of_z w32 (get_or args.components.now (args.from + t) (pos 0)) (record { sfits = two.lies-outside-arg2.given }) in
-    let high = to_z-of_z w32 (get_or args.highs.now t (pos 0)) (record { sfits = three.lies-outside-arg3.given }) in
-    let here : eqb c.lies-outside.result 0 ≡ test args.lows.now args.highs.now args.components.now args.from t =
-    c.lies-outside.ensures ∙ rw (low, mid, high) in (
-      omega (arith, one.before.loop-test.true),
-      rw (or_none now.loop.outside c.lies-outside.result, now.loop.invariant.1, here)
+    let three = c in
+    let two = three in
+    let one = two in
+    let now = one in
+    let args = now.args in
+    let t = now.loop-t.t in
+    let low = to_z-of_z w32 (get_or args.lows.now t (pos 0)) (record { sfits = one.lies_outside-arg-1.given }) in
+    let mid = to_z-of_z w32 (get_or args.components.now (args.from + t) (pos 0)) (record { sfits = two.lies_outside-arg-in-loop-t-1.given }) in
+    let high = to_z-of_z w32 (get_or args.highs.now t (pos 0)) (record { sfits = three.lies_outside-arg-in-loop-t-2-1.given }) in
+    let here : eqb c.lies_outside-outside.result 0 ≡ test args.lows.now args.highs.now args.components.now args.from t =
+    c.lies_outside-outside.ensures ∙ rw (low, mid, high) in (
+      omega (arith, one.loop-t-test.true),
+      rw (or_none now.loop-t.outside c.lies_outside-outside.result, now.loop-t.invariant.1, here)
           (sym (every_next t (test args.lows.now args.highs.now args.components.now args.from))),
     )
 
 returns : tie.Need-returns invariant_loop decreases_loop
 unfolding between
 returns c =
-    let now = c.before.loop in
-    let all : now.t ≡ c.before.before.args.d = omega (arith, now.invariant.0, c.loop-test.false) in
+    let now = c.loop-t in
+    let all : now.t ≡ c.args.d = omega (arith, now.invariant.0, c.loop-t-test.false) in
     rw all at now.invariant.1
 
 pub is_between_spec : {M : Type 1} → statement M
@@ -73,14 +73,14 @@ is_between_spec =
     decreases_loop
     (λ c. (omega arith, refl))
     (λ c. omega (arith, small c))
-    (λ c. omega (arith, c.before.before.requires.0.low, c.loop-test.true))
-    (λ c. omega (arith, small c.before, c.before.before.before.requires.1, c.before.before.before.well-formed))
-    (λ c. omega (arith, small c.before, c.before.before.before.requires.1, c.before.before.before.well-formed))
-    (λ c. omega (arith, c.before.before.before.requires.1, c.before.loop-test.true))
+    (λ c. omega (arith, c.requires.0.low, c.loop-t-test.true))
+    (λ c. omega (arith, small c.before, c.requires.1, c.well_formed))
+    (λ c. omega (arith, small c.before, c.requires.1, c.well_formed))
+    (λ c. omega (arith, c.requires.1, c.loop-t-test.true))
     (λ c. omega (arith, small c.before.before))
-    (λ c. omega (arith, c.before.before.before.before.requires.0.high, c.before.before.loop-test.true))
+    (λ c. omega (arith, c.requires.0.high, c.loop-t-test.true))
     (λ c κs. search rules)
     (λ c. omega (arith, small c.before.before.before.before))
-    (λ c. omega (arith, c.before.before.before.before.loop-test.true))
+    (λ c. omega (arith, c.loop-t-test.true))
     loop_again
     returns)

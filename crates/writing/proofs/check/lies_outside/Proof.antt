@@ -8,10 +8,10 @@ use Rattle.writing.proofs.check.lies_outside.Statement.{statement}
 use Rattle.writing.proofs.check.lies_outside.Tie as tie
 
 -- the answer is of the three numbers
-told : (c : tie.After-lies) → c.lies.result ≡ lies c.before.args.low c.before.args.z c.before.args.high
+told : (c : tie.After-lies) → c.lies.result ≡ lies c.args.low c.args.z c.args.high
 told c =
-    let args = c.before.args in
-    let fits = c.before.ranges in
+    let args = c.args in
+    let fits = c.ranges in
     c.lies.ensures ∙ rw (to_z-of_z w32 args.low fits.low, to_z-of_z w32 args.z fits.z, to_z-of_z w32 args.high fits.high)
 
 pub lies_outside_spec : {M : Type 1} → statement M
@@ -19,5 +19,5 @@ lies_outside_spec =
     tie.close
     (tie.spec
     (λ c κs. search rules)
-    (λ c. rw c.if1.true at (told c.before))
-    (λ c. rw c.if1.false at (told c.before)))
+    (λ c. rw c.if-lies.true at (told c.before))
+    (λ c. rw c.if-lies.false at (told c.before)))

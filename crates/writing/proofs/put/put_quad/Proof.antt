@@ -10,12 +10,12 @@ use Rattle.writing.proofs.put.put_quad.Tie as tie
 
 returns : tie.Need-returns
 returns c =
-    let two = c.before.before in
-    let one = two.before.before.before.before in
-    let args = one.before.before.before.args in
+    let two = c in
+    let one = two in
+    let args = one.args in
     let place : args.at + 2 + 2 ≡ args.at + 4 = omega arith in
     rw (← place)
-    (both_parts (take args.at args.bytes.now) _ _ one.put-pair.ensures two.put-pair2.ensures ∙ rw (four_bytes_lem args.x))
+    (both_parts (take args.at args.bytes.now) _ _ one.put_pair.ensures two.put_pair-2.ensures ∙ rw (four_bytes_lem args.x))
 
 pub put_quad_spec : {M : Type 1} → statement M
 put_quad_spec =

@@ -12,37 +12,37 @@ use Rattle.writing.proofs.put.write_head.Tie as tie
 room : (c : tie.Start) → 5 ≤ length c.args.bytes.now
 room c = rw (mark_place_lem 0) at c.requires
 
-put_byte_requires_2 : tie.Need-put-byte-requires-2
+put_byte_requires_2 : tie.Need-put_byte-requires-2
 put_byte_requires_2 c κs =
-    omega (arith, room c.before.before.before.before.before.before, c.before.before.before.put_byte.auto)
+    omega (arith, room c.before.before.before.before.before.before, c.put_byte.auto)
 
-put_byte_requires_3 : tie.Need-put-byte-requires-3
+put_byte_requires_3 : tie.Need-put_byte-requires-3
 put_byte_requires_3 c κs =
-    let one = c.before.before.before.before.before.before.before in
-    omega (arith, room one.before.before.before, one.put_byte.auto, c.before.before.before.put-byte2.auto)
+    let one = c in
+    omega (arith, room one.before.before.before.before.before.before.before.before.before.before, one.put_byte.auto, c.put_byte-2.auto)
 
-put_pair_requires : tie.Need-put-pair-requires
+put_pair_requires : tie.Need-put_pair-requires
 put_pair_requires c κs =
-    let two = c.before.before.before.before.before.before.before in
-    let one = two.before.before.before.before in
-    omega (arith, room one.before.before.before, one.put_byte.auto, two.put-byte2.auto, c.before.before.before.put-byte3.auto)
+    let two = c in
+    let one = two in
+    omega (arith, room one.before.before.before.before.before.before.before.before.before.before.before.before.before.before, one.put_byte.auto, two.put_byte-2.auto, c.put_byte-3.auto)
 
-same_length : tie.Need-same-length
+same_length : tie.Need-shape_of-bytes
 same_length c =
-    let four = c.before.before in
-    let three = four.before.before.before.before in
-    let two = three.before.before.before.before in
-    let one = two.before.before.before.before in
-    omega (arith, four.put-pair.auto, three.put-byte3.auto, two.put-byte2.auto, one.put_byte.auto)
+    let four = c in
+    let three = four in
+    let two = three in
+    let one = two in
+    omega (arith, four.put_pair.auto, three.put_byte-3.auto, two.put_byte-2.auto, one.put_byte.auto)
 
 returns : tie.Need-returns
 returns c =
-    let four = c.before.before in
-    let three = four.before.before.before.before in
-    let two = three.before.before.before.before in
-    let one = two.before.before.before.before in
-    let args = one.before.before.before.args in
-    rw (mark_place_lem 0, four.put-pair.ensures, three.put-byte3.ensures, two.put-byte2.ensures, one.put_byte.ensures)
+    let four = c in
+    let three = four in
+    let two = three in
+    let one = two in
+    let args = one.args in
+    rw (mark_place_lem 0, four.put_pair.ensures, three.put_byte-3.ensures, two.put_byte-2.ensures, one.put_byte.ensures)
     (head_parts args.d args.b args.n)
 
 pub write_head_spec : {M : Type 1} → statement M

@@ -18,33 +18,33 @@ use Rattle.writing.proofs.put.write_vector.Tie as tie
 room : (c : tie.Start) → c.args.at + 69 ≤ length c.args.bytes.now
 room c = rw vector_length at c.requires.0
 
-put_quad_requires : tie.Need-put-quad-requires
+put_quad_requires : tie.Need-put_quad-requires
 put_quad_requires c κs =
-    let one = c.before.before.before in
-    omega (arith, room one.before.before.before, one.put_byte.auto)
+    let one = c in
+    omega (arith, room one.before.before.before.before.before.before, one.put_byte.auto)
 
-write_stored_requires : tie.Need-write-stored-requires
+write_stored_requires : tie.Need-write_stored-requires
 write_stored_requires c κs =
-    let two = c.before.before.before in
-    let one = two.before.before.before.before in
-    let start = one.before.before.before in
-    (omega (arith, room start, one.put_byte.auto, two.put-quad.auto, start.requires.1.few), start.requires.1)
+    let two = c in
+    let one = two in
+    let start = one in
+    (omega (arith, room start.before.before.before.before.before.before.before.before.before.before, one.put_byte.auto, two.put_quad.auto, start.requires.1.few), start.requires.1)
 
-write_zeros_requires : tie.Need-write-zeros-requires
+write_zeros_requires : tie.Need-write_zeros-requires
 write_zeros_requires c κs =
-    let three = c.before.before.before in
-    let two = three.before.before.before.before in
-    let one = two.before.before.before.before in
-    let start = one.before.before.before in
-    (omega (arith, start.requires.1.few), omega (arith, room start, one.put_byte.auto, two.put-quad.auto, three.write-stored.auto))
+    let three = c in
+    let two = three in
+    let one = two in
+    let start = one in
+    (omega (arith, start.requires.1.few), omega (arith, room start.before.before.before.before.before.before.before.before.before.before.before.before.before.before, one.put_byte.auto, two.put_quad.auto, three.write_stored.auto))
 
 returns : tie.Need-returns
 returns c =
-    let four = c.before.before in
-    let three = four.before.before.before.before in
-    let two = three.before.before.before.before in
-    let one = two.before.before.before.before in
-    let start = one.before.before.before in
+    let four = c in
+    let three = four in
+    let two = three in
+    let one = two in
+    let start = one in
     let args = start.args in
     let at = args.at in
     let component : ℕ → ℤ = λ t. get_or args.components.now (args.from + t) (pos 0) in
@@ -54,10 +54,10 @@ returns c =
     let beyond = rw size at (joined_beyond max_dimensions stored (rw size start.requires.1.few)) in
     let before : at + 1 + 4 ≡ at + 5 = omega arith in
     let parts = vector_parts args.d args.settings component in
-    let settings = rw before at two.put-quad.ensures in
+    let settings = rw before at two.put_quad.ensures in
     rw vector_length
-    (four_parts (take at args.bytes.now) _ _ _ _ one.put_byte.ensures settings three.write-stored.ensures
-    four.write-zeros.ensures ∙ rw (count, ← beyond, parts))
+    (four_parts (take at args.bytes.now) _ _ _ _ one.put_byte.ensures settings three.write_stored.ensures
+    four.write_zeros.ensures ∙ rw (count, ← beyond, parts))
 
 pub write_vector_spec : {M : Type 1} → statement M
 write_vector_spec =

@@ -24,40 +24,40 @@ record Puts (d n m : ℕ) (settings : List ℕ) (components : List ℤ) (bytes�
   room : length bytes ≡ length bytes₀
   so_far : take (vector_place m i) bytes ≡ take (vector_place m 0) bytes₀ ++ each i (vector d settings components)
 
-abbrev invariant_loop : tie.invariant_loop
+abbrev invariant_loop : tie.invariant-loop-i
 invariant_loop d n m settings components bytes₀ i₀ bytes i = Puts d n m settings components bytes₀ bytes i
 
-abbrev decreases_loop : tie.decreases_loop
+abbrev decreases_loop : tie.decreases-loop-i
 decreases_loop d n m settings components bytes₀ i₀ bytes i = n - i
 
-loop_holds : tie.Need-loop-init invariant_loop decreases_loop
+loop_holds : tie.Need-loop-i-init invariant_loop decreases_loop
 unfolding each
 loop_holds c = record { few = omega arith; room = refl; so_far = sym (append-nil _) }
 
 -- the index of a vector's first component is small
-from_small : (c : tie.In-loop invariant_loop decreases_loop) → c.before.loop.i * c.before.before.before.before.args.d ≤ 16384
+from_small : (c : tie.In-loop-i invariant_loop decreases_loop) → c.loop-i.i * c.args.d ≤ 16384
 from_small c =
-    let start = c.before.before.before.before in
-    let few : c.before.loop.i ≤ max_vectors = omega (arith, start.requires.few, c.loop-test.true) in
+    let start = c in
+    let few : c.loop-i.i ≤ max_vectors = omega (arith, start.requires.few, c.loop-i-test.true) in
     mul-le-mul few start.requires.few_dimensions
 
 -- a turn has room for its record
-module _ (c : tie.After-vector-place invariant_loop decreases_loop) where
-  place_is : c.vector_place.result ≡ 5 + c.before.before.before.before.before.args.m * 5 + c.before.before.loop.i * 69
-  place_is = c.vector_place.ensures ∙ vector_place_lem c.before.before.before.before.before.args.m c.before.before.loop.i
+module _ (c : tie.After-vector_place invariant_loop decreases_loop) where
+  place_is : c.vector_place.result ≡ 5 + c.args.m * 5 + c.loop-i.i * 69
+  place_is = c.vector_place.ensures ∙ vector_place_lem c.args.m c.loop-i.i
 
-  room_left : c.vector_place.result + record_length vector_kind ≤ length c.before.before.loop.bytes
+  room_left : c.vector_place.result + record_length vector_kind ≤ length c.loop-i.bytes
   room_left =
-      let start = c.before.before.before.before.before in
+      let start = c in
       let whole = rw (vector_place_lem start.args.m start.args.n) at start.requires.fits in
-      rw vector_length (omega (arith, place_is, c.before.loop-test.true, c.before.before.loop.invariant.room))
+      rw vector_length (omega (arith, place_is, c.loop-i-test.true, c.loop-i.invariant.room))
 
-write_vector_requires : tie.Need-write-vector-requires invariant_loop decreases_loop
+write_vector_requires : tie.Need-write_vector-requires invariant_loop decreases_loop
 write_vector_requires c κs =
-    let at = c.before.before in
-    let start = at.before.before.before.before.before in
-    let row = row_within start.args.d at.before.loop-test.true in (
-      room_left at,
+    let at = c in
+    let start = at in
+    let row = row_within start.args.d at.loop-i-test.true in (
+      room_left at.before.before,
       record {
         few = start.requires.few_dimensions;
         within = omega (arith, row, start.requires.components_count);
@@ -65,28 +65,28 @@ write_vector_requires c κs =
       },
     )
 
-loop_again : tie.Need-loop-preserved invariant_loop decreases_loop
+loop_again : tie.Need-loop-i-preserved invariant_loop decreases_loop
 loop_again c =
-    let one = c.before.before in
-    let at = one.before.before.before in
-    let now = at.before.before in
-    let args = now.before.before.before.args in
-    let i = now.loop.i in
+    let one = c in
+    let at = one in
+    let now = at in
+    let args = now.args in
+    let i = now.loop-i.i in
     let next : at.vector_place.result + record_length vector_kind ≡ vector_place args.m (i + 1) =
-    omega (arith, place_is at, vector_length, vector_place_lem args.m (i + 1)) in
+    omega (arith, place_is at.before.before.before.before.before, vector_length, vector_place_lem args.m (i + 1)) in
     record {
-      few = omega (arith, at.before.loop-test.true);
-      room = one.write_vector.auto.1.1.1.1.1.0 ∙ now.loop.invariant.room;
+      few = omega (arith, at.loop-i-test.true);
+      room = one.write_vector.auto.bytes ∙ now.loop-i.invariant.room;
       so_far =
           each_grows (take (vector_place args.m 0) args.bytes.now) i (vector args.d args.settings.now args.components.now)
-          now.loop.invariant.so_far
+          now.loop-i.invariant.so_far
           (rw (next, at.vector_place.ensures) at one.write_vector.ensures);
     }
 
 returns : tie.Need-returns invariant_loop decreases_loop
 returns c =
-    let now = c.before.loop in
-    let all : now.i ≡ c.before.before.before.before.args.n = omega (arith, now.invariant.few, c.loop-test.false) in
+    let now = c.loop-i in
+    let all : now.i ≡ c.args.n = omega (arith, now.invariant.few, c.loop-i-test.false) in
     rw all at now.invariant.so_far
 
 pub write_vectors_spec : {M : Type 1} → statement M
@@ -96,15 +96,15 @@ write_vectors_spec =
     invariant_loop
     decreases_loop
     loop_holds
-    (λ c. omega (arith, c.before.before.before.before.requires.few_marks))
-    (λ c. omega (arith, c.before.before.before.before.requires.few, c.loop-test.true))
+    (λ c. omega (arith, c.requires.few_marks))
+    (λ c. omega (arith, c.requires.few, c.loop-i-test.true))
     (λ c κs. search rules)
-    (λ c. omega (arith, c.before.before.before.before.before.requires.few))
-    (λ c. omega (arith, c.before.before.before.before.before.before.requires.settings_count, c.before.before.loop-test.true))
+    (λ c. omega (arith, c.requires.few))
+    (λ c. omega (arith, c.requires.settings_count, c.loop-i-test.true))
     (λ c. omega (arith, from_small c.before.before))
     write_vector_requires
     (λ c. omega arith)
     (λ c. omega arith)
     loop_again
-    (λ c. omega (arith, c.before.loop.invariant.room))
+    (λ c. omega (arith, c.loop-i.invariant.room))
     returns)
