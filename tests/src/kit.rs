@@ -9,7 +9,7 @@ use std::{
     time::Duration,
 };
 
-/// The program, as `rt ci` and `rt check kit` leave it.
+/// The program, as `./build kit` leaves it.
 fn program() -> PathBuf {
     root().join("target/bin/kit")
 }

@@ -1,6 +1,7 @@
 // A batch of queries to one library (document 02, Slip 5): what it is asked and what it answers, the tests that refuse it whole, and those
 // that refuse one of its queries before anything is read.
 #![tactic(auto)]
+
 ghost use Rattle.std.specs.Prelude.{◌≡◌, true, ◌++◌, ◌≤◌, length};
 ghost use Rattle.refusal.specs.declared.Verdict.TheVariants.{Accepted};
 ghost use Rattle.refusal.specs.First.{first};
@@ -15,7 +16,7 @@ use refusal::{Refusal, Verdict};
 use search::Searched;
 
 // The numbers of a batch: of dimensions, bits, vectors and neighbours, and of queries.
-#[derive(Drop)]
+#[derive(Clone, Copy, Drop)]
 pub struct BatchTerms {
     pub d: usize,
     pub b: usize,
@@ -25,7 +26,7 @@ pub struct BatchTerms {
 }
 
 // How long its buffers are, but for the marks and the codes.
-#[derive(Drop)]
+#[derive(Clone, Copy, Drop)]
 pub struct BatchLengths {
     pub queries: usize,
     pub words: usize,

@@ -1,5 +1,6 @@
 // The full scan: the vectors nearest to a query, by all their distances over the dimensions that are present.
 #![tactic(auto)]
+
 ghost use Rattle.std.specs.Prelude.{◌≡◌, ◌&&◌, [], ◌*◌, ◌^◌, ◌≤◌, ◌<◌, eqb, length};
 ghost use Rattle.refusal.specs.First.{first, outcome};
 ghost use Rattle.limits.specs.Limits.{max_dimensions, max_vectors};
@@ -17,7 +18,7 @@ use limits::{MAX_DIMENSIONS, MAX_NEIGHBOURS, MAX_VECTORS};
 use refusal::{Refusal, Verdict};
 
 // The numbers of a scan: of dimensions, of vectors and of neighbours, and the query's presence word.
-#[derive(Drop)]
+#[derive(Clone, Copy, Drop)]
 pub struct ScanTerms {
     pub d: usize,
     pub n: usize,

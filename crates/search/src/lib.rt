@@ -1,6 +1,7 @@
 // What the search is, and its theorems (specs/Search.antt, specs/Theorems.antt). In code: what it is asked, what it answers, and the
 // test at its entry.
 #![tactic(auto)]
+
 pub mod entry;
 
 ghost use Rattle.std.specs.Prelude.{◌≡◌};
@@ -11,7 +12,7 @@ use limits::MAX_NEIGHBOURS;
 use refusal::Refusal;
 
 // The numbers of a search: of dimensions, bits, vectors and neighbours, and the query's presence word.
-#[derive(Drop)]
+#[derive(Clone, Copy, Drop)]
 pub struct Terms {
     pub d: usize,
     pub b: usize,

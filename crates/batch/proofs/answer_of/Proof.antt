@@ -6,13 +6,13 @@ use Rattle.batch.specs.Batch.{answer_of}
 use Rattle.batch.proofs.answer_of.Statement.{statement}
 use Rattle.batch.proofs.answer_of.Tie as tie
 
-returns : tie.Need-returns
-returns c = sym (ap answer_of c.before.answer.given.1)
+returns : tie.Need-returns-in-Read
+returns c = sym (ap answer_of c.in-Read.is)
 
-returns_2 : tie.Need-returns-2
+returns_2 : tie.Need-returns-in-Refused
 returns_2 c =
     ap (λ (status : ℕ). record { status = status; count = 0 }) c.number.ensures
-    ∙ sym (ap answer_of c.before.before.answer2.given.1)
+    ∙ sym (ap answer_of c.in-Refused.is)
 
 pub answer_of_spec : {M : Type 1} → statement M
 answer_of_spec = tie.close (tie.spec (λ c. search rules) (λ c. search rules) (λ c κs. search rules) returns returns_2)

@@ -7,20 +7,20 @@ use Rattle.batch.specs.Batch.{component_causes}
 use Rattle.batch.proofs.check_query.Statement.{statement}
 use Rattle.batch.proofs.check_query.Tie as tie
 
-returns : tie.Need-returns
+returns : tie.Need-returns-in-Accepted
 returns c =
-    let tested = c.before.before.before in
-    let a = tested.before.args in
-    c.check-components.ensures
+    let tested = c in
+    let a = tested.args in
+    c.check_components.ensures
     ∙ sym (first_append (word_causes a.d a.word) (component_causes a.query.now)
-    ∙ outcome_accepted _ _ (sym tested.check-word.ensures ∙ c.before.enum_told.given.1))
+    ∙ outcome_accepted _ _ (sym tested.check_word.ensures ∙ c.in-Accepted.is))
 
-returns_2 : tie.Need-returns-2
+returns_2 : tie.Need-returns-in-Refused
 returns_2 c =
-    let tested = c.before.before.before in
-    let a = tested.before.args in
+    let tested = c in
+    let a = tested.args in
     sym (first_append (word_causes a.d a.word) (component_causes a.query.now)
-    ∙ outcome_refused _ _ (sym tested.check-word.ensures ∙ c.before.cause.given.1))
+    ∙ outcome_refused _ _ (sym tested.check_word.ensures ∙ c.in-Refused.is))
 
 pub check_query_spec : {M : Type 1} → statement M
 check_query_spec =

@@ -28,16 +28,15 @@ module _ (c : tie.Start) where
   neighbours : c.args.terms.k ≤ 512
   neighbours = omega (arith, c.requires.2, c.requires.3)
 
-marked : (c : tie.After-marks-length) → let t = c.before.args.terms in c.marks-length.result ≡ first_marks t.d t.b t.d
-marked c = c.marks-length.ensures ∙ marks_length_is _ _ c.before.requires.1
+marked : (c : tie.After-marks_length) → let t = c.args.terms in c.marks_length.result ≡ first_marks t.d t.b t.d
+marked c = c.marks_length.ensures ∙ marks_length_is _ _ c.requires.1
 
-coded : (c : tie.After-codes-length) → let t = c.before.before.args.terms in c.codes-length.result ≡ code_length t.b t.n
-coded c = c.codes-length.ensures ∙ codes_length_is _ _ _ c.before.before.requires.1 c.before.before.requires.2
+coded : (c : tie.After-codes_length) → let t = c.args.terms in c.codes_length.result ≡ code_length t.b t.n
+coded c = c.codes_length.ensures ∙ codes_length_is _ _ _ c.requires.1 c.requires.2
 
 returns : tie.Need-returns
 returns c =
-    let second = c.before.before.before.before.before.before.before.before.before.before.before.before in
-    rw (marked second.before, coded second)
+    rw (marked c.before.before.before.before.before.before.before.before.before.before.before.before.before, coded c.before.before.before.before.before.before.before.before.before.before.before.before)
 
 pub exact_lengths_spec : {M : Type 1} → statement M
 exact_lengths_spec =

@@ -12,26 +12,26 @@ use Rattle.scan.proofs.check_buffers.Statement.{statement}
 use Rattle.scan.proofs.check_buffers.Tie as tie
 
 -- a number of vectors and a number of dimensions have a small product
-exact_lengths_requires : tie.Need-exact-lengths-requires
+exact_lengths_requires : tie.Need-exact_lengths-requires
 exact_lengths_requires c κs =
     let t = c.args.terms in
     let small : t.n * t.d ≤ max_vectors * max_dimensions = mul-le-mul c.requires.1 c.requires.0 in
     omega arith
 
-returns : tie.Need-returns
-returns c = sym (first_here Length _ (told c.before.exact-lengths.ensures c.if1.true))
+returns : tie.Need-returns-then-not-exact_lengths
+returns c = sym (first_here Length _ (told c.exact_lengths.ensures c.if-not-exact_lengths.true-raw))
 
-returns_2 : tie.Need-returns-2
+returns_2 : tie.Need-returns-then-not-all_components
 returns_2 c =
-    let one = c.before.before in
-    sym (first_next Length _ (told one.before.exact-lengths.ensures one.if1.false)
-    ∙ first_here Component _ (told c.before.all_components.ensures c.if2.true))
+    let one = c in
+    sym (first_next Length _ (told one.exact_lengths.ensures one.if-not-exact_lengths.false-raw)
+    ∙ first_here Component _ (told c.all_components.ensures c.if-not-all_components.true-raw))
 
-returns_3 : tie.Need-returns-3
+returns_3 : tie.Need-returns
 returns_3 c =
-    let one = c.before.before in
-    sym (first_next Length _ (told one.before.exact-lengths.ensures one.if1.false)
-    ∙ first_next Component [] (told c.before.all_components.ensures c.if2.false)
+    let one = c in
+    sym (first_next Length _ (told one.exact_lengths.ensures one.if-not-exact_lengths.false-raw)
+    ∙ first_next Component [] (told c.all_components.ensures c.if-not-all_components.false-raw)
     ∙ first_none)
 
 pub check_buffers_spec : {M : Type 1} → statement M

@@ -17,11 +17,11 @@ use Rattle.distance.proofs.Filling.{Filling, filling_start, filling_next, fillin
 use Rattle.scan.proofs.measure_all.Statement.{statement}
 use Rattle.scan.proofs.measure_all.Tie as tie
 
-abbrev invariant_loop : tie.invariant_loop
+abbrev invariant_loop : tie.invariant-loop-i
 invariant_loop d factors query vectors keys₀ i₀ keys i =
     (i ≤ length keys₀) × (length keys ≡ length keys₀) × Filling (values_from (distances_of d factors query vectors) 0 (length keys₀)) keys i
 
-abbrev decreases_loop : tie.decreases_loop
+abbrev decreases_loop : tie.decreases-loop-i
 decreases_loop d factors query vectors keys₀ i₀ keys i = length keys₀ - i
 
 -- vector i's part of the row
@@ -35,17 +35,17 @@ part {d} {n} given i below =
     let small : n * d ≤ max_vectors * max_dimensions = mul-le-mul given.count given.few in
     record { within = omega (arith, suc-mul i d, given.full); small = omega (arith, given.full) }
 
-here : (c : tie.In-loop invariant_loop decreases_loop) → let start =
-    c.before.before.before in Part start.args.d c.before.loop.i (length start.args.vectors.now)
-here c = part c.before.before.before.requires.0 c.before.loop.i (omega arith)
+here : (c : tie.In-loop-i invariant_loop decreases_loop) → let start =
+    c in Part start.args.d c.loop-i.i (length start.args.vectors.now)
+here c = part c.requires.0 c.loop-i.i (omega arith)
 
-loop_holds : tie.Need-loop-init invariant_loop decreases_loop
+loop_holds : tie.Need-loop-i-init invariant_loop decreases_loop
 loop_holds c = (omega arith, refl, filling_start _ _ (sym (values_length _ 0 _)))
 
-loop_again : tie.Need-loop-preserved invariant_loop decreases_loop
+loop_again : tie.Need-loop-i-preserved invariant_loop decreases_loop
 loop_again c =
-    let at = c.before.before.before.loop in
-    let start = c.before.before.before.before.before in
+    let at = c.loop-i in
+    let start = c in
     let a = start.args in
     let n = length a.keys.now in
     let f = distances_of a.d a.factors.now a.query.now a.vectors.now in
@@ -53,19 +53,19 @@ loop_again c =
     let size : at.i * a.d + a.d - at.i * a.d ≡ a.d = omega arith in
     let whole = vector_size a.d a.vectors.now at.i (here c.before.before).within in
     let key =
-    c.weighed-distance.ensures
+    c.weighed_distance.ensures
     ∙ ap (λ (m : ℕ). measured_of a.factors.now a.query.now (take m (drop (at.i * a.d) a.vectors.now))) size
     ∙ scanned_exact a.factors.now start.requires.1 start.requires.0 at.i whole ∙ sym (value_at f n at.i more) in (
       omega arith,
       simp length-set at.invariant.1,
-      filling_next (values_from f 0 n) at.keys at.i c.weighed-distance.result 0 (omega (arith, values_length f 0 n)) key
+      filling_next (values_from f 0 n) at.keys at.i c.weighed_distance.result 0 (omega (arith, values_length f 0 n)) key
           at.invariant.2,
     )
 
 returns : tie.Need-returns invariant_loop decreases_loop
 returns c =
-    let at = c.before.loop in
-    let n = length c.before.before.before.args.keys.now in
+    let at = c.loop-i in
+    let n = length c.args.keys.now in
     let all : at.i ≡ n = omega arith in
     filling_end _ at.keys at.i (all ∙ sym (values_length _ 0 n)) at.invariant.2
 
@@ -88,5 +88,5 @@ measure_all_spec =
     (λ c. search rules)
     (λ c. search rules)
     loop_again
-    (λ c. c.before.loop.invariant.1)
+    (λ c. c.loop-i.invariant.1)
     returns)

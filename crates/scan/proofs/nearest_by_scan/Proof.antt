@@ -16,25 +16,25 @@ use Rattle.scan.proofs.nearest_by_scan.Tie as tie
 abbrev verdict : tie.Start → Verdict
 verdict s = first (scan_causes s.args.terms s.args.query.now s.args.vectors.now s.args.entries)
 
-accepted : (c : tie.After-enum-told) → verdict c.before.before.before ≡ Accepted
-accepted c = sym c.before.before.check-scan.ensures ∙ c.enum_told.given.1
+accepted : (c : tie.In-Accepted) → verdict c.before.before ≡ Accepted
+accepted c = sym c.check_scan-verdict.ensures ∙ c.in-Accepted.is
 
-scan_ready_requires : tie.Need-scan-ready-requires
+scan_ready_requires : tie.Need-scan_ready-requires
 scan_ready_requires c κs =
-    let a = c.before.before.before.args in
+    let a = c.args in
     let is = scannable a.terms a.query.now a.vectors.now a.entries (accepted c) in
     (is.vectors_are, is.among)
 
-returns : tie.Need-returns
+returns : tie.Need-returns-in-Accepted
 returns c =
     let none = accepted c.before in
-    (sym none, c.scan-ready.ensures ∙ ap in_array (sym (outcome_accepted _ _ none)))
+    (sym none, c.scan_ready.ensures ∙ ap in_array (sym (outcome_accepted _ _ none)))
 
-returns_2 : tie.Need-returns-2
+returns_2 : tie.Need-returns-in-Refused
 returns_2 c =
-    let told = c.before.before in
-    let some = sym told.before.before.check-scan.ensures ∙ told.verdict.given.1 in
-    (sym some, c.no-entries.ensures ∙ ap in_array (sym (outcome_refused _ _ some)))
+    let told = c in
+    let some = sym told.check_scan-verdict.ensures ∙ told.in-Refused.is in
+    (sym some, c.no_entries.ensures ∙ ap in_array (sym (outcome_refused _ _ some)))
 
 pub nearest_by_scan_spec : {M : Type 1} → statement M
 nearest_by_scan_spec =

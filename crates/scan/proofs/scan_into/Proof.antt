@@ -24,29 +24,29 @@ use Rattle.scan.specs.Scanned.{Vectors, scan_pairs}
 use Rattle.scan.proofs.scan_into.Statement.{statement}
 use Rattle.scan.proofs.scan_into.Tie as tie
 
-measure_all_requires : tie.Need-measure-all-requires
+measure_all_requires : tie.Need-measure_all-requires
 measure_all_requires c κs =
-    let start = c.before.before.before in
+    let start = c in
     let t = start.args.terms in (
       subst⁻¹ (λ (n : ℕ). Vectors t.d n start.args.query.now start.args.vectors.now) start.requires.2 start.requires.0,
       rw start.requires.3 (word_small t.word),
     )
 
-numbers_hold : tie.Need-array-borrow-prefix-numbers
-numbers_hold c = c.before.before.before.before.before.before.before.requires.1.few
+numbers_hold : tie.Need-slice_bounds-numbers-end
+numbers_hold c = c.requires.1.few
 
-least_hold : tie.Need-array-borrow-prefix-least
-least_hold c = c.before.before.before.before.before.before.before.before.requires.1.few
+least_hold : tie.Need-slice_bounds-least-end
+least_hold c = c.requires.1.few
 
-least_within : tie.Need-array-share-prefix-least
+least_within : tie.Need-slice_bounds-least-end-2
 least_within c =
-    let chosen = c.before.before.before in
-    back_within _ _ chosen.select.new.1.1.0 (least_hold chosen.before.before.before) chosen.select.auto.1.1.0
+    let chosen = c.before.before.before.before.before.before in
+    back_within _ _ c.select.new.least (least_hold chosen) c.select.auto.least
 
-numbers_within : tie.Need-array-share-prefix-numbers
+numbers_within : tie.Need-slice_bounds-numbers-end-2
 numbers_within c =
-    let chosen = c.before.before.before.before in
-    back_within _ _ chosen.select.new.1.0 (numbers_hold chosen.before.before.before.before) chosen.select.auto.1.0
+    let chosen = c.before.before.before.before.before.before.before.before in
+    back_within _ _ c.select.new.numbers (numbers_hold chosen) c.select.auto.numbers
 
 -- the least of n keys are selected, and their pairs are the scan's
 selected : (f : ℕ → ℕ) (n k : ℕ) (keys numbers least old-numbers old-least : List ℕ) (room more words : ℕ) → n ≤ max_vectors
@@ -66,25 +66,25 @@ selected f n k keys numbers least old-numbers old-least room more words few amon
 
 returns : tie.Need-returns
 returns c =
-    let chosen = c.before.before.before.before.before.before in
-    let measured = chosen.before.before.before.before.before.before.before in
-    let start = measured.before.before.before.before in
+    let chosen = c in
+    let measured = chosen in
+    let start = measured in
     let t = start.args.terms in
     let f = distances_of t.d (factors_of t.word) start.args.query.now start.args.vectors.now in
     let by_word_lem = ap (λ (fs : List ℕ). values_from (distances_of t.d fs start.args.query.now start.args.vectors.now) 0
     (length start.args.distances.now)) start.requires.3 in
-    let of_numbers = numbers_hold chosen.before.before.before.before in
-    let of-least = least_hold chosen.before.before.before in
+    let of_numbers = numbers_hold c.before.before.before.before.before.before.before.before.before.before in
+    let of-least = least_hold c.before.before.before.before.before.before.before.before.before in
     let pairs =
     selected f t.n t.k _ _ _ _ _ _ _ _ start.requires.0.count start.requires.1
-    (measured.measure-all.ensures ∙ by_word_lem ∙ ap (values_from f 0) start.requires.2)
+    (measured.measure_all.ensures ∙ by_word_lem ∙ ap (values_from f 0) start.requires.2)
     chosen.select.ensures.1.0 chosen.select.ensures.1.1.0 (length-take-le _ _ of_numbers) (length-take-le _ _ of-least)
     start.requires.1.few in
-    c.entries-of.ensures
+    c.entries_of.ensures
     ∙ ap (λ (ps : List Pair). in_array (entries_of ps))
     (rw (
-      shared_is _ _ chosen.select.new.1.1.0 of-least chosen.select.auto.1.1.0,
-      shared_is _ _ chosen.select.new.1.0 of_numbers chosen.select.auto.1.0,
+      shared_is _ _ chosen.select.new.least of-least chosen.select.auto.least,
+      shared_is _ _ chosen.select.new.numbers of_numbers chosen.select.auto.numbers,
     ) pairs)
 
 pub scan_into_spec : {M : Type 1} → statement M

@@ -5,14 +5,14 @@ use borrow.Author.Rules.{rules}
 use Rattle.scan.proofs.scan_ready.Statement.{statement}
 use Rattle.scan.proofs.scan_ready.Tie as tie
 
-distances_hold : tie.Need-array-borrow-prefix-distances
-distances_hold c = c.before.requires.0.count
+distances_hold : tie.Need-slice_bounds-distances-end
+distances_hold c = c.requires.0.count
 
-scan_into_requires : tie.Need-scan-into-requires
+scan_into_requires : tie.Need-scan_into-requires
 scan_into_requires c κs =
-    let made = c.before in
-    let start = made.before in
-    (start.requires.0, start.requires.1, length-take-le _ _ (distances_hold made), made.factors-of.ensures)
+    let made = c in
+    let start = made in
+    (start.requires.0, start.requires.1, length-take-le _ _ (distances_hold made.before), made.factors_of-factors.ensures)
 
 pub scan_ready_spec : {M : Type 1} → statement M
 scan_ready_spec =

@@ -19,12 +19,12 @@ use Rattle.table.specs.Table.{steps_from}
 use Rattle.table.proofs.fill_steps.Statement.{statement}
 use Rattle.table.proofs.fill_steps.Tie as tie
 
-abbrev invariant_loop : tie.invariant_loop
+abbrev invariant_loop : tie.invariant-loop-r
 invariant_loop bound factor q marks steps₀ r₀ steps r =
     let from = steps_from (step_of bound) factor (to_z w32 q) marks in
     (r ≤ length steps₀) × (length steps ≡ length steps₀) × (take r steps ++ from r (length steps₀ - r) ≡ from 0 (length steps₀))
 
-abbrev decreases_loop : tie.decreases_loop
+abbrev decreases_loop : tie.decreases-loop-r
 decreases_loop bound factor q marks steps₀ r₀ steps r = length steps₀ - r
 
 steps_one : (step : ℤ → ℤ → ℤ → ℕ) (factor : ℕ) (q : ℤ) (marks : List ℤ) (r n : ℕ) → r < n
@@ -45,20 +45,20 @@ abbrev component : ℤ → ℤ
 component q = to_z w32 (of_z w32 q)
 
 -- the entry of region r
-here : (c : tie.After-weighed-step invariant_loop decreases_loop) → let at = c.before.before.before.before in let args = at.before.before.args in
-    c.weighed-step.result ≡ weighed_word args.factor (step_to (step_of args.bound) (component args.q) args.marks.now at.loop.r)
+here : (c : tie.After-weighed_step invariant_loop decreases_loop) → let at = c in let args = at.args in
+    c.weighed_step.result ≡ weighed_word args.factor (step_to (step_of args.bound) (component args.q) args.marks.now at.loop-r.r)
 here c =
-    let two = c.before in
-    let one = two.before in
-    let low = read_back (record { sfits = one.at.type-inv }) one.at.ensures in
-    let high = read_back (record { sfits = two.at2.type-inv }) two.at2.ensures in
-    rw (low, high, add-one) at c.weighed-step.ensures
+    let two = c in
+    let one = two in
+    let low = read_back (record { sfits = one.at.type_inv }) one.at.ensures in
+    let high = read_back (record { sfits = two.at-in-loop-r.type_inv }) two.at-in-loop-r.ensures in
+    rw (low, high, add-one) at c.weighed_step.ensures
 
-loop_again : tie.Need-loop-preserved invariant_loop decreases_loop
+loop_again : tie.Need-loop-r-preserved invariant_loop decreases_loop
 loop_again c =
-    let at = c.before.before.before.before in
-    let args = at.before.before.args in
-    let loop = at.loop in
+    let at = c in
+    let args = at.args in
+    let loop = at.loop-r in
     let room : loop.r < length loop.steps = omega arith in
     let step = step_of args.bound in
     let rest = steps_one step args.factor (component args.q) args.marks.now loop.r (length args.steps.now) (omega arith) in (
@@ -69,8 +69,8 @@ loop_again c =
 
 returns : tie.Need-returns invariant_loop decreases_loop
 returns c =
-    let at = c.before.loop in
-    let start = c.before.before.before in
+    let at = c.loop-r in
+    let start = c in
     let args = start.args in
     let step = step_of args.bound in
     let n = length args.steps.now in
@@ -94,5 +94,5 @@ fill_steps_spec =
     (λ c. omega arith)
     (λ c. omega arith)
     loop_again
-    (λ c. c.before.loop.invariant.1)
+    (λ c. c.loop-r.invariant.1)
     returns)

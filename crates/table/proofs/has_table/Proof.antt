@@ -10,28 +10,28 @@ use Rattle.table.specs.Table.{has_table}
 use Rattle.table.proofs.has_table.Statement.{statement}
 use Rattle.table.proofs.has_table.Tie as tie
 
-shaped : (c : tie.After-enum-told) → let a = c.before.before.before.args in first (shape_causes a.d a.b) ≡ Accepted
-shaped c = sym c.before.before.check-shape.ensures ∙ c.enum_told.given.1
+shaped : (c : tie.In-Accepted) → let a = c.args in first (shape_causes a.d a.b) ≡ Accepted
+shaped c = sym c.check_shape.ensures ∙ c.in-Accepted.is
 
-wanted : (c : tie.After-marks-length) → let a = c.before.before.before.before.args in
-    c.marks-length.result ≡ first_marks a.d a.b a.d
-wanted c = c.marks-length.ensures ∙ marks_length_is _ _ (shaped c.before)
+wanted : (c : tie.After-marks_length-length) → let a = c.args in
+    c.marks_length-length.result ≡ first_marks a.d a.b a.d
+wanted c = c.marks_length-length.ensures ∙ marks_length_is _ _ (shaped c.before)
 
-returns : tie.Need-returns
+returns : tie.Need-returns-then-marks-length
 unfolding has_table
 returns c =
-    let marked = c.before in
-    sym (outcome_accepted _ _ (shaped marked.before) ∙ rw (← wanted marked, eq-eqb _ _ c.if1.true))
+    let marked = c in
+    sym (outcome_accepted _ _ (shaped marked.before.before) ∙ rw (← wanted marked.before, eq-eqb _ _ c.if-marks-length.true))
 
-returns_2 : tie.Need-returns-2
+returns_2 : tie.Need-returns-else-marks-length
 unfolding has_table
 returns_2 c =
-    let marked = c.before in
-    sym (outcome_accepted _ _ (shaped marked.before) ∙ rw (← wanted marked, ne_eqb _ _ c.if1.false))
+    let marked = c in
+    sym (outcome_accepted _ _ (shaped marked.before.before) ∙ rw (← wanted marked.before, ne_eqb _ _ c.if-marks-length.false))
 
-returns_3 : tie.Need-returns-3
+returns_3 : tie.Need-returns-in-Refused
 unfolding has_table
-returns_3 c = sym (outcome_refused _ _ (sym c.before.before.check-shape.ensures ∙ c.enum-told2.given.1))
+returns_3 c = sym (outcome_refused _ _ (sym c.check_shape.ensures ∙ c.in-Refused.is))
 
 pub has_table_spec : {M : Type 1} → statement M
 has_table_spec =

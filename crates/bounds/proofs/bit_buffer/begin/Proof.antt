@@ -6,7 +6,7 @@ use Rattle.bounds.proofs.bit_buffer.begin.Tie as tie
 
 returns : tie.Need-returns
 returns c =
-    let args = c.before.before.args in
+    let args = c.args in
     begins args.codes.now args.from c.bits_at.ensures
 
 pub begin_spec : {M : Type 1} → statement M

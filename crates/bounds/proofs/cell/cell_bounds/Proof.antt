@@ -11,61 +11,61 @@ use Rattle.bounds.proofs.cell.cell_bounds.Statement.{statement}
 use Rattle.bounds.proofs.cell.cell_bounds.Tie as tie
 
 -- the verdict, of what is given
-abbrev verdict : (c : tie.After-check-bounds) → Verdict
+abbrev verdict : (c : tie.After-check_bounds-verdict) → Verdict
 verdict c =
-    let a = c.before.before.before.before.args in
+    let a = c.args in
     first (bounds_causes a.d a.b a.n a.word a.query.now a.marks.now a.codes.now (length a.lowers.now)
     (length a.uppers.now))
 
-accepted : (c : tie.After-enum-told) → verdict c.before.before ≡ Accepted
-accepted c = sym c.before.before.check-bounds.ensures ∙ c.enum_told.given.1
+accepted : (c : tie.In-Accepted) → verdict c.before ≡ Accepted
+accepted c = sym c.check_bounds-verdict.ensures ∙ c.in-Accepted.is
 
-told : (c : tie.After-enum-told) → let a = c.before.before.before.before.before.before.args in
+told : (c : tie.In-Accepted) → let a = c.args in
     Bounded a.d a.b a.n a.query.now a.marks.now a.codes.now (length a.lowers.now) (length a.uppers.now)
 told c = bounded _ _ _ _ _ _ _ _ _ (accepted c)
 
 -- the factors are those of the word
-moderate : (c : tie.After-factors-of) → Factors c.factors-of.result
-moderate c = rw c.factors-of.ensures (word_small c.before.before.before.before.before.before.before.args.word)
+moderate : (c : tie.After-factors_of-factors) → Factors c.factors_of-factors.result
+moderate c = rw c.factors_of-factors.ensures (word_small c.args.word)
 
-fill_bounds_requires : tie.Need-fill-bounds-requires
+fill_bounds_requires : tie.Need-fill_bounds-requires
 fill_bounds_requires c κs =
-    let made = c.before in
-    let is = told made.before in
-    (rw is.of_lowers is.are, moderate made)
+    let made = c in
+    let is = told c.before.before in
+    (rw is.of_lowers is.are, moderate c.before)
 
-fill_bounds_requires_2 : tie.Need-fill-bounds-requires-2
+fill_bounds_requires_2 : tie.Need-fill_bounds-requires-in-Accepted
 fill_bounds_requires_2 c κs =
-    let made = c.before.before.before.before.before in
-    let is = told made.before in
-    (rw is.of_uppers is.are, moderate made)
+    let made = c in
+    let is = told c.before.before.before.before.before.before in
+    (rw is.of_uppers is.are, moderate c.before.before.before.before.before)
 
-returns : tie.Need-returns
+returns : tie.Need-returns-in-Accepted
 returns c =
-    let uppers = c.before.before in
-    let lowers = uppers.before.before.before.before in
-    let made = lowers.before.before in
-    let asked = made.before in
-    let a = asked.before.before.before.before.before.before.args in
-    let is = told asked in
-    let none = accepted asked in
-    let factors = made.factors-of.ensures in
+    let uppers = c in
+    let lowers = uppers in
+    let made = lowers in
+    let asked = made in
+    let a = asked.args in
+    let is = told c.before.before.before.before.before.before.before.before.before in
+    let none = accepted c.before.before.before.before.before.before.before.before.before in
+    let factors = made.factors_of-factors.ensures in
     let lower : List ℕ → ℕ → List ℕ =
     λ fs n. values_from (weighed_lower a.d a.b a.marks.now a.codes.now fs a.query.now) 0 n in
     let upper : List ℕ → ℕ → List ℕ =
     λ fs n. values_from (weighed_upper a.d a.b a.marks.now a.codes.now fs a.query.now) 0 n in (
       sym none,
       (
-        lowers.fill-bounds.ensures ∙ ap₂ lower factors is.of_lowers ∙ sym (outcome_accepted _ _ none),
-        uppers.fill-bounds2.ensures ∙ ap₂ upper factors is.of_uppers ∙ sym (outcome_accepted _ _ none),
+        lowers.fill_bounds.ensures ∙ ap₂ lower factors is.of_lowers ∙ sym (outcome_accepted _ _ none),
+        uppers.fill_bounds-in-Accepted.ensures ∙ ap₂ upper factors is.of_uppers ∙ sym (outcome_accepted _ _ none),
       ),
     )
 
-returns_2 : tie.Need-returns-2
+returns_2 : tie.Need-returns-in-Refused
 returns_2 c =
-    let asked = c.before.before.before in
-    let some : verdict asked ≡ Refused c.before.verdict.given.0.0 =
-    sym asked.check-bounds.ensures ∙ c.before.verdict.given.1 in
+    let asked = c in
+    let some : verdict c.before ≡ Refused c.in-Refused.cause =
+    sym asked.check_bounds-verdict.ensures ∙ c.in-Refused.is in
     (sym some, (rw some, rw some))
 
 pub cell_bounds_spec : {M : Type 1} → statement M

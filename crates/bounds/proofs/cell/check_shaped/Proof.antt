@@ -15,31 +15,31 @@ rows start =
     let a = start.args in
     measured_bounds_causes a.d a.b a.n a.query.now a.marks.now a.codes.now a.lowers a.uppers
 
-counted : (c : tie.Else1) → is_vector_count c.before.before.before.args.n ≡ true
-counted c = sym c.before.is-vector-count.ensures ∙ not-false c.before.is-vector-count.result c.if1.false
+counted : (c : tie.Else-not-is_vector_count) → is_vector_count c.args.n ≡ true
+counted c = sym c.is_vector_count.ensures ∙ not-false c.is_vector_count.result c.if-not-is_vector_count.false-raw
 
-returns : tie.Need-returns
+returns : tie.Need-returns-then-not-is_vector_count
 unfolding first
-returns c = rw (← c.before.is-vector-count.ensures, not-true c.before.is-vector-count.result c.if1.true)
+returns c = rw (← c.is_vector_count.ensures, not-true c.is_vector_count.result c.if-not-is_vector_count.true-raw)
 
-returns_2 : tie.Need-returns-2
+returns_2 : tie.Need-returns-in-Accepted
 returns_2 c =
-    let asked = c.before.before.before in
-    let one = asked.before in
-    let start = one.before.before.before in
-    c.check-measured.ensures
-    ∙ sym (first_next Count _ (told one.before.is-vector-count.ensures one.if1.false)
-    ∙ first_append (word_causes start.args.d start.args.word) (rows start)
-    ∙ outcome_accepted _ _ (sym asked.check-word.ensures ∙ c.before.enum_told.given.1))
+    let asked = c in
+    let one = asked in
+    let start = one in
+    c.check_measured.ensures
+    ∙ sym (first_next Count _ (told one.is_vector_count.ensures one.if-not-is_vector_count.false-raw)
+    ∙ first_append (word_causes start.args.d start.args.word) (rows c.before.before.before.before.before.before)
+    ∙ outcome_accepted _ _ (sym asked.check_word.ensures ∙ c.in-Accepted.is))
 
-returns_3 : tie.Need-returns-3
+returns_3 : tie.Need-returns-in-Refused
 returns_3 c =
-    let asked = c.before.before.before in
-    let one = asked.before in
-    let start = one.before.before.before in
-    sym (first_next Count _ (told one.before.is-vector-count.ensures one.if1.false)
-    ∙ first_append (word_causes start.args.d start.args.word) (rows start)
-    ∙ outcome_refused _ _ (sym asked.check-word.ensures ∙ c.before.cause.given.1))
+    let asked = c in
+    let one = asked in
+    let start = one in
+    sym (first_next Count _ (told one.is_vector_count.ensures one.if-not-is_vector_count.false-raw)
+    ∙ first_append (word_causes start.args.d start.args.word) (rows c.before.before.before.before.before)
+    ∙ outcome_refused _ _ (sym asked.check_word.ensures ∙ c.in-Refused.is))
 
 pub check_shaped_spec : {M : Type 1} → statement M
 check_shaped_spec =
@@ -49,7 +49,7 @@ check_shaped_spec =
     returns
     (λ c κs. search rules)
     (λ c. search rules)
-    (λ c κs. (c.before.before.before.before.before.before.requires, counted c.before.before.before))
+    (λ c κs. (c.requires, counted c.before.before))
     (λ c. search rules)
     returns_2
     returns_3)

@@ -9,40 +9,40 @@ use Rattle.table.specs.TableLaws.{is_filled, bounds_sum, table_le}
 use Rattle.bounds.proofs.cell.fill_bounds.Statement.{statement}
 use Rattle.bounds.proofs.cell.fill_bounds.Tie as tie
 
-table_holds : tie.Need-array-borrow-prefix-table
+table_holds : tie.Need-slice_bounds-table-end
 table_holds c =
-    let start = c.before.before in
+    let start = c in
     omega (arith, start.requires.0.of_marks, table_le start.args.d start.args.b start.requires.0.shaped)
 
-table_within : tie.Need-array-share-prefix-table
+table_within : tie.Need-slice_bounds-table-end-2
 table_within c =
-    let filled = c.before in
-    let back = filled.fill-table.new.1.1.1.1.1.1.0 in
-    back_within _ _ back (table_holds filled.before.before) filled.fill-table.auto.1.1.1.1.1.1.0
+    let filled = c in
+    let back = filled.fill_table.new.table in
+    back_within _ _ back (table_holds c.before.before.before) filled.fill_table.auto.table
 
-sum_all_requires : tie.Need-sum-all-requires
+sum_all_requires : tie.Need-sum_all-requires
 sum_all_requires c κs =
-    let shared = c.before.before in
-    let start = shared.before.before.before.before.before in
+    let shared = c in
+    let start = shared in
     let is = start.requires.0 in
     let n = length start.args.bounds.now in
     let few : n ≤ max_vectors = (between 1 n max_vectors is.count).below in
-    (is.shaped, length-take-le _ _ (table_within shared) ∙ is.of_marks, few, omega (arith, is.of_codes))
+    (is.shaped, length-take-le _ _ (table_within c.before.before) ∙ is.of_marks, few, omega (arith, is.of_codes))
 
 returns : tie.Need-returns
 returns c =
-    let summed = c.before.before in
-    let filled = summed.before.before.before.before in
-    let start = filled.before.before.before.before in
+    let summed = c in
+    let filled = summed in
+    let start = filled in
     let a = start.args in
     let is = start.requires.0 in
     let n = length a.bounds.now in
-    let back = filled.fill-table.new.1.1.1.1.1.1.0 in
-    let came-back = shared_is _ _ back (table_holds filled.before.before) filled.fill-table.auto.1.1.1.1.1.1.0 in
+    let back = filled.fill_table.new.table in
+    let came-back = shared_is _ _ back (table_holds c.before.before.before.before.before.before.before.before) filled.fill_table.auto.table in
     let full =
-    filled.fill-table.ensures
-    ∙ is_filled a.d a.b _ _ _ _ is.shaped is.of_marks (length-take-le _ _ (table_holds filled.before.before)) in
-    summed.sum-all.ensures
+    filled.fill_table.ensures
+    ∙ is_filled a.d a.b _ _ _ _ is.shaped is.of_marks (length-take-le _ _ (table_holds c.before.before.before.before.before.before.before.before)) in
+    summed.sum_all.ensures
     ∙ ap (λ (table : List ℕ). values_from (bound_sum a.d a.b table a.codes.now) 0 n) (came-back ∙ full)
     ∙ bounds_sum a.bound a.d a.b a.marks.now a.factors a.query.now a.codes.now n start.requires.1 is.shaped is.components is.good
 

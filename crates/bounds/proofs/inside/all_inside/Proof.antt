@@ -14,27 +14,27 @@ there : (start : tie.Start) → Runs start.args.d start.args.b start.args.i (len
     (length start.args.marks.now)
 there start = runs (sizes start) start.requires.1 start.requires.3
 
-returns : tie.Need-returns
+returns : tie.Need-returns-then-not-run_inside
 returns c =
-    let start = c.before.before.before in
+    let start = c in
     let a = start.args in
     sym
-    (two_inside a.marks.now a.codes.now a.i a.vector.now a.d a.b (sizes start).fewest
-    (omega (arith, (sizes start).more))
-    ∙ rw (sym c.before.run_inside.ensures ∙ not-true c.before.run_inside.result c.if1.true))
+    (two_inside a.marks.now a.codes.now a.i a.vector.now a.d a.b (sizes start.before.before.before).fewest
+    (omega (arith, (sizes start.before.before.before).more))
+    ∙ rw (sym c.run_inside.ensures ∙ not-true c.run_inside.result c.if-not-run_inside.true-raw))
 
-returns_2 : tie.Need-returns-2
+returns_2 : tie.Need-returns
 returns_2 c =
-    let once = c.before.before.before in
-    let start = once.before.before in
+    let once = c in
+    let start = once in
     let a = start.args in
-    let told = sizes start in
+    let told = sizes start.before.before.before.before.before in
     let more = a.b % a.d in
     let rest = take_all (length a.vector.now - more) (drop more a.vector.now) (simp length-drop (omega arith)) in
-    rw (told.shift.exact, rest) at c.run-inside2.ensures
+    rw (told.shift.exact, rest) at c.run_inside-2.ensures
     ∙ sym
     (two_inside a.marks.now a.codes.now a.i a.vector.now a.d a.b told.fewest (omega (arith, told.more))
-    ∙ rw (sym once.run_inside.ensures ∙ not-false once.run_inside.result c.before.before.if1.false))
+    ∙ rw (sym once.run_inside.ensures ∙ not-false once.run_inside.result c.if-not-run_inside.false-raw))
 
 pub all_inside_spec : {M : Type 1} → statement M
 all_inside_spec =
@@ -47,15 +47,15 @@ all_inside_spec =
     (λ c. omega (arith, (sizes c.before).fewest))
     (λ c. omega (arith, (sizes c.before).shift.exact, (sizes c.before).shift.most))
     (λ c. rw (sizes c.before).shift.exact (omega (arith, (sizes c.before).wide_marks)))
-    (λ c κs. omega (arith, (sizes c.before).fewest, (sizes c.before).more, there c.before, c.before.requires.4))
+    (λ c κs. omega (arith, (sizes c.before).fewest, (sizes c.before).more, there c.before, c.requires.4))
     returns
     (λ c. omega (arith, (sizes c.before.before.before).wide_bits))
     (λ c. omega (arith, (sizes c.before.before.before).wide_bits, (sizes c.before.before.before).bits))
     (λ c. omega (arith, (sizes c.before.before.before).more, (sizes c.before.before.before).few))
-    (λ c. omega (arith, (sizes c.before.before.before).more, c.before.before.before.requires.4))
-    (λ c. omega (arith, (sizes c.before.before.before).more, c.before.before.before.requires.4))
+    (λ c. omega (arith, (sizes c.before.before.before).more, c.requires.4))
+    (λ c. omega (arith, (sizes c.before.before.before).more, c.requires.4))
     (λ c. search rules)
     (λ c. omega (arith, (sizes c.before.before.before.before).more))
-    (λ c κs. let start = c.before.before.before.before in
-    rw ((sizes start).shift.exact, length-take, length-drop) (omega (arith, (sizes start).fewest, there start, start.requires.4)))
+    (λ c κs. let start = c in
+    rw ((sizes start.before.before.before.before).shift.exact, length-take, length-drop) (omega (arith, (sizes start.before.before.before.before).fewest, there start.before.before.before.before, start.requires.4)))
     returns_2)

@@ -5,24 +5,24 @@ use Rattle.cells.specs.CellLaws.{between}
 use Rattle.bounds.proofs.inside.is_between.Statement.{statement}
 use Rattle.bounds.proofs.inside.is_between.Tie as tie
 
-returns : tie.Need-returns
+returns : tie.Need-returns-then-marks-at
 unfolding between
 returns c =
-    let start = c.before.before.before in
+    let start = c in
     let args = start.args in
     let v = to_z-of_z w32 args.v start.ranges.v in
-    let low = to_z-of_z w32 (get_or args.marks.now args.at (pos 0)) (record { sfits = c.before.before.if12.given }) in
-    let high = to_z-of_z w32 (get_or args.marks.now (args.at + 1) (pos 0)) (record { sfits = c.result.given }) in
-    rw (v, high, rw (low, v) at c.before.if1.true)
+    let low = to_z-of_z w32 (get_or args.marks.now args.at (pos 0)) (record { sfits = c.t7-1.given }) in
+    let high = to_z-of_z w32 (get_or args.marks.now (args.at + 1) (pos 0)) (record { sfits = c.result-1.given }) in
+    rw (v, high, rw (low, v) at c.if-marks-at.true)
 
-returns_2 : tie.Need-returns-2
+returns_2 : tie.Need-returns-else-marks-at
 unfolding between
 returns_2 c =
-    let start = c.before.before in
+    let start = c in
     let args = start.args in
     let v = to_z-of_z w32 args.v start.ranges.v in
-    let low = to_z-of_z w32 (get_or args.marks.now args.at (pos 0)) (record { sfits = c.before.if12.given }) in
-    rw (low, v, rw (low, v) at c.if1.false)
+    let low = to_z-of_z w32 (get_or args.marks.now args.at (pos 0)) (record { sfits = c.t7-1.given }) in
+    rw (low, v, rw (low, v) at c.if-marks-at.false)
 
 pub is_between_spec : {M : Type 1} → statement M
 is_between_spec =

@@ -10,20 +10,20 @@ use Rattle.bounds.proofs.regions.check_regions.Tie as tie
 abbrev rows : (start : tie.Start) → List Row
 rows start = let a = start.args in row_sum_causes a.d a.b a.table a.regions a.n
 
-returns : tie.Need-returns
+returns : tie.Need-returns-in-Accepted
 returns c =
-    let asked = c.before.before.before in
-    let start = asked.before in
-    c.check-rows.ensures
-    ∙ sym (first_append (shape_causes start.args.d start.args.b) (rows start)
-    ∙ outcome_accepted _ _ (sym asked.check-shape.ensures ∙ c.before.enum_told.given.1))
+    let asked = c in
+    let start = asked in
+    c.check_rows.ensures
+    ∙ sym (first_append (shape_causes start.args.d start.args.b) (rows c.before.before.before)
+    ∙ outcome_accepted _ _ (sym asked.check_shape.ensures ∙ c.in-Accepted.is))
 
-returns_2 : tie.Need-returns-2
+returns_2 : tie.Need-returns-in-Refused
 returns_2 c =
-    let asked = c.before.before.before in
-    let start = asked.before in
-    sym (first_append (shape_causes start.args.d start.args.b) (rows start)
-    ∙ outcome_refused _ _ (sym asked.check-shape.ensures ∙ c.before.cause.given.1))
+    let asked = c in
+    let start = asked in
+    sym (first_append (shape_causes start.args.d start.args.b) (rows c.before.before)
+    ∙ outcome_refused _ _ (sym asked.check_shape.ensures ∙ c.in-Refused.is))
 
 pub check_regions_spec : {M : Type 1} → statement M
 check_regions_spec =
@@ -31,7 +31,7 @@ check_regions_spec =
     (tie.spec
     (λ c κs. search rules)
     (λ c. search rules)
-    (λ c κs. sym c.before.before.check-shape.ensures ∙ c.enum_told.given.1)
+    (λ c κs. sym c.check_shape.ensures ∙ c.in-Accepted.is)
     (λ c. search rules)
     returns
     returns_2)

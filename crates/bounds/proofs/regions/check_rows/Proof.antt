@@ -10,39 +10,39 @@ use Rattle.codes.specs.Pack.{numbers_le}
 use Rattle.bounds.proofs.regions.check_rows.Statement.{statement}
 use Rattle.bounds.proofs.regions.check_rows.Tie as tie
 
-counted : (c : tie.Else1) → is_vector_count c.before.before.args.n ≡ true
-counted c = sym c.before.is-vector-count.ensures ∙ not-false c.before.is-vector-count.result c.if1.false
+counted : (c : tie.Else-not-is_vector_count) → is_vector_count c.args.n ≡ true
+counted c = sym c.is_vector_count.ensures ∙ not-false c.is_vector_count.result c.if-not-is_vector_count.false-raw
 
-wanted : (c : tie.After-marks-length) → let a = c.before.before.before.args in c.marks-length.result ≡ first_marks a.d a.b a.d
+wanted : (c : tie.After-marks_length) → let a = c.args in c.marks_length.result ≡ first_marks a.d a.b a.d
 wanted c =
-    let start = c.before.before.before in
-    c.marks-length.ensures ∙ marks_length_is start.args.d start.args.b start.requires
+    let start = c in
+    c.marks_length.ensures ∙ marks_length_is start.args.d start.args.b start.requires
 
-entries : (c : tie.Else2) → let a = c.before.before.before.before.args in eqb a.table (first_marks a.d a.b a.d) ≡ true
-entries c = rw (← wanted c.before) (eq-eqb _ _ c.if2.false)
+entries : (c : tie.Else-table-marks_length) → let a = c.args in eqb a.table (first_marks a.d a.b a.d) ≡ true
+entries c = rw (← wanted c.before) (eq-eqb _ _ c.if-table-marks_length.false)
 
-returns : tie.Need-returns
+returns : tie.Need-returns-then-not-is_vector_count
 unfolding first
-returns c = rw (← c.before.is-vector-count.ensures, c.if1.true)
+returns c = rw (← c.is_vector_count.ensures, c.if-not-is_vector_count.true-raw)
 
-returns_2 : tie.Need-returns-2
+returns_2 : tie.Need-returns-then-table-marks_length
 unfolding first
-returns_2 c = rw (counted c.before.before, ← wanted c.before, ne_eqb _ _ c.if2.true)
+returns_2 c = rw (counted c.before.before, ← wanted c.before, ne_eqb _ _ c.if-table-marks_length.true)
 
-numbers_small : tie.Need-overflow-mul-if3
+numbers_small : tie.Need-overflow_mul-n
 numbers_small c =
-    let past = c.before.before in
-    let start = past.before.before in
-    let few = (between 1 start.args.n max_vectors (counted past)).below in
+    let past = c in
+    let start = past in
+    let few = (between 1 start.args.n max_vectors (counted past.before.before)).below in
     omega (arith, numbers_le start.args.n (shape start.args.d start.args.b start.requires) few)
 
-returns_3 : tie.Need-returns-3
+returns_3 : tie.Need-returns-then-regions-n
 unfolding first
-returns_3 c = rw (counted c.before.before.before, entries c.before, ne_eqb _ _ c.if3.true)
+returns_3 c = rw (counted c.before.before.before, entries c.before, ne_eqb _ _ c.if-regions-n.true)
 
-returns_4 : tie.Need-returns-4
+returns_4 : tie.Need-returns
 unfolding first
-returns_4 c = rw (counted c.before.before.before, entries c.before, eq-eqb _ _ c.if3.false)
+returns_4 c = rw (counted c.before.before.before, entries c.before, eq-eqb _ _ c.if-regions-n.false)
 
 pub check_rows_spec : {M : Type 1} → statement M
 check_rows_spec =

@@ -10,12 +10,12 @@ use Rattle.bounds.specs.RegionRun.{two_region_runs}
 use Rattle.bounds.proofs.regions.sum_rows.Statement.{statement}
 use Rattle.bounds.proofs.regions.sum_rows.Tie as tie
 
-abbrev invariant_loop : tie.invariant_loop
+abbrev invariant_loop : tie.invariant-loop-i
 invariant_loop d b table regions bounds₀ fewest more narrow wide start i₀ bounds i =
     (i ≤ length bounds₀) × (length bounds ≡ length bounds₀)
     × Filling (values_from (region_sum d b table regions) 0 (length bounds₀)) bounds i
 
-abbrev decreases_loop : tie.decreases_loop
+abbrev decreases_loop : tie.decreases-loop-i
 decreases_loop d b table regions bounds₀ fewest more narrow wide start i₀ bounds i = length bounds₀ - i
 
 sizes : (start : tie.Start invariant_loop decreases_loop) → Sized start.args.d start.args.b 0
@@ -25,49 +25,49 @@ fewer : (start : tie.Start invariant_loop decreases_loop) → Regions (start.arg
 fewer start = regions (start.args.b / start.args.d) (omega (arith, (sizes start).fewest))
 
 -- row i's numbers are there, and the entries of both runs
-there : (c : tie.In-loop invariant_loop decreases_loop) → let start = c.before.before.before.before.before in
+there : (c : tie.In-loop-i invariant_loop decreases_loop) → let start = c in
     let d = start.args.d in
     let b = start.args.b in
-    (c.before.loop.i * d + d ≤ length start.args.regions.now)
+    (c.loop-i.i * d + d ≤ length start.args.regions.now)
     × (b % d < d)
     × (b % d * (2 ^ (b / d + 1) + 1) + (d - b % d) * (2 ^ (b / d) + 1) ≤ length start.args.table.now)
 there c =
-    let start = c.before.before.before.before.before in
+    let start = c in
     let d = start.args.d in
     let b = start.args.b in
-    let told = sizes start in
-    let row : suc c.before.loop.i * d ≤ length start.args.bounds.now * d = mul-le-mul (omega arith) (le_refl d) in (
-      omega (arith, start.requires.2, suc-mul c.before.loop.i d),
+    let told = sizes start.before.before.before.before.before in
+    let row : suc c.loop-i.i * d ≤ length start.args.bounds.now * d = mul-le-mul (omega arith) (le_refl d) in (
+      omega (arith, start.requires.2, suc-mul c.loop-i.i d),
       told.more,
       omega (arith, start.requires.1, two_marks d b told.fewest (omega (arith, told.more))),
     )
 
-loop_again : tie.Need-loop-preserved invariant_loop decreases_loop
+loop_again : tie.Need-loop-i-preserved invariant_loop decreases_loop
 unfolding region_sum
 loop_again c =
-    let turn = c.before.before.before in
-    let at = turn.before.loop in
-    let start = turn.before.before.before.before.before in
+    let turn = c in
+    let at = turn.loop-i in
+    let start = turn in
     let a = start.args in
-    let told = sizes start in
+    let told = sizes start.before.before.before.before.before.before.before.before in
     let n = length a.bounds.now in
     let f = region_sum a.d a.b a.table.now a.regions.now in
     let more : at.i < n = omega arith in
-    let is : c.wrapping-add-u64.result ≡ f at.i =
-    sum_more_mod _ _ c.wrapping-add-u64.ensures (rw told.shift.exact at c.before.before.sum-run.ensures)
-    (rw (told.shift.exact, (fewer start).exact) at c.before.sum-run2.ensures)
+    let is : c.wrapping_add_u64.result ≡ f at.i =
+    sum_more_mod _ _ c.wrapping_add_u64.ensures (rw told.shift.exact at c.sum_run-sum.ensures)
+    (rw (told.shift.exact, (fewer start.before.before.before.before.before.before.before.before).exact) at c.sum_run-rest.ensures)
     ∙ ap (λ (sum : ℕ). sum % 2 ^ 64)
     (sym (two_region_runs a.d a.b told.fewest (omega (arith, told.more)) a.table.now a.regions.now at.i)) in (
       omega arith,
       simp length-set at.invariant.1,
-      filling_next (values_from f 0 n) at.bounds at.i c.wrapping-add-u64.result 0 (omega (arith, values_length f 0 n))
+      filling_next (values_from f 0 n) at.bounds at.i c.wrapping_add_u64.result 0 (omega (arith, values_length f 0 n))
           (is ∙ sym (value_at f n at.i more)) at.invariant.2,
     )
 
 returns : tie.Need-returns invariant_loop decreases_loop
 returns c =
-    let at = c.before.loop in
-    let n = length c.before.before.before.before.before.args.bounds.now in
+    let at = c.loop-i in
+    let n = length c.args.bounds.now in
     let all : at.i ≡ n = omega arith in
     filling_end _ at.bounds at.i (all ∙ sym (values_length _ 0 n)) at.invariant.2
 
@@ -100,5 +100,5 @@ sum_rows_spec =
     (λ c. search rules)
     (λ c. search rules)
     loop_again
-    (λ c. c.before.loop.invariant.1)
+    (λ c. c.loop-i.invariant.1)
     returns)

@@ -11,18 +11,18 @@ record Running (table regions : List ℕ) (from first-start stride count start s
   start_is : start ≡ first-start + t * stride
   so_far : sum ≡ region_run table regions from first-start stride t % 2 ^ 64
 
-abbrev invariant_loop : tie.invariant_loop
+abbrev invariant_loop : tie.invariant-loop-t
 invariant_loop table regions from first-start stride count start₀ sum₀ t₀ start sum t =
     Running table regions from first-start stride count start sum t
 
-abbrev decreases_loop : tie.decreases_loop
+abbrev decreases_loop : tie.decreases-loop-t
 decreases_loop table regions from first-start stride count start₀ sum₀ t₀ start sum t = count - t
 
-loop_holds : tie.Need-loop-init invariant_loop decreases_loop
+loop_holds : tie.Need-loop-t-init invariant_loop decreases_loop
 unfolding region_run
 loop_holds c =
-    let a = c.before.before.args in
-    record { within = omega arith; start_is = rw (zero-mul a.stride) (sym (add-zero a.first-start)); so_far = refl }
+    let a = c.args in
+    record { within = omega arith; start_is = rw (zero-mul a.stride) (sym (add-zero a.first_start)); so_far = refl }
 
 module _ {table regions : List ℕ} {from first-start stride count start sum t : ℕ}
     (at : Running table regions from first-start stride count start sum t) where
@@ -49,21 +49,21 @@ module _ {table regions : List ℕ} {from first-start stride count start sum t :
       rw all at at.so_far
 
 -- where the next dimension's entries begin
-room : (c : tie.In-loop invariant_loop decreases_loop) → let start = c.before.before.before.before in
-    c.before.loop.start + start.args.stride ≤ length start.args.table.now
-room c = inside c.before.loop.invariant c.loop-test.true c.before.before.before.before.requires.1
+room : (c : tie.In-loop-t invariant_loop decreases_loop) → let start = c in
+    c.loop-t.start + start.args.stride ≤ length start.args.table.now
+room c = inside c.loop-t.invariant c.loop-t-test.true c.requires.1
 
 -- a region number is a byte
-byte : (c : tie.After-shared-slice-known3 invariant_loop decreases_loop) → let start = c.before.before.before.before.before in
-    get_or start.args.regions.now (start.args.from + c.before.before.loop.t) 0 < 256
+byte : (c : tie.After-shared_slice_known-in-loop-t-1 invariant_loop decreases_loop) → let start = c in
+    get_or start.args.regions.now (start.args.from + c.loop-t.t) 0 < 256
 byte c =
-    let start = c.before.before.before.before.before in
-    omega (arith, c.shared-slice-known3.given (start.args.from + c.before.before.loop.t))
+    let start = c in
+    omega (arith, c.shared_slice_known-in-loop-t-1.given (start.args.from + c.loop-t.t))
 
-loop_again : tie.Need-loop-preserved invariant_loop decreases_loop
+loop_again : tie.Need-loop-t-preserved invariant_loop decreases_loop
 loop_again c =
-    let turn = c.before.before in
-    next turn.before.loop.invariant turn.loop-test.true c.add-entry.ensures
+    let turn = c in
+    next turn.loop-t.invariant turn.loop-t-test.true c.add_entry-sum.ensures
 
 pub sum_run_spec : {M : Type 1} → statement M
 sum_run_spec =
@@ -72,8 +72,8 @@ sum_run_spec =
     invariant_loop
     decreases_loop
     loop_holds
-    (λ c. omega (arith, c.before.before.before.before.requires.0))
-    (λ c. omega (arith, c.before.before.before.before.before.requires.0))
+    (λ c. omega (arith, c.requires.0))
+    (λ c. omega (arith, c.requires.0))
     (λ c. omega (arith, byte c))
     (λ c. omega (arith, room c.before, byte c))
     (λ c κs. search rules)
@@ -81,4 +81,4 @@ sum_run_spec =
     (λ c. omega arith)
     (λ c. omega arith)
     loop_again
-    (λ c. done c.before.loop.invariant c.loop-test.false))
+    (λ c. done c.loop-t.invariant c.loop-t-test.false))

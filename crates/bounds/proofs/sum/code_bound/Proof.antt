@@ -18,11 +18,11 @@ there start = runs (sizes start) start.requires.1 start.requires.3
 returns : tie.Need-returns
 unfolding bound_sum
 returns c =
-    let start = c.before.before.before.before.before in
+    let start = c in
     let args = start.args in
-    let told = sizes start in
-    sum_more_mod _ _ c.wrapping-add-u64.ensures c.before.before.sum-run.ensures
-    (rw told.shift.exact at c.before.sum-run2.ensures)
+    let told = sizes start.before.before.before.before.before in
+    sum_more_mod _ _ c.wrapping_add_u64.ensures c.sum_run-sum.ensures
+    (rw told.shift.exact at c.sum_run-rest.ensures)
     ∙ ap (λ (n : ℕ). n % 2 ^ 64)
     (sym (two_runs args.d args.b told.fewest (omega (arith, told.more)) args.table.now args.codes.now args.i))
 

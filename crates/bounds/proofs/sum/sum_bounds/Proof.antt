@@ -8,16 +8,16 @@ use Rattle.bounds.proofs.sum.sum_bounds.Statement.{statement}
 use Rattle.bounds.proofs.sum.sum_bounds.Tie as tie
 
 -- the verdict, of these lengths
-abbrev verdict : (c : tie.After-check-sums) → Verdict
+abbrev verdict : (c : tie.After-check_sums-verdict) → Verdict
 verdict c =
-    let a = c.before.before.before.before.args in
+    let a = c.args in
     first (sum_causes a.d a.b (length a.table.now) a.codes.now (length a.bounds.now))
 
-accepted : (c : tie.After-enum-told) → verdict c.before.before ≡ Accepted
-accepted c = sym c.before.before.check-sums.ensures ∙ c.enum_told.given.1
+accepted : (c : tie.In-Accepted) → verdict c.before ≡ Accepted
+accepted c = sym c.check_sums-verdict.ensures ∙ c.in-Accepted.is
 
-refused : (c : tie.After-verdict) → verdict c.before.before ≡ Refused c.verdict.given.0.0
-refused c = sym c.before.before.check-sums.ensures ∙ c.verdict.given.1
+refused : (c : tie.In-Refused) → verdict c.before ≡ Refused c.in-Refused.cause
+refused c = sym c.check_sums-verdict.ensures ∙ c.in-Refused.is
 
 pub sum_bounds_spec : {M : Type 1} → statement M
 sum_bounds_spec =
@@ -25,9 +25,9 @@ sum_bounds_spec =
     (tie.spec
     (λ c κs. search rules)
     (λ c. search rules)
-    (λ c κs. let asked = c.before.before.before in let a = asked.before.before.before.before.args in
+    (λ c κs. let asked = c in let a = asked.args in
     summable a.d a.b (length a.table.now) a.codes.now (length a.bounds.now) (accepted c.before))
     (λ c. search rules)
     (λ c. search rules)
-    (λ c. let none = accepted c.before.before.before.before in (sym none, rw none c.before.before.sum-all.ensures))
-    (λ c. let some = refused c.before in (sym some, rw some)))
+    (λ c. let none = accepted c.before.before.before.before in (sym none, rw none c.sum_all.ensures))
+    (λ c. let some = refused c in (sym some, rw some)))

@@ -14,18 +14,18 @@ record Running (table codes : List ℕ) (w first_bit first-start count bits wait
   walk : Walk codes w first_bit first-start count bits waiting next start t
   so_far : sum ≡ run_sum table codes w first_bit first-start t % 2 ^ 64
 
-abbrev invariant_loop : tie.invariant_loop
+abbrev invariant_loop : tie.invariant-loop-t
 invariant_loop table codes w first_bit first-start count regions mask waiting₀ start₀ sum₀ t₀ waiting start sum t =
     Running table codes w first_bit first-start count waiting.bits waiting.count waiting.next start sum t
 
-abbrev decreases_loop : tie.decreases_loop
+abbrev decreases_loop : tie.decreases-loop-t
 decreases_loop table codes w first_bit first-start count regions mask waiting₀ start₀ sum₀ t₀ waiting start sum t = count - t
 
-loop_holds : tie.Need-loop-init invariant_loop decreases_loop
+loop_holds : tie.Need-loop-t-init invariant_loop decreases_loop
 unfolding run_sum
 loop_holds c =
-    let args = c.before.before.before.before.args in
-    record { walk = sets_out args.first-start args.count c.begin.ensures; so_far = refl }
+    let args = c.args in
+    record { walk = sets_out args.first_start args.count c.begin-buffer.ensures; so_far = refl }
 
 next : {table codes : List ℕ} {w first_bit first-start count bits waiting next start sum t bits' waiting' next' sum' : ℕ}
     → Running table codes w first_bit first-start count bits waiting next start sum t → w ≤ 7 → t < count
@@ -48,37 +48,37 @@ done {count = count} {t = t} at past =
     let all : t ≡ count = omega (arith, at.walk.within) in
     rw all at at.so_far
 
-take_requires : tie.Need-take-requires invariant_loop decreases_loop
+take_requires : tie.Need-take-buffer-requires invariant_loop decreases_loop
 take_requires c κs =
-    let pre = c.before.before.before.before.before.before.requires in
-    let walk = c.before.loop.invariant.walk in
-    let less : c.before.loop.t < _ = c.loop-test.true in
+    let pre = c.requires in
+    let walk = c.loop-t.invariant.walk in
+    let less : c.loop-t.t < _ = c.loop-t-test.true in
     (rw (place walk pre.0 less) walk.waits, pre.0, there walk pre.0 less pre.1)
 
 -- the entry that is read is one of the table's
-entry : (c : tie.After-struct-known invariant_loop decreases_loop) → let at = c.before.before.before in
-    let start = at.before.before.before.before.before in
-    at.loop.start + bit_and (c.before.take.result.bits / 2 ^ c.before.take.result.count)
+entry : (c : tie.After-struct_known-1 invariant_loop decreases_loop) → let at = c in
+    let start = at in
+    at.loop-t.start + bit_and (c.take-buffer.result.bits / 2 ^ c.take-buffer.result.count)
     (1 * 2 ^ start.args.w % 2 ^ 64 - 1) + 1 < length start.args.table.now
 entry c =
-    let at = c.before.before.before in
-    let start = at.before.before.before.before.before in
-    index at.loop.invariant.walk start.requires.0 (omega arith) start.requires.2
-    (c.before.take.result.bits / 2 ^ c.before.take.result.count)
+    let at = c in
+    let start = at in
+    index at.loop-t.invariant.walk start.requires.0 (omega arith) start.requires.2
+    (c.take-buffer.result.bits / 2 ^ c.take-buffer.result.count)
 
-next_start : (c : tie.After-wrapping-add-u64 invariant_loop decreases_loop) → let at = c.before.before.before.before.before in
-    let start = at.before.before.before.before.before in
-    at.loop.start + (1 * 2 ^ start.args.w % 2 ^ 64 + 1) ≤ length start.args.table.now
+next_start : (c : tie.After-wrapping_add_u64-sum invariant_loop decreases_loop) → let at = c in
+    let start = at in
+    at.loop-t.start + (1 * 2 ^ start.args.w % 2 ^ 64 + 1) ≤ length start.args.table.now
 next_start c =
-    let at = c.before.before.before.before.before in
-    let start = at.before.before.before.before.before in
-    stride at.loop.invariant.walk start.requires.0 (omega arith) start.requires.2
+    let at = c in
+    let start = at in
+    stride at.loop-t.invariant.walk start.requires.0 (omega arith) start.requires.2
 
-loop_again : tie.Need-loop-preserved invariant_loop decreases_loop
+loop_again : tie.Need-loop-t-preserved invariant_loop decreases_loop
 loop_again c =
-    let at = c.before.before.before.before.before in
-    let start = at.before.before.before.before.before in
-    next at.loop.invariant start.requires.0 (omega arith) c.before.before.before.take.ensures c.wrapping-add-u64.ensures
+    let at = c in
+    let start = at in
+    next at.loop-t.invariant start.requires.0 (omega arith) c.take-buffer.ensures c.wrapping_add_u64-sum.ensures
 
 pub sum_run_spec : {M : Type 1} → statement M
 sum_run_spec =
@@ -86,14 +86,14 @@ sum_run_spec =
     (tie.spec
     invariant_loop
     decreases_loop
-    (λ c. unfold run_sum in rw c.if1.true)
-    (λ c. omega (arith, c.before.before.before.requires.0))
-    (λ c. rw (regions c.before.before.before.args.w c.before.before.before.requires.0).exact
-    (pow_pos c.before.before.before.args.w))
+    (λ c. unfold run_sum in rw c.if-count-eq0.true)
+    (λ c. omega (arith, c.requires.0))
+    (λ c. rw (regions c.args.w c.requires.0).exact
+    (pow_pos c.args.w))
     (λ c κs. search rules)
     loop_holds
     take_requires
-    (λ c. omega (arith, c.before.take.ensures.rest.few))
+    (λ c. omega (arith, c.take-buffer.ensures.rest.few))
     (λ c. omega (arith, entry c))
     (λ c. omega (arith, entry c))
     (λ c. omega (arith, entry c.before))
@@ -103,4 +103,4 @@ sum_run_spec =
     (λ c. omega arith)
     (λ c. omega arith)
     loop_again
-    (λ c. done c.before.loop.invariant (omega arith)))
+    (λ c. done c.loop-t.invariant (omega arith)))

@@ -19,46 +19,46 @@ use Rattle.search.specs.Ready.{index_of, query_of, room_of}
 use Rattle.search.proofs.entry.check_buffers.Statement.{statement}
 use Rattle.search.proofs.entry.check_buffers.Tie as tie
 
-measured : (c : tie.Else1) → let a = c.before.before.before.args in
+measured : (c : tie.Else-not-exact_lengths) → let a = c.args in
     exact_lengths (index_of a.terms a.marks.now a.codes.now a.vectors.now) (query_of a.terms a.query.now) a.terms.k
     (room_of a.entries a.reads) ≡ true
-measured c = sym c.before.exact-lengths.ensures ∙ not-false c.before.exact-lengths.result c.if1.false
+measured c = sym c.exact_lengths.ensures ∙ not-false c.exact_lengths.result c.if-not-exact_lengths.false-raw
 
-queried : (c : tie.Else2) → are_components c.before.before.before.before.before.args.query.now ≡ true
-queried c = sym c.before.are_components.ensures ∙ not-false c.before.are_components.result c.if2.false
+queried : (c : tie.Else-not-are_components) → are_components c.args.query.now ≡ true
+queried c = sym c.are_components.ensures ∙ not-false c.are_components.result c.if-not-are_components.false-raw
 
-returns : tie.Need-returns
-returns c = sym (first_here Length _ (told c.before.exact-lengths.ensures c.if1.true))
+returns : tie.Need-returns-then-not-exact_lengths
+returns c = sym (first_here Length _ (told c.exact_lengths.ensures c.if-not-exact_lengths.true-raw))
 
-returns_2 : tie.Need-returns-2
+returns_2 : tie.Need-returns-then-not-are_components
 returns_2 c =
-    let one = c.before.before in
-    sym (first_next Length _ (told one.before.exact-lengths.ensures one.if1.false)
-    ∙ first_here Component _ (told c.before.are_components.ensures c.if2.true))
+    let one = c in
+    sym (first_next Length _ (told one.exact_lengths.ensures one.if-not-exact_lengths.false-raw)
+    ∙ first_here Component _ (told c.are_components.ensures c.if-not-are_components.true-raw))
 
-returns_3 : tie.Need-returns-3
+returns_3 : tie.Need-returns
 unfolding first
 returns_3 c =
-    let two = c.before in
-    let one = two.before.before in
-    let start = one.before.before.before in
+    let two = c in
+    let one = two in
+    let start = one in
     let a = start.args in
-    let behind = ((and-eq-true_iff (eqb (length a.query.now) a.terms.d) _).0 (measured one)).1 in
+    let behind = ((and-eq-true_iff (eqb (length a.query.now) a.terms.d) _).0 (measured c.before.before.before)).1 in
     let marks-and = (and-eq-true_iff (eqb (length a.marks.now) (first_marks a.terms.d a.terms.b a.terms.d)) _).0 behind in
     let of_marks : eqb (length a.marks.now) (first_marks a.terms.d a.terms.b a.terms.d) ≡ true = marks-and.0 in
     let of_codes : eqb (length a.codes.now) (code_length a.terms.b a.terms.n) ≡ true = ((and-eq-true_iff
     (eqb (length a.codes.now) (code_length a.terms.b a.terms.n)) _).0 marks-and.1).0 in
-    c.check-codes.ensures
+    c.check_codes.ensures
     ∙ first_append (shape_causes a.terms.d a.terms.b)
     (shaped_code_causes a.terms.d a.terms.b a.terms.n a.marks.now a.codes.now)
     ∙ outcome_accepted _ _ start.requires.0
-    ∙ rw (measured one, start.requires.1, queried two, of_marks, of_codes)
+    ∙ rw (measured c.before.before.before, start.requires.1, queried c.before, of_marks, of_codes)
 
 pub check_buffers_spec : {M : Type 1} → statement M
 check_buffers_spec =
     tie.close
     (tie.spec
-    (λ c κs. (c.before.requires.0, (between 1 c.before.args.terms.n max_vectors c.before.requires.1).below))
+    (λ c κs. (c.requires.0, (between 1 c.args.terms.n max_vectors c.requires.1).below))
     returns
     (λ c κs. search rules)
     returns_2

@@ -8,22 +8,22 @@ use Rattle.search.specs.Search.{shaped_causes}
 use Rattle.search.proofs.entry.check_entry.Statement.{statement}
 use Rattle.search.proofs.entry.check_entry.Tie as tie
 
-returns : tie.Need-returns
+returns : tie.Need-returns-in-Accepted
 returns c =
-    let a = c.before.before.before.before.before.args in
-    c.check-shaped.ensures
+    let a = c.args in
+    c.check_shaped.ensures
     ∙ sym (first_append (shape_causes a.terms.d a.terms.b)
     (shaped_causes (index_of a.terms a.marks.now a.codes.now a.vectors.now) (query_of a.terms a.query.now) a.terms.k
     (room_of a.entries a.reads))
-    ∙ outcome_accepted _ _ (sym c.before.before.before.check-shape.ensures ∙ c.before.enum_told.given.1))
+    ∙ outcome_accepted _ _ (sym c.check_shape.ensures ∙ c.in-Accepted.is))
 
-returns_2 : tie.Need-returns-2
+returns_2 : tie.Need-returns-in-Refused
 returns_2 c =
-    let a = c.before.before.before.before.before.args in
+    let a = c.args in
     sym (first_append (shape_causes a.terms.d a.terms.b)
     (shaped_causes (index_of a.terms a.marks.now a.codes.now a.vectors.now) (query_of a.terms a.query.now) a.terms.k
     (room_of a.entries a.reads))
-    ∙ outcome_refused _ _ (sym c.before.before.before.check-shape.ensures ∙ c.before.cause.given.1))
+    ∙ outcome_refused _ _ (sym c.check_shape.ensures ∙ c.in-Refused.is))
 
 pub check_entry_spec : {M : Type 1} → statement M
 check_entry_spec =
@@ -31,7 +31,7 @@ check_entry_spec =
     (tie.spec
     (λ c κs. search rules)
     (λ c. search rules)
-    (λ c κs. sym c.before.before.check-shape.ensures ∙ c.enum_told.given.1)
+    (λ c κs. sym c.check_shape.ensures ∙ c.in-Accepted.is)
     (λ c. search rules)
     returns
     returns_2)

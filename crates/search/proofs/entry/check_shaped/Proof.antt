@@ -30,38 +30,38 @@ buffer_rows c =
     buffer_causes (index_of a.terms a.marks.now a.codes.now a.vectors.now) (query_of a.terms a.query.now) a.terms.k
     (room_of a.entries a.reads)
 
-passed_1 : (c : tie.Else1) → let start = c.before.before.before in first (rows 0 start) ≡ first (rows 1 start)
-passed_1 c = first_next Count _ (told c.before.is-vector-count.ensures c.if1.false)
+passed_1 : (c : tie.Else-not-is_vector_count) → let start = c.before.before.before in first (rows 0 start) ≡ first (rows 1 start)
+passed_1 c = first_next Count _ (told c.is_vector_count.ensures c.if-not-is_vector_count.false-raw)
 
-passed_2 : (c : tie.Else2) → let start = c.before.before.before.before.before in first (rows 0 start) ≡ first (rows 2 start)
-passed_2 c = passed_1 c.before.before ∙ first_next Neighbours _ (told c.before.is-neighbour-count.ensures c.if2.false)
+passed_2 : (c : tie.Else-not-is_neighbour_count) → let start = c.before.before.before.before.before in first (rows 0 start) ≡ first (rows 2 start)
+passed_2 c = passed_1 c.before.before ∙ first_next Neighbours _ (told c.is_neighbour_count.ensures c.if-not-is_neighbour_count.false-raw)
 
-returns : tie.Need-returns
-returns c = sym (first_here Count _ (told c.before.is-vector-count.ensures c.if1.true))
+returns : tie.Need-returns-then-not-is_vector_count
+returns c = sym (first_here Count _ (told c.is_vector_count.ensures c.if-not-is_vector_count.true-raw))
 
-returns_2 : tie.Need-returns-2
-returns_2 c = sym (passed_1 c.before.before ∙ first_here Neighbours _ (told c.before.is-neighbour-count.ensures c.if2.true))
+returns_2 : tie.Need-returns-then-not-is_neighbour_count
+returns_2 c = sym (passed_1 c.before.before ∙ first_here Neighbours _ (told c.is_neighbour_count.ensures c.if-not-is_neighbour_count.true-raw))
 
-check_buffers_requires : tie.Need-check-buffers-requires
+check_buffers_requires : tie.Need-check_buffers-requires
 check_buffers_requires c κs =
-    let one = c.before.before.before.before.before in
-    let start = one.before.before.before in
-    (start.requires, sym one.before.is-vector-count.ensures ∙ not-false one.before.is-vector-count.result one.if1.false)
+    let one = c in
+    let start = one in
+    (start.requires, sym one.is_vector_count.ensures ∙ not-false one.is_vector_count.result one.if-not-is_vector_count.false-raw)
 
-returns_3 : tie.Need-returns-3
+returns_3 : tie.Need-returns-in-Accepted
 returns_3 c =
-    let tested = c.before.before.before in
-    let start = tested.before.before.before.before.before.before in
-    c.check-buffers.ensures
-    ∙ sym (passed_2 tested.before ∙ first_append (word_rows start) (buffer_rows start)
-    ∙ outcome_accepted _ _ (sym tested.check-word.ensures ∙ c.before.enum_told.given.1))
+    let tested = c in
+    let start = c.before.before.before.before.before.before.before.before in
+    c.check_buffers.ensures
+    ∙ sym (passed_2 c.before.before.before ∙ first_append (word_rows start) (buffer_rows start)
+    ∙ outcome_accepted _ _ (sym tested.check_word.ensures ∙ c.in-Accepted.is))
 
-returns_4 : tie.Need-returns-4
+returns_4 : tie.Need-returns-in-Refused
 returns_4 c =
-    let tested = c.before.before.before in
-    let start = tested.before.before.before.before.before.before in
-    sym (passed_2 tested.before ∙ first_append (word_rows start) (buffer_rows start)
-    ∙ outcome_refused _ _ (sym tested.check-word.ensures ∙ c.before.cause.given.1))
+    let tested = c in
+    let start = c.before.before.before.before.before.before.before in
+    sym (passed_2 c.before.before ∙ first_append (word_rows start) (buffer_rows start)
+    ∙ outcome_refused _ _ (sym tested.check_word.ensures ∙ c.in-Refused.is))
 
 pub check_shaped_spec : {M : Type 1} → statement M
 check_shaped_spec =
