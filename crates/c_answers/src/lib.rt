@@ -1,6 +1,7 @@
 // What a call from C gives of an answer: its values, each in its place, and 0 or the refusal's number. Where the answer is a refusal, a
 // count is 0, and every other place is as it was.
 #![tactic(auto)]
+
 ghost use Rattle.std.specs.Prelude.{◌≡◌};
 ghost use Rattle.refusal.specs.Refusal.{verdict_number};
 ghost use Rattle.reading.specs.Intake.{intake_of, presence_of};

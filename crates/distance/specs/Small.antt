@@ -1,6 +1,6 @@
 -- Distances and bounds are far below 2^64, for components and marks in range and for small factors: sums of theirs are exact in 64 bits.
 -- Assumes nothing.
-use Rattle.std.specs.Prelude.{◌≡◌, ℕ, zero, suc, ◌+◌, ◌*◌, ◌%◌, ◌^◌, ◌<◌, ◌≤◌, true, List, length, replicate, ℤ, pos, negsuc, int_le, slice_index, slice_index_or}
+use Rattle.std.specs.Prelude.{◌≡◌, ℕ, zero, suc, ◌+◌, ◌*◌, ◌^◌, ◌<◌, ◌≤◌, true, List, length, replicate, ℤ, pos, negsuc, int_le, slice_index, slice_index_or}
 use Rattle.std.proofs.Math.Path.{refl}
 use Rattle.std.proofs.Common.{◌∙◌, mul-le-mul, mod-eq_of_lt, arith, leb-true}
 use Rattle.std.proofs.Math.Bool.{and-eq-true_iff}

@@ -83,6 +83,7 @@ cells_snoc l (j ∷ is) i all one =
 
 cells_member : (l : Index) (is : List ℕ) {i : ℕ} → in_own_cells l is ≡ true → i ∈ is → in_own_cell l i ≡ true
 unfolding in_own_cells
+cells_member l [] {i} all m = elim m [ ]
 cells_member l (j ∷ is) all (Memᴰ.head e) = rw e ((and-eq-true_iff (in_own_cell l j) (in_own_cells l is)).0 all).0
 cells_member l (j ∷ is) all (Memᴰ.tail m) = cells_member l is ((and-eq-true_iff (in_own_cell l j) (in_own_cells l is)).0 all).1 m
 

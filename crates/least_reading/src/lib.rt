@@ -1,5 +1,6 @@
 // The search that reads least.
 #![tactic(auto)]
+
 mod candidates;
 pub mod queries;
 mod reading;

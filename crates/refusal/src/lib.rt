@@ -5,7 +5,7 @@ ghost use Rattle.std.specs.Prelude.{◌≡◌};
 ghost use Rattle.refusal.specs.Refusal.{number_of, verdict_number};
 
 // Document 01, "When a call says no": one variant for each row, in the table's order; then those of document 02.
-#[derive(Drop)]
+#[derive(Clone, Copy, Drop)]
 pub enum Refusal {
     Dimension,
     Bits,
@@ -32,7 +32,7 @@ pub enum Refusal {
 }
 
 // What a call's tests come to: nothing speaks against it, or the first cause that does.
-#[derive(Drop)]
+#[derive(Clone, Copy, Drop)]
 pub enum Verdict {
     Accepted,
     Refused(Refusal),

@@ -22,7 +22,7 @@ pub struct Terms {
 }
 
 // The answer of a search: how many vectors were read, or why it refuses.
-#[derive(Drop)]
+#[derive(Clone, Copy, Drop)]
 pub enum Searched {
     Read(usize),
     Refused(Refusal),

@@ -7,7 +7,7 @@ ghost use Rattle.step.specs.Step as Step;
 ghost use Rattle.step.specs.Step.{product_word, weighed_word, shortest, longest, step_of};
 
 // A cell's two bounds: its least distance and its greatest.
-#[derive(Drop)]
+#[derive(Clone, Copy, Drop)]
 pub enum Bound {
     Lower,
     Upper,

@@ -1,5 +1,5 @@
 -- A library with a vector added, or with one removed, its marks kept (document 02, Slip 3). Assumes nothing.
-use Rattle.std.specs.Prelude.{List, [], ◌∷◌, ◌++◌, ℕ, suc, ◌+◌, ◌-◌, ◌*◌, ℤ, take}
+use Rattle.std.specs.Prelude.{List, [], ◌∷◌, ◌++◌, ℕ, suc, ◌-◌, ◌*◌, ℤ, take}
 use Rattle.codes.specs.Bits.{bytes_of, byte_bits}
 use Rattle.codes.specs.Codes.{joined, code_length}
 use Rattle.approximation.specs.Vectors.{vector_regions}

@@ -6,9 +6,9 @@ use Rattle.c_answers.specs.Answered.{distance_or}
 use Rattle.c_answers.proofs.put_distance.Statement.{statement}
 use Rattle.c_answers.proofs.put_distance.Tie as tie
 
-returns_2 : tie.Need-returns-2
+returns_2 : tie.Need-returns-in-Refused
 returns_2 c =
-    let is = c.before.before.answer2.given.1 in
+    let is = c.in-Refused.is in
     (c.number.ensures ∙ sym (ap distance_number is), sym (ap (distance_or _) is))
 
 pub put_distance_spec : {M : Type 1} → statement M

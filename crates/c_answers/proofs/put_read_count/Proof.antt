@@ -5,9 +5,9 @@ use Rattle.search.specs.Answer.{searched_number, searched_count}
 use Rattle.c_answers.proofs.put_read_count.Statement.{statement}
 use Rattle.c_answers.proofs.put_read_count.Tie as tie
 
-returns_2 : tie.Need-returns-2
+returns_2 : tie.Need-returns-in-Refused
 returns_2 c =
-    let is = c.before.before.answer2.given.1 in
+    let is = c.in-Refused.is in
     (c.number.ensures ∙ sym (ap searched_number is), sym (ap searched_count is))
 
 pub put_read_count_spec : {M : Type 1} → statement M

@@ -6,9 +6,9 @@ use Rattle.c_answers.specs.Answered.{region_or}
 use Rattle.c_answers.proofs.put_region.Statement.{statement}
 use Rattle.c_answers.proofs.put_region.Tie as tie
 
-returns_2 : tie.Need-returns-2
+returns_2 : tie.Need-returns-in-Refused
 returns_2 c =
-    let is = c.before.before.lookup2.given.1 in
+    let is = c.in-Refused.is in
     (c.number.ensures ∙ sym (ap lookup_number is), sym (ap (region_or _) is))
 
 pub put_region_spec : {M : Type 1} → statement M

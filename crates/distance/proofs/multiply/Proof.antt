@@ -1,5 +1,5 @@
 -- `multiply` meets its contract: the products written so far, with the rest, are the whole. Assumes nothing.
-use Rattle.std.proofs.Common.{◌≡◌, ℕ, ◌-◌, ◌<◌, ◌≤◌, List, length, get_or, pos, sym, ap, ◌∙◌, arith, w32, rules}
+use Rattle.std.proofs.Common.{◌≡◌, ℕ, ◌-◌, ◌<◌, ◌≤◌, List, length, get_or, pos, sym, ◌∙◌, arith, w32, rules}
 use mir.ValLaws.{to_z-of_z}
 use Rattle.distance.specs.Distance.{product_at}
 use Rattle.distance.specs.Values.{values_from, values_length, value_at}

@@ -1,5 +1,5 @@
 -- `sum_squares` meets its contract: the sum is that of the first t squares, modulo 2^64. Assumes nothing.
-use Rattle.std.proofs.Common.{◌≡◌, ◌-◌, ◌*◌, ◌%◌, ◌^◌, ◌<◌, ◌≤◌, length, get_or, refl, add-one, arith, rules}
+use Rattle.std.proofs.Common.{◌≡◌, ◌-◌, ◌*◌, ◌%◌, ◌^◌, ◌≤◌, length, get_or, refl, add-one, arith, rules}
 use Rattle.step.specs.Step.{squared_le}
 use Rattle.distance.specs.Distance.{first_squares}
 use Rattle.distance.proofs.Sum.{sum_more}

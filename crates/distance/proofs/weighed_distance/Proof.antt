@@ -1,5 +1,5 @@
 -- `weighed_distance` meets its contract: the lengths decide, and the squares are of the products that came back. Assumes nothing.
-use Rattle.std.proofs.Common.{◌≡◌, ℕ, ◌%◌, ◌^◌, ◌<◌, ◌≤◌, List, length, get_or, sym, refl, ap, ◌∙◌, arith, length-take-le, rules, eq-eqb, ne_eqb}
+use Rattle.std.proofs.Common.{ℕ, ◌%◌, ◌^◌, List, length, sym, refl, ap, ◌∙◌, arith, length-take-le, rules, eq-eqb, ne_eqb}
 use borrow.Author.Tests.{lt-leb}
 use Rattle.order.proofs.Prefix.{back_within, shared_is}
 use Rattle.distance.specs.Distance.{product_at, first_squares, measured_of, measured_is, squares_of_products}

@@ -24,31 +24,31 @@ room s = room_of s.args.entries (length s.args.reads.now)
 abbrev verdict : tie.Start → Verdict
 verdict s = first (entry_causes (given s) (asked s) s.args.terms.k (room s))
 
-accepted : (c : tie.After-enum-told) → verdict c.before.before.before.before.before ≡ Accepted
-accepted c = sym c.before.before.check-entry.ensures ∙ c.enum_told.given.1
+accepted : (c : tie.In-Accepted) → verdict c.before.before.before.before ≡ Accepted
+accepted c = sym c.check_entry-verdict.ensures ∙ c.in-Accepted.is
 
-search_ready_requires : tie.Need-search-ready-requires
+search_ready_requires : tie.Need-search_ready-requires
 search_ready_requires c κs =
-    let told = c.before.before in
-    let s = told.before.before.before.before.before in
-    let is = entered (given s) (asked s) s.args.terms.k (room s) (accepted told) in
+    let told = c in
+    let s = told in
+    let is = entered (given s.before.before.before.before.before.before) (asked s.before.before.before.before.before.before) s.args.terms.k (room s.before.before.before.before.before.before) (accepted told.before.before) in
     (is.ready, is.of_reads, record { are = λ some. absurd (some refl) })
 
-returns : tie.Need-returns
+returns : tie.Need-returns-in-Accepted
 returns c =
-    let searched = c.before.before in
-    let told = searched.before.before.before in
-    let s = told.before.before.before.before.before in
-    searches_by (behind_entry (given s) (asked s) s.args.terms.k (room s) (accepted told))
-    searched.search-ready.ensures
+    let searched = c in
+    let told = searched in
+    let s = told in
+    searches_by (behind_entry (given s.before.before.before.before.before.before.before.before.before) (asked s.before.before.before.before.before.before.before.before.before) s.args.terms.k (room s.before.before.before.before.before.before.before.before.before) (accepted told.before.before.before.before.before))
+    searched.search_ready.ensures
 
-returns_2 : tie.Need-returns-2
+returns_2 : tie.Need-returns-in-Refused
 returns_2 c =
-    let told = c.before.before in
-    let s = told.before.before.before.before.before in
-    let refused = sym told.before.before.check-entry.ensures ∙ told.verdict.given.1 in
-    searches_none (given s) (asked s) s.args.terms.k _ _ _
-    (refused_at_entry (given s) (asked s) s.args.terms.k (room s) _ refused) c.no-entries.ensures
+    let told = c in
+    let s = told in
+    let refused = sym told.check_entry-verdict.ensures ∙ told.in-Refused.is in
+    searches_none (given s.before.before.before.before.before) (asked s.before.before.before.before.before) s.args.terms.k _ _ _
+    (refused_at_entry (given s.before.before.before.before.before) (asked s.before.before.before.before.before) s.args.terms.k (room s.before.before.before.before.before) _ refused) c.no_entries.ensures
 
 pub nearest_by_bounds_spec : {M : Type 1} → statement M
 nearest_by_bounds_spec =
@@ -62,6 +62,6 @@ nearest_by_bounds_spec =
     search_ready_requires
     (λ c. search rules)
     (λ c κs. tt)
-    (λ c. c.before.before.search-ready.auto.1.1.1.1.1.1.0)
+    (λ c. c.search_ready.auto.reads)
     returns
     returns_2)

@@ -83,15 +83,15 @@ given s = index_of s.args.task.terms s.args.marks.now s.args.codes.now s.args.ve
 abbrev asked : tie.Start → Query
 asked s = query_of s.args.task.terms s.args.query.now
 
-best_hold : tie.Need-array-borrow-prefix-best
-best_hold c = c.before.before.before.before.before.before.before.before.requires.0.0.ready.few
+best_hold : tie.Need-slice_bounds-best-end
+best_hold c = c.requires.0.0.ready.few
 
-best_room : tie.Need-slice-aggregate-read-in-order
+best_room : tie.Need-slice_bounds-read_in_order-end
 best_room c = sym (length-take-le _ _ (best_hold c.before))
 
-read_in_order_requires : tie.Need-read-in-order-requires
+read_in_order_requires : tie.Need-read_in_order-answer-requires
 read_in_order_requires c κs =
-    let s = c.before.before.before.before.before.before.before.before.before in
+    let s = c in
     record {
       prepared = s.requires.0.0;
       lows_are = s.requires.1;
@@ -100,61 +100,61 @@ read_in_order_requires c κs =
       best_room = sym (best_room c);
     }
 
-put_numbers_requires : tie.Need-put-numbers-requires
+put_numbers_requires : tie.Need-put_numbers-requires
 put_numbers_requires c κs =
-    let counted = c.before.before in
-    let read = counted.before.before.before.before.before.before.before.before in
-    let s = read.before.before.before.before.before.before.before.before.before.before in
-    let most = count_most (given s) (asked s) s.args.task.terms.k read.read-in-order.new.1.1.1.1.1.1.1.0
-    read.read-in-order.result read.read-in-order.ensures in (
-      omega (arith, counted.read_count.ensures, most, read.read-in-order.auto.1.1.1.1.1.1.0, s.requires.0.1),
-      omega (arith, counted.read_count.ensures, most, s.requires.0.3),
+    let counted = c in
+    let read = counted in
+    let s = read in
+    let most = count_most (given s.before.before.before.before.before.before.before.before.before.before.before.before.before.before.before.before.before.before.before) (asked s.before.before.before.before.before.before.before.before.before.before.before.before.before.before.before.before.before.before.before) s.args.task.terms.k read.read_in_order-answer.new.words
+    read.read_in_order-answer.result read.read_in_order-answer.ensures in (
+      omega (arith, counted.read_count-count.ensures, most, read.read_in_order-answer.auto.order, s.requires.0.1),
+      omega (arith, counted.read_count-count.ensures, most, s.requires.0.3),
     )
 
 -- as many as were found
-kept_few : (c : tie.After-found-count) → c.found-count.result ≤ c.before.before.before.before.before.before.before.before.before.before.before.before.before.before.before.before.before.before.before.before.before.before.before.before.args.task.terms.k
+kept_few : (c : tie.After-found_count-kept) → c.found_count-kept.result ≤ c.args.task.terms.k
 kept_few c =
     omega (
       arith,
-      c.found-count.ensures,
-      found_most c.before.before.before.before.before.before.before.before.before.before.before.before.before.before.read-in-order.result c.before.before.before.before.before.before.before.before.before.before.before.before.before.before.before.before.before.before.before.before.before.before.before.before.args.task.terms.k,
+      c.found_count-kept.ensures,
+      found_most c.read_in_order-answer.result c.args.task.terms.k,
     )
 
-words_within : tie.Need-slice-reshare-prefix-entries-of
+words_within : tie.Need-slice_bounds-entries_of-end
 words_within c =
-    let s = c.before.before.before.before.before.before.before.before.before.before.before.before.before.before.before.before.before.before.before.before.before.before.before.before in
+    let s = c in
     omega (
       arith,
       kept_few c,
-      c.before.before.before.before.before.before.before.before.before.before.before.before.before.before.read-in-order.auto.1.1.1.1.1.1.1.0,
-      s.pre.0.2,
-      s.pre.0.0.ready.enough,
+      c.read_in_order-answer.auto.words,
+      s.requires.0.2,
+      s.requires.0.0.ready.enough,
     )
 
-best_within : tie.Need-array-share-prefix-best
+best_within : tie.Need-slice_bounds-best-end-2
 best_within c =
-    let read = c.before.before.before.before.before.before.before.before.before.before.before.before.before.before.before in
+    let read = c in
     omega (
       arith,
-      kept_few c.before,
-      back_within _ _ read.read-in-order.new.1.1.1.1.1.1.1.1.0 (best_hold read.before.before)
-          read.read-in-order.auto.1.1.1.1.1.1.1.1.0,
+      kept_few c,
+      back_within _ _ read.read_in_order-answer.new.best (best_hold read.before.before.before.before.before.before.before.before.before.before.before.before.before.before.before)
+          read.read_in_order-answer.auto.best,
     )
 
 returns : tie.Need-returns
 returns c =
-    let found = c.before.before.before in
-    let written = found.before.before.before in
-    let counted = written.before.before.before in
-    let read = counted.before.before.before.before.before.before.before.before in
-    let s = read.before.before.before.before.before.before.before.before.before.before in
+    let found = c in
+    let written = found in
+    let counted = written in
+    let read = counted in
+    let s = read in
     let a = s.args in
-    answers (given s) (asked s) a.task.terms.k read.read-in-order.new.1.1.1.1.1.1.1.0 read.read-in-order.result
-    read.read-in-order.ensures
-    (read.read-in-order.auto.1.1.1.1.1.1.1.1.0 ∙ sym (best_room read.before)) _
-    (written.put-numbers.ensures
-    ∙ ap (λ (m : ℕ). take m read.read-in-order.new.1.1.1.1.1.1.0 ++ drop m a.reads.now) counted.read_count.ensures)
-    _ _ c.entries-of.ensures found.found-count.ensures
+    answers (given s.before.before.before.before.before.before.before.before.before.before.before.before.before.before.before.before.before.before.before.before.before.before.before.before.before) (asked s.before.before.before.before.before.before.before.before.before.before.before.before.before.before.before.before.before.before.before.before.before.before.before.before.before) a.task.terms.k read.read_in_order-answer.new.words read.read_in_order-answer.result
+    read.read_in_order-answer.ensures
+    (read.read_in_order-answer.auto.best ∙ sym (best_room read.before.before.before.before.before.before.before.before.before.before.before.before.before.before.before.before)) _
+    (written.put_numbers.ensures
+    ∙ ap (λ (m : ℕ). take m read.read_in_order-answer.new.order ++ drop m a.reads.now) counted.read_count-count.ensures)
+    _ _ c.entries_of.ensures found.found_count-kept.ensures
 
 pub search_bounded_spec : {M : Type 1} → statement M
 search_bounded_spec =
@@ -167,12 +167,12 @@ search_bounded_spec =
     put_numbers_requires
     (λ c κs. tt)
     words_within
-    (λ c. sym (length-take-le _ _ (words_within c.before)))
+    (λ c. sym (length-take-le _ _ (words_within c)))
     best_within
     (λ c. sym (length-take-le _ _ (best_within c.before)))
     (λ c κs. tt)
-    (λ c. c.before.before.before.before.before.before.before.before.before.before.before.before.before.before.before.before.before.read-in-order.auto.1.1.1.1.1.0)
-    (λ c. c.before.before.before.before.before.before.before.before.before.before.before.before.before.before.before.before.before.read-in-order.auto.1.1.1.1.1.1.0)
-    (λ c. c.before.before.before.before.before.before.before.before.before.before.before.before.before.before.before.before.before.read-in-order.auto.1.1.1.1.1.1.1.0)
-    (λ c. c.before.before.before.before.before.before.put-numbers.auto.1.1.0)
+    (λ c. c.read_in_order-answer.auto.lows)
+    (λ c. c.read_in_order-answer.auto.order)
+    (λ c. c.read_in_order-answer.auto.words)
+    (λ c. c.put_numbers.auto.out)
     returns)

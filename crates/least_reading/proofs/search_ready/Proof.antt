@@ -23,61 +23,61 @@ asked s = query_of s.args.terms s.args.query.now
 -- ---- the fronts of the three arrays
 
 -- the factors are those of the query
-weighed : (c : tie.After-factors-of) → c.factors-of.result ≡ factors_in (asked c.before.before.before.before)
-weighed c = c.factors-of.ensures
+weighed : (c : tie.After-factors_of-factors) → c.factors_of-factors.result ≡ factors_in (asked c.before.before.before.before)
+weighed c = c.factors_of-factors.ensures
 
-lows_hold : tie.Need-array-borrow-prefix-lows
-lows_hold c = c.before.before.before.before.requires.0.count
+lows_hold : tie.Need-slice_bounds-lows-end
+lows_hold c = c.requires.0.count
 
-lows_within : tie.Need-array-borrow-prefix-lows-2
+lows_within : tie.Need-slice_bounds-lows-end-2
 lows_within c =
-    let filled = c.before in
-    back_within _ _ filled.lower-bounds.new.1.1.1.1.1.1.1.0 (lows_hold filled.before.before)
-    filled.lower-bounds.auto.1.1.1.1.1.1.1.0
+    let filled = c in
+    back_within _ _ filled.lower_bounds.new.lows (lows_hold filled.before.before.before)
+    filled.lower_bounds.auto.lows
 
-order_hold : tie.Need-array-borrow-prefix-order
-order_hold c = c.before.before.before.before.before.before.before.before.requires.0.count
+order_hold : tie.Need-slice_bounds-order-end
+order_hold c = c.requires.0.count
 
-order_room : tie.Need-slice-aggregate-search-bounded-2
+order_room : tie.Need-slice_bounds-search_bounded-end-2
 order_room c = sym (length-take-le _ _ (order_hold c.before))
 
-words_hold : tie.Need-array-borrow-prefix-words
-words_hold c = c.before.before.before.before.before.before.before.before.before.requires.0.count
+words_hold : tie.Need-slice_bounds-words-end
+words_hold c = c.requires.0.count
 
-words_room : tie.Need-slice-aggregate-search-bounded-3
+words_room : tie.Need-slice_bounds-search_bounded-end-3
 words_room c = sym (length-take-le _ _ (words_hold c.before))
 
-lower_bounds_requires : tie.Need-lower-bounds-requires
+lower_bounds_requires : tie.Need-lower_bounds-requires
 lower_bounds_requires c κs =
-    let made = c.before in
-    let s = made.before.before.before.before in
+    let made = c in
+    let s = made in
     let size = length-take-le _ _ (lows_hold c.before) in
-    (bounding s.requires.0 _ size, rw (weighed made) (word_small _), rw size s.requires.2)
+    (bounding s.requires.0 _ size, rw (weighed made.before) (word_small _), rw size s.requires.2)
 
-bounded : (c : tie.After-lower-bounds) → let s = c.before.before.before.before.before.before in
-    c.lower-bounds.new.1.1.1.1.1.1.1.0 ≡ values_from (low_in (given s) (asked s)) 0 s.args.terms.n
+bounded : (c : tie.After-lower_bounds) → let s = c in
+    c.lower_bounds.new.lows ≡ values_from (low_in (given s.before.before.before.before.before.before) (asked s.before.before.before.before.before.before)) 0 s.args.terms.n
 bounded c =
-    let made = c.before.before in
-    let s = made.before.before.before.before in
-    let l = given s in
+    let made = c in
+    let s = made in
+    let l = given s.before.before.before.before.before.before in
     let lows : List ℕ → ℕ → List ℕ =
-    λ fs n. values_from (weighed_lower l.d l.b l.marks l.codes fs (asked s).components) 0 n in
-    c.lower-bounds.ensures ∙ ap₂ lows (weighed made) (length-take-le _ _ (lows_hold c.before.before))
+    λ fs n. values_from (weighed_lower l.d l.b l.marks l.codes fs (asked s.before.before.before.before.before.before).components) 0 n in
+    c.lower_bounds.ensures ∙ ap₂ lows (weighed made.before.before) (length-take-le _ _ (lows_hold c.before.before))
 
-search_bounded_requires : tie.Need-search-bounded-requires
+search_bounded_requires : tie.Need-search_bounded-requires
 search_bounded_requires c κs =
-    let filled = c.before.before.before.before.before in
-    let made = filled.before.before in
-    let s = made.before.before.before.before in (
+    let filled = c in
+    let made = filled in
+    let s = made in (
       (
-        record { ready = s.requires.0; weighed = weighed made },
+        record { ready = s.requires.0; weighed = weighed made.before.before.before.before.before.before.before },
         sym (order_room c.before.before),
         sym (words_room c.before),
         s.requires.1,
       ),
-      shared_is _ _ filled.lower-bounds.new.1.1.1.1.1.1.1.0 (lows_hold filled.before.before)
-          filled.lower-bounds.auto.1.1.1.1.1.1.1.0
-          ∙ bounded filled,
+      shared_is _ _ filled.lower_bounds.new.lows (lows_hold filled.before.before.before.before.before.before.before)
+          filled.lower_bounds.auto.lows
+          ∙ bounded filled.before.before.before.before.before,
     )
 
 pub search_ready_spec : {M : Type 1} → statement M
@@ -95,5 +95,5 @@ search_ready_spec =
     words_hold
     words_room
     search_bounded_requires
-    (λ c. c.before.before.before.before.before.search-bounded.auto.1.1.1.1.1.1.1.1.0)
-    (λ c. c.before.before.before.before.before.search-bounded.ensures))
+    (λ c. c.search_bounded.auto.reads)
+    (λ c. c.search_bounded.ensures))

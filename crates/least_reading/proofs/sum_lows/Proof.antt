@@ -7,21 +7,21 @@ use Rattle.least_reading.specs.Unpacked.{sums_by_regions}
 use Rattle.least_reading.proofs.sum_lows.Statement.{statement}
 use Rattle.least_reading.proofs.sum_lows.Tie as tie
 
-returns : tie.Need-returns
+returns : tie.Need-returns-then-regions-eq0
 returns c =
-    let summed = c.before.before in
-    let s = summed.before.before.before.before.before.before.before in
-    summed.sum-bounds.ensures.1 ∙ outcome_accepted _ _ s.requires.0
+    let summed = c in
+    let s = summed in
+    summed.sum_bounds.ensures.1 ∙ outcome_accepted _ _ s.requires.0
 
-returns_2 : tie.Need-returns-2
+returns_2 : tie.Need-returns-else-regions-eq0
 returns_2 c =
-    let summed = c.before.before in
-    let tested = summed.before.before in
-    let s = tested.before.before.before.before.before in
+    let summed = c in
+    let tested = summed in
+    let s = tested in
     let a = s.args in
-    summed.sum-regions.ensures.1
+    summed.sum_regions.ensures.1
     ∙ sums_by_regions a.d a.b (length a.lows.now) a.table.now a.codes.now a.regions.now a.lows.now s.requires.0
-    (s.requires.1.are tested.if1.false)
+    (s.requires.1.are tested.if-regions-eq0.false)
 
 pub sum_lows_spec : {M : Type 1} → statement M
 sum_lows_spec =

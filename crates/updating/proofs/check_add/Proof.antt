@@ -2,7 +2,7 @@
 use mathlib.Core.Path.{◌≡◌, sym, ap, ◌∙◌}
 use mathlib.Core.Bool.{Bool, not, ◌&&◌}
 use mathlib.Core.List.{List, [], ◌∷◌, ◌++◌}
-use Prim.Native.Nat.{suc, ◌+◌}
+use Prim.Native.Nat.{suc}
 use native.Mathlib.Numerals.{add-one}
 use native.Mathlib.Omega.{arith}
 use borrow.Author.Rules.{rules}
@@ -11,7 +11,7 @@ use lib.Dec.{eqb}
 use lib.ListN.{length}
 use Rattle.refusal.specs.declared.Refusal.TheVariants.{Length, Full}
 use Rattle.refusal.specs.declared.Verdict.TheVariants.{Accepted}
-use Rattle.refusal.specs.First.{Row, ◌⇒◌, first, outcome_accepted, outcome_refused, first_append, first_here, told}
+use Rattle.refusal.specs.First.{Row, ◌⇒◌, first, outcome_accepted, outcome_refused, first_append, first_here}
 use Rattle.limits.specs.Limits.{max_vectors}
 use Rattle.limits.specs.Tests.{between}
 use Rattle.layout.specs.Stretch.{shape}

@@ -1,5 +1,5 @@
 -- the entries with i written over from the array; i is at most as many as fit
-use Rattle.std.proofs.Common.{◌-◌, ◌≡◌, ◌≤◌, length}
+use Rattle.std.proofs.Common.{◌-◌, ◌≡◌, ◌≤◌}
 use Rattle.entries.specs.Filled.{filled}
 use Rattle.entries.proofs.fill.fill.Given as goal
 

@@ -30,11 +30,11 @@ record State (test : Pair → Bool) (lows₀ : List ℕ) (room : ℕ) (lows numb
   keys : take count lows ≡ map (key_at lows₀) (take count numbers)
   rest : take count numbers ++ numbers_passing test (key_at lows₀) (count_from i (length lows₀ - i)) ≡ all test lows₀
 
-abbrev invariant_loop : tie.invariant_loop
+abbrev invariant_loop : tie.invariant-loop-i
 invariant_loop last last-number bound bound-number lows₀ numbers₀ count₀ i₀ lows numbers count i =
     State (is_candidate (pair last last-number) (pair bound bound-number)) lows₀ (length numbers₀) lows numbers count i
 
-abbrev decreases_loop : tie.decreases_loop
+abbrev decreases_loop : tie.decreases-loop-i
 decreases_loop last last-number bound bound-number lows₀ numbers₀ count₀ i₀ lows numbers count i = length lows₀ - i
 
 begin : (test : Pair → Bool) (lows numbers : List ℕ) → State test lows (length numbers) lows numbers 0 0
@@ -134,39 +134,39 @@ module _ {test : Pair → Bool} {lows₀ : List ℕ} {room : ℕ} {lows numbers 
           }
 
 -- what the test says of number i
-tested : (c : tie.After-is-candidate invariant_loop decreases_loop) → let at = c.before.before.before in let s = at.before.before.before in
-    is_candidate (pair s.args.last s.args.last-number) (pair s.args.bound s.args.bound-number)
-    (pair_of (key_at s.args.lows.now) at.loop.i) ≡ c.is-candidate.result
+tested : (c : tie.After-is_candidate invariant_loop decreases_loop) → let at = c in let s = at in
+    is_candidate (pair s.args.last s.args.last_number) (pair s.args.bound s.args.bound_number)
+    (pair_of (key_at s.args.lows.now) at.loop-i.i) ≡ c.is_candidate.result
 tested c =
-    let at = c.before.before.before in
-    let s = at.before.before.before in
-    ap (λ (low : ℕ). is_candidate (pair s.args.last s.args.last-number) (pair s.args.bound s.args.bound-number)
-    (pair low at.loop.i))
-    (sym (its_low at.loop.invariant c.before.before.loop-test.true))
-    ∙ sym c.is-candidate.ensures
+    let at = c in
+    let s = at in
+    ap (λ (low : ℕ). is_candidate (pair s.args.last s.args.last_number) (pair s.args.bound s.args.bound_number)
+    (pair low at.loop-i.i))
+    (sym (its_low at.loop-i.invariant c.loop-i-test.true))
+    ∙ sym c.is_candidate.ensures
 
 -- what a turn takes
-loop_again : tie.Need-loop-preserved invariant_loop decreases_loop
+loop_again : tie.Need-loop-i-preserved-then-is_candidate invariant_loop decreases_loop
 loop_again c =
-    let asked = c.before in
-    let at = asked.before.before.before in
-    takes at.loop.invariant asked.before.before.loop-test.true at.before.before.before.requires.1 (tested asked ∙ c.if1.true)
+    let asked = c in
+    let at = asked in
+    takes at.loop-i.invariant asked.loop-i-test.true at.requires.1 (tested asked.before ∙ c.if-is_candidate.true)
 
-loop_again_2 : tie.Need-loop-preserved-2 invariant_loop decreases_loop
+loop_again_2 : tie.Need-loop-i-preserved invariant_loop decreases_loop
 loop_again_2 c =
-    let asked = c.before in
-    let at = asked.before.before.before in
-    fails at.loop.invariant asked.before.before.loop-test.true (tested asked ∙ c.if1.false)
+    let asked = c in
+    let at = asked in
+    fails at.loop-i.invariant asked.loop-i-test.true (tested asked.before ∙ c.if-is_candidate.false)
 
-has_room : (c : tie.Then1 invariant_loop decreases_loop) → let at = c.before.before.before.before in at.loop.count < length at.loop.numbers
+has_room : (c : tie.Then-is_candidate invariant_loop decreases_loop) → let at = c in at.loop-i.count < length at.loop-i.numbers
 has_room c =
-    let asked = c.before in
-    let at = asked.before.before.before in
+    let asked = c in
+    let at = asked in
     omega (
       arith,
-      room_left at.loop.invariant asked.before.before.loop-test.true at.before.before.before.requires.1
-          (tested asked ∙ c.if1.true),
-      at.loop.invariant.rooms,
+      room_left at.loop-i.invariant asked.loop-i-test.true at.requires.1
+          (tested asked.before ∙ c.if-is_candidate.true),
+      at.loop-i.invariant.rooms,
     )
 
 pub gather_spec : {M : Type 1} → statement M
@@ -178,10 +178,10 @@ gather_spec =
     (λ c. begin _ _ _)
     (λ c. search rules)
     (λ c. search rules)
-    (λ c. omega (arith, c.before.before.loop.invariant.within, c.before.before.before.before.before.requires.0))
+    (λ c. omega (arith, c.loop-i.invariant.within, c.requires.0))
     (λ c κs. search rules)
-    (λ c. omega (arith, c.before.before.before.before.loop.invariant.few))
-    (λ c. omega (arith, c.before.before.before.before.loop.invariant.few))
+    (λ c. omega (arith, c.loop-i.invariant.few))
+    (λ c. omega (arith, c.loop-i.invariant.few))
     (λ c. search rules)
     (λ c. omega (arith, has_room c))
     (λ c. omega (arith, has_room c))
@@ -192,6 +192,6 @@ gather_spec =
     (λ c. search rules)
     (λ c. search rules)
     loop_again_2
-    (λ c. c.before.loop.invariant.same)
-    (λ c. c.before.loop.invariant.rooms)
-    (λ c. finish c.before.loop.invariant (omega (arith, c.before.loop.invariant.same))))
+    (λ c. c.loop-i.invariant.same)
+    (λ c. c.loop-i.invariant.rooms)
+    (λ c. finish c.loop-i.invariant (omega (arith, c.loop-i.invariant.same))))

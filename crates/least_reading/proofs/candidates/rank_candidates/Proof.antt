@@ -117,9 +117,9 @@ module _ (lows : List ℕ) (k last number : ℕ) (bound : Pair) (some : 1 ≤ k)
 -- ---- the steps
 
 -- what was gathered fits behind the first
-gather_requires : tie.Need-gather-requires
+gather_requires : tie.Need-gather-count-requires
 gather_requires c κs =
-    let s = c.before.before.before.before.before.before.before.before.before in
+    let s = c in
     let a = s.args in
     let k = length a.best.now in
     let bound = pair (get_or a.words.now (k - 1) 0) (get_or a.best.now (k - 1) 0) in (
@@ -133,144 +133,144 @@ gather_requires c κs =
       ),
     )
 
-count_fits : (c : tie.After-gather) → let s = c.before.before.before.before.before.before.before.before.before.before in
-    length s.args.best.now + c.gather.result ≤ length s.args.lows.now
+count_fits : (c : tie.After-gather-count) → let s = c in
+    length s.args.best.now + c.gather-count.result ≤ length s.args.lows.now
 count_fits c =
-    let s = c.before.before.before.before.before.before.before.before.before.before in
+    let s = c in
     let a = s.args in
     let k = length a.best.now in
     let bound = pair (get_or a.words.now (k - 1) 0) (get_or a.best.now (k - 1) 0) in
     omega (
       arith,
-      c.gather.ensures.0,
+      c.gather-count.ensures.0,
       fit a.lows.now k a.last (get_or a.order.now (k - 1) 0) bound s.requires.0.0 s.requires.0.1 s.requires.1,
     )
 
-lows_hold : tie.Need-slice-relend-prefix-sort
+lows_hold : tie.Need-slice_bounds-sort-end
 lows_hold c =
-    let gathered = c.before.before.before.before in
-    omega (arith, count_fits gathered, gathered.gather.auto.1.1.1.1.0)
+    let gathered = c in
+    omega (arith, count_fits gathered.before.before.before.before, gathered.gather-count.auto.lows)
 
 -- the order has its length still
-order_long : (c : tie.After-gather) → let s = c.before.before.before.before.before.before.before.before.before.before in let a = s.args in let k = length a.best.now in
-    length (put_mid k (length a.order.now - k) a.order.now c.gather.new.1.1.1.1.1.0) ≡ length a.lows.now
+order_long : (c : tie.After-gather-count) → let s = c in let a = s.args in let k = length a.best.now in
+    length (put_mid k (length a.order.now - k) a.order.now c.gather-count.new.numbers) ≡ length a.lows.now
 order_long c =
-    let s = c.before.before.before.before.before.before.before.before.before.before in
+    let s = c in
     let a = s.args in
     let k = length a.best.now in
-    same_len_mid k (length a.order.now - k) a.order.now c.gather.new.1.1.1.1.1.0 c.gather.auto.1.1.1.1.1.0
+    same_len_mid k (length a.order.now - k) a.order.now c.gather-count.new.numbers c.gather-count.auto.numbers
     ∙ s.requires.0.3
 
-order_holds : (c : tie.After-sort-arg) → let gathered = c.before.before.before.before.before in let s = gathered.before.before.before.before.before.before.before.before.before.before in let a = s.args in
+order_holds : (c : tie.After-sort-arg-1) → let gathered = c in let s = gathered in let a = s.args in
     let k = length a.best.now in
-    (k + gathered.gather.result ≤ length
-    (put_mid k (length a.order.now - k) a.order.now gathered.gather.new.1.1.1.1.1.0))
+    (k + gathered.gather-count.result ≤ length
+    (put_mid k (length a.order.now - k) a.order.now gathered.gather-count.new.numbers))
     × (length a.lows.now ≤ max_vectors)
 order_holds c =
-    let gathered = c.before.before.before.before.before in (
-      omega (arith, count_fits gathered, order_long gathered),
-      gathered.before.before.before.before.before.before.before.before.before.before.requires.0.2,
+    let gathered = c in (
+      omega (arith, count_fits gathered.before.before.before.before.before, order_long gathered.before.before.before.before.before),
+      gathered.requires.0.2,
     )
 
 -- the slices keep their lengths
-lows_back : tie.Need-same-length
+lows_back : tie.Need-shape_of-lows
 lows_back c =
-    let done = c.before.before.before.before.before.before in
-    let gathered = done.before.before.before.before.before.before.before.before in
-    length_front gathered.gather.new.1.1.1.1.0 done.sort.new.0 gathered.gather.result done.sort.auto.0
-    ∙ gathered.gather.auto.1.1.1.1.0
+    let done = c in
+    let gathered = done in
+    length_front gathered.gather-count.new.lows done.sort.new.keys gathered.gather-count.result done.sort.auto.keys
+    ∙ gathered.gather-count.auto.lows
 
-order_back : tie.Need-same-length-2
+order_back : tie.Need-shape_of-order
 order_back c =
-    let done = c.before.before.before.before.before.before in
-    let gathered = done.before.before.before.before.before.before.before.before in
-    let s = gathered.before.before.before.before.before.before.before.before.before.before in
+    let done = c in
+    let gathered = done in
+    let s = gathered in
     let k = length s.args.best.now in
-    same_len_mid k (k + gathered.gather.result - k)
-    (put_mid k (length s.args.order.now - k) s.args.order.now gathered.gather.new.1.1.1.1.1.0)
-    done.sort.new.1.0 done.sort.auto.1.0
-    ∙ order_long gathered
+    same_len_mid k (k + gathered.gather-count.result - k)
+    (put_mid k (length s.args.order.now - k) s.args.order.now gathered.gather-count.new.numbers)
+    done.sort.new.numbers done.sort.auto.numbers
+    ∙ order_long gathered.before.before.before.before.before.before.before.before.before.before.before.before.before.before
     ∙ sym s.requires.0.3
 
-words_back : tie.Need-same-length-3
+words_back : tie.Need-shape_of-words
 words_back c =
-    let done = c.before.before.before.before.before.before in
-    let s = done.before.before.before.before.before.before.before.before.before.before.before.before.before.before.before.before.before.before in
+    let done = c in
+    let s = done in
     let k = length s.args.best.now in
-    same_len_mid k (length s.args.words.now - k) s.args.words.now done.sort.new.1.1.0 done.sort.auto.1.1.0
+    same_len_mid k (length s.args.words.now - k) s.args.words.now done.sort.new.words done.sort.auto.words
 
 returns : tie.Need-returns
 returns c =
-    let done = c.before.before.before.before.before.before in
-    let gathered = done.before.before.before.before.before.before.before.before in
-    let s = gathered.before.before.before.before.before.before.before.before.before.before in
+    let done = c in
+    let gathered = done in
+    let s = gathered in
     let a = s.args in
     let k = length a.best.now in
     let bound = pair (get_or a.words.now (k - 1) 0) (get_or a.best.now (k - 1) 0) in
     let number = get_or a.order.now (k - 1) 0 in
-    let lows₁ = gathered.gather.new.1.1.1.1.0 in
-    let numbers₁ = gathered.gather.new.1.1.1.1.1.0 in
-    let room = gathered.gather.auto.1.1.1.1.1.0 in
-    let r = gathered.gather.result in
+    let lows₁ = gathered.gather-count.new.lows in
+    let numbers₁ = gathered.gather-count.new.numbers in
+    let room = gathered.gather-count.auto.numbers in
+    let r = gathered.gather-count.result in
     let are-keys =
     of_sorted a.lows.now k a.last number bound s.requires.0.0 s.requires.0.1 s.requires.1 a.order.now a.words.now
     s.requires.0.3
-    s.requires.0.4 lows₁ numbers₁ r gathered.gather.ensures room keys_of _ done.sort.ensures.1.0 in
+    s.requires.0.4 lows₁ numbers₁ r gathered.gather-count.ensures room keys_of _ done.sort.ensures.1.0 in
     let are-numbers =
     of_sorted a.lows.now k a.last number bound s.requires.0.0 s.requires.0.1 s.requires.1 a.order.now a.words.now
     s.requires.0.3
-    s.requires.0.4 lows₁ numbers₁ r gathered.gather.ensures room numbers_of _ done.sort.ensures.1.1.0 in
+    s.requires.0.4 lows₁ numbers₁ r gathered.gather-count.ensures room numbers_of _ done.sort.ensures.1.1.0 in
     answer a.lows.now k a.last number bound s.requires.0.0 s.requires.0.1 s.requires.1 a.order.now a.words.now s.requires.0.3
-    s.requires.0.4 lows₁ numbers₁ r gathered.gather.ensures room done.sort.new.1.1.0 are-keys are-numbers
+    s.requires.0.4 lows₁ numbers₁ r gathered.gather-count.ensures room done.sort.new.words are-keys are-numbers
 
 pub rank_candidates_spec : {M : Type 1} → statement M
 rank_candidates_spec =
     tie.close
     (tie.spec
-    (λ c. omega (arith, c.before.before.before.before.requires.0))
-    (λ c. omega (arith, c.before.before.before.before.requires.0))
-    (λ c. omega (arith, c.before.before.before.before.before.requires.0))
-    (λ c. omega (arith, c.before.before.before.before.before.requires.0))
-    (λ c. omega (arith, c.before.before.before.before.before.requires.0))
-    (λ c. omega (arith, c.before.before.before.before.before.before.requires.0))
-    (λ c. omega (arith, c.before.before.before.before.before.before.requires.0))
-    (λ c. omega (arith, c.before.before.before.before.before.before.requires.0))
-    (λ c. omega (arith, c.before.before.before.before.before.before.before.requires.0))
-    (λ c. omega (arith, c.before.before.before.before.before.before.before.before.requires.0))
-    (λ c. omega (arith, c.before.before.before.before.before.before.before.before.requires.0))
-    (λ c. omega (arith, c.before.before.before.before.before.before.before.before.requires.0))
-    (λ c. omega (arith, c.before.before.before.before.before.before.before.before.requires.0))
+    (λ c. omega (arith, c.requires.0))
+    (λ c. omega (arith, c.requires.0))
+    (λ c. omega (arith, c.requires.0))
+    (λ c. omega (arith, c.requires.0))
+    (λ c. omega (arith, c.requires.0))
+    (λ c. omega (arith, c.requires.0))
+    (λ c. omega (arith, c.requires.0))
+    (λ c. omega (arith, c.requires.0))
+    (λ c. omega (arith, c.requires.0))
+    (λ c. omega (arith, c.requires.0))
+    (λ c. omega (arith, c.requires.0))
+    (λ c. omega (arith, c.requires.0))
+    (λ c. omega (arith, c.requires.0))
     gather_requires
     lows_hold
     (λ c. sym (length-take-le _ _ (lows_hold c.before)))
     (λ c. omega (
       arith,
       count_fits c.before.before.before.before.before,
-      c.before.before.before.before.before.before.before.before.before.before.before.before.before.before.before.requires.0,
+      c.requires.0,
     ))
     (λ c. omega (
       arith,
       count_fits c.before.before.before.before.before,
-      c.before.before.before.before.before.before.before.before.before.before.before.before.before.before.before.requires.0,
+      c.requires.0,
     ))
     (λ c. omega arith)
     (λ c. omega (arith, order_holds c))
     (λ c. omega (arith, order_holds c))
     (λ c. omega (
       arith,
-      c.before.before.before.before.before.before.before.before.before.before.before.before.before.before.before.before.requires.0,
+      c.requires.0,
     ))
     (λ c. omega (
       arith,
-      c.before.before.before.before.before.before.before.before.before.before.before.before.before.before.before.before.requires.0,
+      c.requires.0,
     ))
     (λ c. omega (
       arith,
-      c.before.before.before.before.before.before.before.before.before.before.before.before.before.before.before.before.requires.0,
+      c.requires.0,
     ))
     (λ c. omega (
       arith,
-      c.before.before.before.before.before.before.before.before.before.before.before.before.before.before.before.before.requires.0,
+      c.requires.0,
     ))
     (λ c κs. tt)
     lows_back

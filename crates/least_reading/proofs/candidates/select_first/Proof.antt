@@ -30,10 +30,10 @@ last_key keys k some enough =
     map_at (key_at keys) (take k (ranking keys)) (k - 1) (omega (arith, length-take-le k (ranking keys) (omega arith)))
     ∙ ap (key_at keys) (get_or-take k (ranking keys) (k - 1) 0 (omega arith))
 
-room_holds : tie.Need-array-borrow-prefix-room
-room_holds c = c.before.before.before.before.before.requires.1
+room_holds : tie.Need-slice_bounds-room-end
+room_holds c = c.requires.1
 
-room_length : tie.Need-slice-aggregate-select
+room_length : tie.Need-slice_bounds-select-end
 room_length c = sym (length-take-le _ _ (room_holds c.before))
 
 accepted : (keys numbers least : List ℕ) (words : ℕ) → length keys ≤ max_vectors → 1 ≤ length numbers → length numbers ≤ length keys
@@ -42,18 +42,18 @@ accepted : (keys numbers least : List ℕ) (words : ℕ) → length keys ≤ max
 accepted keys numbers least words few some enough same room =
     none_refuses (length keys) (length numbers) (length least) words few some enough same (omega arith)
 
-least_long : (c : tie.After-room2) → let s = c.before.before.before.before.before.before.before.before.before.before.before.before in length s.args.first.now - 1 < length c.before.before.before.before.before.select.new.1.1.0
+least_long : (c : tie.After-room-2-1) → let s = c in length s.args.first.now - 1 < length c.select.new.least
 least_long c =
-    let s = c.before.before.before.before.before.before.before.before.before.before.before.before in
-    omega (arith, s.requires, c.before.before.before.before.before.select.auto.1.1.0)
+    let s = c in
+    omega (arith, s.requires, c.select.auto.least)
 
 returns : tie.Need-returns
 returns c =
-    let done = c.before.before.before.before.before.before in
-    let s = done.before.before.before.before.before.before.before in
+    let done = c in
+    let s = done in
     let a = s.args in
     let none = accepted a.lows.now a.first.now a.least.now _ s.requires.3 s.requires.0 s.requires.2 s.requires.4
-    (sym (room_length done.before)) in (
+    (sym (room_length done.before.before.before.before.before.before.before)) in (
       ap (λ (l : List ℕ). get_or l (length a.first.now - 1) 0) (done.select.ensures.1.1.0 ∙ outcome_accepted _ _ none)
           ∙ last_key a.lows.now (length a.first.now) s.requires.0 s.requires.2,
       done.select.ensures.1.0 ∙ outcome_accepted _ _ none,
@@ -66,7 +66,7 @@ select_first_spec =
     room_holds
     room_length
     (λ c κs. tt)
-    (λ c. omega (arith, c.before.before.before.before.before.before.before.before.before.before.before.before.requires))
+    (λ c. omega (arith, c.requires))
     (λ c. omega (arith, least_long c))
     (λ c. omega (arith, least_long c.before))
     (λ c. search rules)

@@ -13,10 +13,10 @@ use Rattle.order.specs.Rank.{pair_causes, sort_leaves}
 use Rattle.least_reading.proofs.candidates.sort_few.Statement.{statement}
 use Rattle.least_reading.proofs.candidates.sort_few.Tie as tie
 
-room_holds : tie.Need-array-borrow-prefix-room
-room_holds c = c.before.before.before.before.requires.1
+room_holds : tie.Need-slice_bounds-room-end
+room_holds c = c.requires.1
 
-room_length : tie.Need-slice-aggregate-sort
+room_length : tie.Need-slice_bounds-sort-end
 room_length c = sym (length-take-le _ _ (room_holds c.before))
 
 -- with as many words as keys
@@ -28,10 +28,10 @@ sorts of keys numbers old words same room = sort_leaves of keys numbers old word
 
 returns : tie.Need-returns
 returns c =
-    let done = c.before.before.before.before.before in
-    let s = done.before.before.before.before.before.before in
+    let done = c in
+    let s = done in
     let a = s.args in
-    let room = sym (room_length done.before) in (
+    let room = sym (room_length done.before.before.before.before.before.before) in (
       sorts keys_of a.keys.now a.numbers.now _ _ s.requires.2 room done.sort.ensures.1.0,
       sorts numbers_of a.keys.now a.numbers.now _ _ s.requires.2 room done.sort.ensures.1.1.0,
     )

@@ -61,39 +61,39 @@ module _ (s : tie.Start) where
   m = s.args.terms.m
 
   vectors : n ≤ max_vectors
-  vectors = (between 1 n max_vectors s.pre.0.count).below
+  vectors = (between 1 n max_vectors s.requires.0.count).below
 
   word_within : i < length s.args.words.now
-  word_within = omega (arith, s.pre.1, s.pre.0.of_words)
+  word_within = omega (arith, s.requires.1, s.requires.0.of_words)
 
   query_ends : i * d + d ≤ length s.args.queries.now
-  query_ends = omega (arith, part_ends d m i s.pre.1, s.pre.0.of_queries)
+  query_ends = omega (arith, part_ends d m i s.requires.1, s.requires.0.of_queries)
 
   queries_few : i * d + d ≤ 64 * 32
   queries_few =
-      let all : m * d ≤ 64 * 32 = mul-le-mul s.pre.0.few (shape d s.args.terms.b s.pre.0.shaped).few in
-      omega (arith, part_ends d m i s.pre.1)
+      let all : m * d ≤ 64 * 32 = mul-le-mul s.requires.0.few (shape d s.args.terms.b s.requires.0.shaped).few in
+      omega (arith, part_ends d m i s.requires.1)
 
   reads_end : i * n + n ≤ length s.args.reads.now
-  reads_end = omega (arith, part_ends n m i s.pre.1, s.pre.2)
+  reads_end = omega (arith, part_ends n m i s.requires.1, s.requires.2)
 
   reads_few : i * n + n ≤ 64 * 512
   reads_few =
-      let all : m * n ≤ 64 * 512 = mul-le-mul s.pre.0.few vectors in
-      omega (arith, part_ends n m i s.pre.1)
+      let all : m * n ≤ 64 * 512 = mul-le-mul s.requires.0.few vectors in
+      omega (arith, part_ends n m i s.requires.1)
 
   entries_few : i * k + k ≤ 64 * 512
   entries_few =
-      let all : m * k ≤ 64 * 512 = mul-le-mul s.pre.0.few (neighbours n k s.pre.0.count s.pre.0.neighbours).few in
-      omega (arith, part_ends k m i s.pre.1)
+      let all : m * k ≤ 64 * 512 = mul-le-mul s.requires.0.few (neighbours n k s.requires.0.count s.requires.0.neighbours).few in
+      omega (arith, part_ends k m i s.requires.1)
 
   regions_few : n * d ≤ 512 * 32
-  regions_few = mul-le-mul vectors (shape d s.args.terms.b s.pre.0.shaped).few
+  regions_few = mul-le-mul vectors (shape d s.args.terms.b s.requires.0.shaped).few
 
   tested : Tested (library_in (given s)) (asked s (i * d + d - i * d)) k
   tested =
       subst⁻¹ (λ (e : ℕ). Tested (library_in (given s)) (asked s e) k) (size (i * d) d)
-      (record { ready = query_ready s.pre.0 i s.pre.1 })
+      (record { ready = query_ready s.requires.0 i s.requires.1 })
 
   -- what the search of the part tells of the query
   abbrev Tells : Found → List ℕ → List ℕ → ℕ → Type 0
@@ -103,40 +103,40 @@ module _ (s : tie.Start) where
   told : (found : Found) (part last : List ℕ) → Tells found part last (i * d + d - i * d)
       → Searches (verdict_in (given s) i) (library_in (given s)) (query_in (given s) i) k found part last
   told found part last searches =
-      searches_by (own_causes_lem s.pre.0 i s.pre.1) (subst (Tells found part last) (size (i * d) d) searches)
+      searches_by (own_causes_lem s.requires.0 i s.requires.1) (subst (Tells found part last) (size (i * d) d) searches)
 
 -- where the arguments are
-abbrev from_3 : tie.After-shared-slice-known3 → tie.Start
+abbrev from_3 : tie.After-shared_slice_known-3-1 → tie.Start
 from_3 c = c.before.before.before.before
 
-abbrev from_arg : tie.After-search-tested-arg → tie.Start
+abbrev from_arg : tie.After-search_tested-arg-1 → tie.Start
 from_arg c = from_3 c.before
 
-regions_hold : tie.Need-array-share-prefix-regions
+regions_hold : tie.Need-slice_bounds-regions-end
 regions_hold c = omega (arith, regions_few (from_arg c))
 
-search_tested_requires : tie.Need-search-tested-requires
+search_tested_requires : tie.Need-search_tested-found-requires
 search_tested_requires c κs =
     let s = from_arg c.before.before in (
       tested s,
       mid_len (i s * n s) (i s * n s + n s) s.args.reads.now (reads_end s) ∙ size (i s * n s) (n s),
-      front_unpacked s.pre.0 s.pre.3,
+      front_unpacked s.requires.0 s.requires.3,
     )
 
 returns : tie.Need-returns
 returns c =
-    let searched = c.before.before.before.before.before in
-    let s = from_arg searched.before.before.before in
+    let searched = c in
+    let s = from_arg searched.before.before.before.before.before.before.before.before in
     let place = i s * n s in
     let reads = s.args.reads.now in
-    let last = searched.search-tested.new.1.1.1.1.1.1.0 in
-    let found = told s searched.search-tested.result _ last searched.search-tested.ensures in
+    let last = searched.search_tested-found.new.reads in
+    let found = told s searched.search_tested-found.result _ last searched.search_tested-found.ensures in
     record {
-      answer_is = c.before.answer-of.ensures ∙ ap answer_of found.answer;
+      answer_is = c.answer_of.ensures ∙ ap answer_of found.answer;
       entries_are = found.entries_are;
       start_is = refl;
       count_is =
-          c.found-count.ensures ∙ ap (λ (a : Searched). found_count a (k s)) found.answer
+          c.found_count.ensures ∙ ap (λ (a : Searched). found_count a (k s)) found.answer
           ∙ found_outcome (verdict_in (given s) (i s)) (library_in (given s)) (query_in (given s) (i s)) (k s);
       reads_are =
           ap (put_mid place (place + n s - place) reads) found.reads_are
@@ -147,8 +147,8 @@ pub answer_query_spec : {M : Type 1} → statement M
 answer_query_spec =
     tie.close
     (tie.spec
-    (λ c. omega (arith, c.before.before.before.requires.1, c.before.before.before.requires.0.few))
-    (λ c. word_within (from_3 c))
+    (λ c. omega (arith, c.requires.1, c.requires.0.few))
+    (λ c. word_within c.before.before.before.before)
     (λ c. omega (arith, queries_few (from_3 c)))
     (λ c. omega (arith, reads_few (from_3 c)))
     (λ c. omega (arith, regions_few (from_3 c)))

@@ -15,28 +15,28 @@ given s = index_of s.args.terms s.args.marks.now s.args.codes.now s.args.vectors
 abbrev asked : tie.Start → Query
 asked s = query_of s.args.terms s.args.query.now
 
-search_ready_requires : tie.Need-search-ready-requires
+search_ready_requires : tie.Need-search_ready-requires
 search_ready_requires c κs =
-    let told = c.before in
-    let s = told.before.before.before.before.before.before in
-    (tested_ready s.requires.0 (sym told.before.before.check-query.ensures ∙ told.enum_told.given.1), s.requires.1, s.requires.2)
+    let told = c in
+    let s = told in
+    (tested_ready s.requires.0 (sym told.check_query.ensures ∙ told.in-Accepted.is), s.requires.1, s.requires.2)
 
-returns : tie.Need-returns
+returns : tie.Need-returns-in-Accepted
 returns c =
-    let searched = c.before.before in
-    let told = searched.before.before in
-    let s = told.before.before.before.before.before.before in
-    searches_by (own_accepted (given s) (asked s) s.args.terms.k
-    (sym told.before.before.check-query.ensures ∙ told.enum_told.given.1))
-    searched.search-ready.ensures
+    let searched = c in
+    let told = searched in
+    let s = told in
+    searches_by (own_accepted (given s.before.before.before.before.before.before.before.before.before) (asked s.before.before.before.before.before.before.before.before.before) s.args.terms.k
+    (sym told.check_query.ensures ∙ told.in-Accepted.is))
+    searched.search_ready.ensures
 
-returns_2 : tie.Need-returns-2
+returns_2 : tie.Need-returns-in-Refused
 returns_2 c =
-    let told = c.before.before in
-    let s = told.before.before.before.before.before.before in
-    let refused = sym told.before.before.check-query.ensures ∙ told.cause.given.1 in
-    searches_none (given s) (asked s) s.args.terms.k _ _ _ (own_refused (given s) (asked s) s.args.terms.k _ refused)
-    c.no-entries.ensures
+    let told = c in
+    let s = told in
+    let refused = sym told.check_query.ensures ∙ told.in-Refused.is in
+    searches_none (given s.before.before.before.before.before.before) (asked s.before.before.before.before.before.before) s.args.terms.k _ _ _ (own_refused (given s.before.before.before.before.before.before) (asked s.before.before.before.before.before.before) s.args.terms.k _ refused)
+    c.no_entries.ensures
 
 pub search_tested_spec : {M : Type 1} → statement M
 search_tested_spec =
@@ -47,6 +47,6 @@ search_tested_spec =
     search_ready_requires
     (λ c. search rules)
     (λ c κs. tt)
-    (λ c. c.before.before.search-ready.auto.1.1.1.1.1.1.0)
+    (λ c. c.search_ready.auto.reads)
     returns
     returns_2)

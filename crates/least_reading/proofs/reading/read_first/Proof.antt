@@ -26,11 +26,11 @@ record State (l : Index) (query : Query) (k done : ℕ) (keys best : List ℕ) :
   gathers : Gathers k (distance_in l query) (take done (reading_order (low_in l query) (numbers_in l))) keys best
   inside : in_own_cells l (take done (reading_order (low_in l query) (numbers_in l))) ≡ true
 
-abbrev invariant_loop : tie.invariant_loop
+abbrev invariant_loop : tie.invariant-loop-done
 invariant_loop query marks codes vectors order keys₀ best₀ factors terms k done₀ keys best done =
     State (index_of terms marks codes vectors) (query_of terms query) terms.k done keys best
 
-abbrev decreases_loop : tie.decreases_loop
+abbrev decreases_loop : tie.decreases-loop-done
 decreases_loop query marks codes vectors order keys₀ best₀ factors terms k done₀ keys best done = terms.k - done
 
 module _ {l : Index} {query : Query} {k : ℕ} (is : Ready l query k) {keys best : List ℕ} where
@@ -90,26 +90,26 @@ given s = index_of s.args.task.terms s.args.marks.now s.args.codes.now s.args.ve
 abbrev asked : tie.Start invariant_loop decreases_loop → Query
 asked s = query_of s.args.task.terms s.args.query.now
 
-loop_holds : tie.Need-loop-init invariant_loop decreases_loop
+loop_holds : tie.Need-loop-done-init invariant_loop decreases_loop
 loop_holds c =
-    let pre = c.before.before.before.before.before.before.requires.0 in
+    let pre = c.requires.0 in
     begin pre.0.ready pre.1 pre.2
 
 -- where the next number is looked up
-abbrev entry : tie.After-shared-slice-known3 invariant_loop decreases_loop → tie.Start invariant_loop decreases_loop
+abbrev entry : tie.After-shared_slice_known-in-loop-done-1 invariant_loop decreases_loop → tie.Start invariant_loop decreases_loop
 entry c = c.before.before.before.before.before.before.before.before.before
 
 -- the number that is read next
-its_number : (c : tie.After-shared-slice-known3 invariant_loop decreases_loop) → let s = entry c in let done = c.before.before.loop.done in
+its_number : (c : tie.After-shared_slice_known-in-loop-done-1 invariant_loop decreases_loop) → let s = entry c in let done = c.loop-done.done in
     get_or s.args.order.now done 0 ≡ get_or (reading_order (low_in (given s) (asked s)) (numbers_in (given s))) done 0
 its_number c =
     let s = entry c in
     let k = s.args.task.terms.k in
-    let done = c.before.before.loop.done in
+    let done = c.loop-done.done in
     let order = reading_order (low_in (given s) (asked s)) (numbers_in (given s)) in
-    sym (get_or-take k s.args.order.now done 0 c.before.loop-test.true)
-    ∙ ap (λ (o : List ℕ). get_or o done 0) s.pre.1
-    ∙ get_or-take k order done 0 c.before.loop-test.true
+    sym (get_or-take k s.args.order.now done 0 c.loop-done-test.true)
+    ∙ ap (λ (o : List ℕ). get_or o done 0) s.requires.1
+    ∙ get_or-take k order done 0 c.loop-done-test.true
 
 -- there is one
 order_long : (s : tie.Start invariant_loop decreases_loop) → s.args.task.terms.k ≤ length s.args.order.now
@@ -124,26 +124,26 @@ order_long s =
       s.requires.0.0.ready.enough,
     )
 
-is_below : (c : tie.After-shared-slice-known3 invariant_loop decreases_loop)
-    → get_or (entry c).args.order.now c.before.before.loop.done 0 < (entry c).args.task.terms.n
-is_below c = below (entry c).requires.0.0.ready c.before.before.loop.invariant c.before.loop-test.true _ (its_number c)
+is_below : (c : tie.After-shared_slice_known-in-loop-done-1 invariant_loop decreases_loop)
+    → get_or (entry c).args.order.now c.loop-done.done 0 < (entry c).args.task.terms.n
+is_below c = below (entry c).requires.0.0.ready c.loop-done.invariant c.loop-done-test.true _ (its_number c)
 
-returns : tie.Need-returns invariant_loop decreases_loop
+returns : tie.Need-returns-in_default invariant_loop decreases_loop
 returns c =
-    let read = c.before.before in
-    let next = read.before.before in
-    fails (entry next).requires.0.0.ready next.before.before.loop.invariant next.before.loop-test.true _ (its_number next)
-    (sym read.read_vector.ensures ∙ c.enum_told.given.1)
+    let read = c in
+    let next = read in
+    fails (entry next.before.before.before).requires.0.0.ready next.loop-done.invariant next.loop-done-test.true _ (its_number next.before.before.before)
+    (sym read.read_vector-read.ensures ∙ c.in_default.is)
 
-loop_again : tie.Need-loop-preserved invariant_loop decreases_loop
+loop_again : tie.Need-loop-done-preserved invariant_loop decreases_loop
 loop_again c =
-    let read = c.before.before.before in
-    let next = read.before.before in
-    turn (entry next).requires.0.0.ready next.before.before.loop.invariant next.before.loop-test.true _ (its_number next) _
-    (sym read.read_vector.ensures ∙ c.before.read.given.1)
+    let read = c in
+    let next = read in
+    turn (entry next.before.before.before).requires.0.0.ready next.loop-done.invariant next.loop-done-test.true _ (its_number next.before.before.before) _
+    (sym read.read_vector-read.ensures ∙ c.in-Distance.is)
 
-returns_2 : tie.Need-returns-2 invariant_loop decreases_loop
-returns_2 c = finish c.before.before.before.before.before.before.before.before.requires.0.0.ready c.before.loop.invariant (omega arith)
+returns_2 : tie.Need-returns invariant_loop decreases_loop
+returns_2 c = finish c.requires.0.0.ready c.loop-done.invariant (omega arith)
 
 pub read_first_spec : {M : Type 1} → statement M
 read_first_spec =
@@ -153,8 +153,8 @@ read_first_spec =
     decreases_loop
     loop_holds
     (λ c. search rules)
-    (λ c. omega (arith, order_long (entry c)))
-    (λ c κs. ((entry c.before).pre.0.0, is_below c.before))
+    (λ c. omega (arith, order_long c.before.before.before.before.before.before.before.before.before))
+    (λ c κs. ((entry c.before).requires.0.0, is_below c.before))
     (λ c. search rules)
     (λ c. search rules)
     (λ c. search rules)

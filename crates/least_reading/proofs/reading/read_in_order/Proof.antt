@@ -3,13 +3,13 @@ use borrow.Author.Rules.{rules}
 use Rattle.least_reading.proofs.reading.read_in_order.Statement.{statement}
 use Rattle.least_reading.proofs.reading.read_in_order.Tie as tie
 
-read_selected_requires : tie.Need-read-selected-requires
+read_selected_requires : tie.Need-read_selected-requires
 read_selected_requires c κs =
-    let few = c.before.before.before.before in
-    (few.if1.true, few.before.before.before.before.before.before.before.requires)
+    let few = c in
+    (few.if-task-le-SELECTED.true, few.requires)
 
-read_ranked_requires : tie.Need-read-ranked-requires
-read_ranked_requires c κs = c.before.before.before.before.before.before.before.before.before.before.before.requires
+read_ranked_requires : tie.Need-read_ranked-requires
+read_ranked_requires c κs = c.requires
 
 pub read_in_order_spec : {M : Type 1} → statement M
 read_in_order_spec =

@@ -80,164 +80,164 @@ given s = index_of s.args.task.terms s.args.marks.now s.args.codes.now s.args.ve
 abbrev asked : tie.Start → Query
 asked s = query_of s.args.task.terms s.args.query.now
 
-words_hold : tie.Need-slice-relend-prefix-read-first
+words_hold : tie.Need-slice_bounds-read_first-end
 words_hold c =
-    let done = c.before.before.before.before.before.before.before in
-    let lent = done.before.before.before.before.before.before.before.before.before.before.before.before.before.requires in
-    omega (arith, done.sort.auto.1.1.0, lent.words_room, lent.prepared.ready.enough)
+    let done = c in
+    let lent = done.requires in
+    omega (arith, done.sort.auto.words, lent.words_room, lent.prepared.ready.enough)
 
 -- the order and the lows after the sort
-order_is : (c : tie.After-sort) → let s = c.before.before.before.before.before.before.before.before.before.before.before.before.before in let l = given s in
-    c.sort.new.1.0 ≡ numbers_of (ranked (low_in l (asked s)) (numbers_in l))
-order_is c = of_ranked c.before.before.before.before.before.before.before.before.before.before.before.before.before.requires
-    numbers_of _ _ c.before.before.before.before.before.before.count-up.ensures c.sort.ensures.1.1.0
+order_is : (c : tie.After-sort) → let s = c in let l = given s.before.before.before.before.before.before.before.before.before.before.before.before.before in
+    c.sort.new.numbers ≡ numbers_of (ranked (low_in l (asked s.before.before.before.before.before.before.before.before.before.before.before.before.before)) (numbers_in l))
+order_is c = of_ranked c.requires
+    numbers_of _ _ c.count_up.ensures c.sort.ensures.1.1.0
 
-lows_are : (c : tie.After-sort) → let s = c.before.before.before.before.before.before.before.before.before.before.before.before.before in let l = given s in
-    c.sort.new.0 ≡ keys_of (ranked (low_in l (asked s)) (numbers_in l))
-lows_are c = of_ranked c.before.before.before.before.before.before.before.before.before.before.before.before.before.requires
-    keys_of _ _ c.before.before.before.before.before.before.count-up.ensures c.sort.ensures.1.0
+lows_are : (c : tie.After-sort) → let s = c in let l = given s.before.before.before.before.before.before.before.before.before.before.before.before.before in
+    c.sort.new.keys ≡ keys_of (ranked (low_in l (asked s.before.before.before.before.before.before.before.before.before.before.before.before.before)) (numbers_in l))
+lows_are c = of_ranked c.requires
+    keys_of _ _ c.count_up.ensures c.sort.ensures.1.0
 
-read_first_requires : tie.Need-read-first-requires
+read_first_requires : tie.Need-read_first-requires
 read_first_requires c κs =
-    let done = c.before.before.before.before.before.before.before.before.before in
-    let s = done.before.before.before.before.before.before.before.before.before.before.before.before.before in (
+    let done = c in
+    let s = done in (
       (s.requires.prepared, length-take-le _ _ (words_hold c.before.before), s.requires.best_room),
-      ap (take s.args.task.terms.k) (order_is done),
+      ap (take s.args.task.terms.k) (order_is done.before.before.before.before.before.before.before.before),
     )
 
 -- the distances and numbers of the first, as long as they were lent
-keys_long : (c : tie.After-read-first) → length c.read_first.new.1.1.1.1.1.1.0
-    ≡ c.before.before.before.before.before.before.before.before.before.before.before.before.before.before.before.before.before.before.before.before.before.before.before.args.task.terms.k
-keys_long c = c.read_first.auto.1.1.1.1.1.1.0 ∙ length-take-le _ _ (words_hold c.before.before.before)
+keys_long : (c : tie.After-read_first) → length c.read_first.new.keys
+    ≡ c.args.task.terms.k
+keys_long c = c.read_first.auto.keys ∙ length-take-le _ _ (words_hold c.before.before.before)
 
-best_long : (c : tie.After-read-first) → length c.read_first.new.1.1.1.1.1.1.1.0
-    ≡ c.before.before.before.before.before.before.before.before.before.before.before.before.before.before.before.before.before.before.before.before.before.before.before.args.task.terms.k
-best_long c = c.read_first.auto.1.1.1.1.1.1.1.0
-    ∙ c.before.before.before.before.before.before.before.before.before.before.before.before.before.before.before.before.before.before.before.before.before.before.before.requires.best_room
+best_long : (c : tie.After-read_first) → length c.read_first.new.best
+    ≡ c.args.task.terms.k
+best_long c = c.read_first.auto.best
+    ∙ c.requires.best_room
 
-words_back : tie.Need-same-length-3
+words_back : tie.Need-shape_of-words-then-not-read_first
 words_back c =
-    let read = c.before.before.before.before.before in
-    let done = read.before.before.before.before.before.before.before.before.before.before in
-    length_front done.sort.new.1.1.0 read.read_first.new.1.1.1.1.1.1.0
-    done.before.before.before.before.before.before.before.before.before.before.before.before.before.args.task.terms.k
-    read.read_first.auto.1.1.1.1.1.1.0
-    ∙ done.sort.auto.1.1.0
+    let read = c in
+    let done = read in
+    length_front done.sort.new.words read.read_first.new.keys
+    done.args.task.terms.k
+    read.read_first.auto.keys
+    ∙ done.sort.auto.words
 
-returns : tie.Need-returns
-returns c = first_outside c.before.before.before.before.before.read_first.ensures (not-true _ c.if1.true) _ _ _
+returns : tie.Need-returns-then-not-read_first
+returns c = first_outside c.read_first.ensures (not-true _ c.if-not-read_first.true-raw) _ _ _
 
-words_hold_2 : tie.Need-slice-relend-prefix-sort
+words_hold_2 : tie.Need-slice_bounds-sort-end
 words_hold_2 c =
-    let read = c.before.before.before.before.before in
-    let done = read.before.before.before.before.before.before.before.before.before.before in
+    let read = c in
+    let done = read in
     omega (
       arith,
-      keys_long read,
-      length-append read.read_first.new.1.1.1.1.1.1.0
-          (drop done.before.before.before.before.before.before.before.before.before.before.before.before.before.args.task.terms.k done.sort.new.1.1.0),
+      keys_long read.before.before.before.before.before,
+      length-append read.read_first.new.keys
+          (drop done.args.task.terms.k done.sort.new.words),
     )
 
-lows_hold : tie.Need-slice-relend-prefix-sort-2
+lows_hold : tie.Need-slice_bounds-sort-end-3
 lows_hold c =
-    let done = c.before.before.before.before.before.before.before.before.before.before.before.before.before.before.before.before.before in
-    let lent = done.before.before.before.before.before.before.before.before.before.before.before.before.before.pre in
-    omega (arith, done.sort.kept.0, lent.prepared.ready.enough, lows_room lent)
+    let done = c in
+    let lent = done.requires in
+    omega (arith, done.sort.auto.keys, lent.prepared.ready.enough, lows_room lent)
 
 -- ---- from the sorted first on
 
 -- where the search began, where all were ranked and where the first were read
-abbrev start : tie.After-sort2 → tie.Start
-start c = c.before.before.before.before.before.before.before.before.before.before.before.before.before.before.before.before.before.before.before.before.before.before.before.before.before.before.before.before.before.before.before.before
+abbrev start : tie.After-sort-2 → tie.Start
+start c = c.before.before.before.before.before.before.before.before.before.before.before.before.before.before.before.before.before.before.before.before.before.before.before.before.before.before.before.before.before.before.before
 
-abbrev ranks : tie.After-sort2 → tie.After-sort
-ranks c = c.before.before.before.before.before.before.before.before.before.before.before.before.before.before.before.before.before.before.before
+abbrev ranks : tie.After-sort-2 → tie.After-sort
+ranks c = c.before.before.before.before.before.before.before.before.before.before.before.before.before.before.before.before.before.before
 
-abbrev first_read : tie.After-sort2 → tie.After-read-first
+abbrev first_read : tie.After-sort-2 → tie.After-read_first
 first_read c = c.before.before.before.before.before.before.before.before.before
 
 -- the words once these were read
-abbrev words₂ : tie.After-sort2 → List ℕ
-words₂ c = (first_read c).read_first.new.1.1.1.1.1.1.0 ++ drop (start c).args.task.terms.k (ranks c).sort.new.1.1.0
+abbrev words₂ : tie.After-sort-2 → List ℕ
+words₂ c = (first_read c).read_first.new.keys ++ drop (start c).args.task.terms.k (ranks c).sort.new.words
 
-module _ (c : tie.After-sort2) where
+module _ (c : tie.After-sort-2) where
   -- what the second sort was lent and left
-  back_long : length c.sort2.new.1.1.0 ≡ (start c).args.task.terms.k
-  back_long = c.sort2.auto.1.1.0 ∙ length-take-le _ _ (lows_hold c.before.before)
+  back_long : length c.sort-2.new.words ≡ (start c).args.task.terms.k
+  back_long = c.sort-2.auto.words ∙ length-take-le _ _ (lows_hold c.before.before)
 
-  keys_long_2 : length c.sort2.new.0 ≡ (start c).args.task.terms.k
-  keys_long_2 = c.sort2.auto.0 ∙ length-take-le _ _ (words_hold_2 c.before.before.before.before)
+  keys_long_2 : length c.sort-2.new.keys ≡ (start c).args.task.terms.k
+  keys_long_2 = c.sort-2.auto.keys ∙ length-take-le _ _ (words_hold_2 c.before.before.before.before)
 
-  words_long : length (c.sort2.new.0 ++ drop (start c).args.task.terms.k (words₂ c)) ≡ length (start c).args.words.now
+  words_long : length (c.sort-2.new.keys ++ drop (start c).args.task.terms.k (words₂ c)) ≡ length (start c).args.words.now
   words_long =
-      length_front (words₂ c) c.sort2.new.0 (start c).args.task.terms.k c.sort2.auto.0
-      ∙ length_front (ranks c).sort.new.1.1.0 (first_read c).read_first.new.1.1.1.1.1.1.0 (start c).args.task.terms.k
-      (first_read c).read_first.auto.1.1.1.1.1.1.0
-      ∙ (ranks c).sort.auto.1.1.0
+      length_front (words₂ c) c.sort-2.new.keys (start c).args.task.terms.k c.sort-2.auto.keys
+      ∙ length_front (ranks c).sort.new.words (first_read c).read_first.new.keys (start c).args.task.terms.k
+      (first_read c).read_first.auto.keys
+      ∙ (ranks c).sort.auto.words
 
-  lows_long : length (c.sort2.new.1.1.0 ++ drop (start c).args.task.terms.k (ranks c).sort.new.0)
+  lows_long : length (c.sort-2.new.words ++ drop (start c).args.task.terms.k (ranks c).sort.new.keys)
       ≡ length (start c).args.lows.now
   lows_long =
-      length_front (ranks c).sort.new.0 c.sort2.new.1.1.0 (start c).args.task.terms.k c.sort2.auto.1.1.0
-      ∙ (ranks c).sort.auto.0
+      length_front (ranks c).sort.new.keys c.sort-2.new.words (start c).args.task.terms.k c.sort-2.auto.words
+      ∙ (ranks c).sort.auto.keys
 
   has_read : let s = start c in
-      HasRead (given s) (asked s) s.args.task.terms.k s.args.task.terms.k c.sort2.new.0 c.sort2.new.1.0
+      HasRead (given s) (asked s) s.args.task.terms.k s.args.task.terms.k c.sort-2.new.keys c.sort-2.new.numbers
   has_read =
       let read = first_read c in
       let s = start c in
       let room = length-take-le _ _ (lows_hold c.before.before) in
-      first_sorted read.read_first.ensures s.pre.prepared.ready (not-false _ c.before.before.before.before.if1.false)
-      (front_sorted keys_of read.read_first.last.1.1.1.1.1.1.0 read.read_first.last.1.1.1.1.1.1.1.0 _ _
-      s.args.task.terms.k _ (keys_long read) (best_long read) room c.sort2.ensures.1.0)
-      (front_sorted numbers_of read.read_first.last.1.1.1.1.1.1.0 read.read_first.last.1.1.1.1.1.1.1.0 _ _
-      s.args.task.terms.k _ (keys_long read) (best_long read) room c.sort2.ensures.1.1.0)
+      first_sorted read.read_first.ensures s.requires.prepared.ready (not-false _ c.if-not-read_first.false-raw)
+      (front_sorted keys_of read.read_first.new.keys read.read_first.new.best _ _
+      s.args.task.terms.k _ (keys_long read) (best_long read) room c.sort-2.ensures.1.0)
+      (front_sorted numbers_of read.read_first.new.keys read.read_first.new.best _ _
+      s.args.task.terms.k _ (keys_long read) (best_long read) room c.sort-2.ensures.1.1.0)
 
-words_hold_3 : tie.Need-slice-relend-prefix-read-rest
+words_hold_3 : tie.Need-slice_bounds-read_rest-end-2
 words_hold_3 c =
-    let s = c.before.before.before.before.before.before.before.before.before.before.before.before.before.before.before.before.before.before.before.before.before.before.before.before.before.before.before.before.before.before.before.before.before.before.before.before.before.before.before.before.before in
+    let s = c in
     omega (
       arith,
-      words_long c.before.before.before.before.before.before.before.before.before,
-      s.pre.words_room,
-      s.pre.prepared.ready.enough,
+      words_long c.before.before.before.before.before.before.before,
+      s.requires.words_room,
+      s.requires.prepared.ready.enough,
     )
 
-read_rest_requires : tie.Need-read-rest-requires
+read_rest_requires : tie.Need-read_rest-requires
 read_rest_requires c κs =
-    let best = c.before.before.before.before.before.before.before.before.before.before.before in
-    let done = best.before.before.before.before.before.before.before.before.before.before.before.before.before.before.before.before.before.before.before in
-    let lent = done.before.before.before.before.before.before.before.before.before.before.before.before.before.pre in (
+    let best = c in
+    let done = best in
+    let lent = done.requires in (
       lent.prepared,
       (
-        aligned lent best.sort2.new.1.1.0 (lows_are done) (order_is done) (back_long best),
+        aligned lent best.sort-2.new.words (lows_are done.before.before.before.before.before.before.before.before.before.before.before.before.before.before.before.before.before.before.before.before.before.before.before.before.before.before.before) (order_is done.before.before.before.before.before.before.before.before.before.before.before.before.before.before.before.before.before.before.before.before.before.before.before.before.before.before.before) (back_long best.before.before.before.before.before.before.before.before.before),
         (
-          ends lent best.sort2.new.1.1.0 (lows_are done) (order_is done) (back_long best),
-          rw (take_at best.sort2.new.0 _ _ (keys_long_2 best)) (has_read best),
+          ends lent best.sort-2.new.words (lows_are done.before.before.before.before.before.before.before.before.before.before.before.before.before.before.before.before.before.before.before.before.before.before.before.before.before.before.before) (order_is done.before.before.before.before.before.before.before.before.before.before.before.before.before.before.before.before.before.before.before.before.before.before.before.before.before.before.before) (back_long best.before.before.before.before.before.before.before.before.before),
+          rw (take_at best.sort-2.new.keys _ _ (keys_long_2 best.before.before.before.before.before.before.before.before.before)) (has_read best.before.before.before.before.before.before.before.before.before),
         ),
       ),
     )
 
-words_back_2 : tie.Need-same-length-7
+words_back_2 : tie.Need-shape_of-words
 words_back_2 c =
-    let rest = c.before.before.before.before in
-    let best = rest.before.before.before.before.before.before.before.before.before.before.before.before in
-    length_front (best.sort2.new.0 ++ drop (start best).args.task.terms.k (words₂ best)) rest.read-rest.new.1.1.1.1.1.1.1.0
-    (start best).args.task.terms.k rest.read-rest.auto.1.1.1.1.1.1.1.0
-    ∙ words_long best
+    let rest = c in
+    let best = rest in
+    length_front (best.sort-2.new.keys ++ drop (start best.before.before.before.before.before.before.before.before.before.before.before.before.before.before).args.task.terms.k (words₂ best.before.before.before.before.before.before.before.before.before.before.before.before.before.before)) rest.read_rest.new.keys
+    (start best.before.before.before.before.before.before.before.before.before.before.before.before.before.before).args.task.terms.k rest.read_rest.auto.keys
+    ∙ words_long best.before.before.before.before.before.before.before.before.before.before.before.before.before.before
 
-best_back : tie.Need-same-length-8
+best_back : tie.Need-shape_of-best
 best_back c =
-    let rest = c.before.before.before.before in
-    let best = rest.before.before.before.before.before.before.before.before.before.before.before.before in
-    rest.read-rest.auto.1.1.1.1.1.1.1.1.0 ∙ best.sort2.auto.1.0
-    ∙ (first_read best).read_first.auto.1.1.1.1.1.1.1.0
+    let rest = c in
+    let best = rest in
+    rest.read_rest.auto.best ∙ best.sort-2.auto.numbers
+    ∙ (first_read best.before.before.before.before.before.before.before.before.before.before.before.before.before.before).read_first.auto.best
 
-returns_2 : tie.Need-returns-2
+returns_2 : tie.Need-returns
 returns_2 c =
-    let rest = c.before.before.before.before in
-    reads_front _ rest.read-rest.ensures
-    (rest.read-rest.auto.1.1.1.1.1.1.1.0 ∙ length-take-le _ _ (words_hold_3 rest.before.before.before))
+    let rest = c in
+    reads_front _ rest.read_rest.ensures
+    (rest.read_rest.auto.keys ∙ length-take-le _ _ (words_hold_3 rest.before.before.before.before.before.before.before))
 
 pub read_ranked_spec : {M : Type 1} → statement M
 read_ranked_spec =
@@ -245,8 +245,8 @@ read_ranked_spec =
     (tie.spec
     (λ c κs. omega (
       arith,
-      c.before.before.before.before.before.before.requires.order_room,
-      c.before.before.before.before.before.before.requires.prepared.ready.count,
+      c.requires.order_room,
+      c.requires.prepared.ready.count,
     ))
     (λ c κs. tt)
     words_hold
@@ -264,35 +264,35 @@ read_ranked_spec =
     (λ c κs. tt)
     (λ c. omega (
       arith,
-      c.before.before.before.before.before.before.before.before.before.before.before.before.before.before.before.before.before.before.before.before.before.before.before.before.before.before.before.before.before.before.before.before.before.before.before.before.before.before.requires.prepared.ready.enough,
-      c.before.before.before.before.before.before.before.before.before.before.before.before.before.before.before.before.before.before.before.before.before.before.before.before.before.before.before.before.before.before.before.before.before.before.before.before.before.before.requires.prepared.ready.count,
+      c.requires.prepared.ready.enough,
+      c.requires.prepared.ready.count,
     ))
     (λ c. omega (
       arith,
       lows_long c.before.before.before.before.before.before,
       lows_room
-          c.before.before.before.before.before.before.before.before.before.before.before.before.before.before.before.before.before.before.before.before.before.before.before.before.before.before.before.before.before.before.before.before.before.before.before.before.before.before.requires,
-      c.before.before.before.before.before.before.before.before.before.before.before.before.before.before.before.before.before.before.before.before.before.before.before.before.before.before.before.before.before.before.before.before.before.before.before.before.before.before.requires.prepared.ready.enough,
+          c.requires,
+      c.requires.prepared.ready.enough,
     ))
     (λ c. omega (
       arith,
-      lows_long c.before.before.before.before.before.before.before,
+      lows_long c.before.before.before.before.before.before,
       lows_room
-          c.before.before.before.before.before.before.before.before.before.before.before.before.before.before.before.before.before.before.before.before.before.before.before.before.before.before.before.before.before.before.before.before.before.before.before.before.before.before.before.requires,
-      c.before.before.before.before.before.before.before.before.before.before.before.before.before.before.before.before.before.before.before.before.before.before.before.before.before.before.before.before.before.before.before.before.before.before.before.before.before.before.before.requires.prepared.ready.enough,
+          c.requires,
+      c.requires.prepared.ready.enough,
     ))
     (λ c. omega (
       arith,
-      lows_long c.before.before.before.before.before.before.before,
+      lows_long c.before.before.before.before.before.before,
       lows_room
-          c.before.before.before.before.before.before.before.before.before.before.before.before.before.before.before.before.before.before.before.before.before.before.before.before.before.before.before.before.before.before.before.before.before.before.before.before.before.before.before.requires,
-      c.before.before.before.before.before.before.before.before.before.before.before.before.before.before.before.before.before.before.before.before.before.before.before.before.before.before.before.before.before.before.before.before.before.before.before.before.before.before.before.requires.prepared.ready.enough,
+          c.requires,
+      c.requires.prepared.ready.enough,
     ))
     words_hold_3
     (λ c. sym (length-take-le _ _ (words_hold_3 c.before)))
     read_rest_requires
-    (λ c. lows_long c.before.before.before.before.before.before.before.before.before.before.before.before.before.before.before.before)
-    (λ c. c.before.before.before.before.before.before.before.before.before.before.before.before.before.before.before.before.before.before.before.before.before.before.before.before.before.before.before.before.before.before.before.before.before.before.before.sort.auto.1.0 ∙ c.before.before.before.before.before.before.before.before.before.before.before.before.before.before.before.before.before.before.before.before.before.before.before.before.before.before.before.before.before.before.before.before.before.before.before.before.before.before.before.before.before.count-up.auto.0)
+    (λ c. lows_long c.before.before.before.before.before.before.before.before.before.before.before.before.before.before)
+    (λ c. c.sort.auto.numbers ∙ c.count_up.auto.numbers)
     words_back_2
     best_back
     returns_2)

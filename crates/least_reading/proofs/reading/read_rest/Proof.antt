@@ -29,12 +29,12 @@ use Rattle.least_reading.specs.Vector.{vector_read, tells_distance, tells_outsid
 use Rattle.least_reading.proofs.reading.read_rest.Statement.{statement}
 use Rattle.least_reading.proofs.reading.read_rest.Tie as tie
 
-abbrev invariant_loop : tie.invariant_loop
+abbrev invariant_loop : tie.invariant-loop-done
 invariant_loop query marks codes vectors lows order keys₀ best₀ factors terms k end done₀ keys best done =
     (terms.k ≤ done) × (done ≤ terms.k + length lows)
     × HasRead (index_of terms marks codes vectors) (query_of terms query) terms.k done keys best
 
-abbrev decreases_loop : tie.decreases_loop
+abbrev decreases_loop : tie.decreases-loop-done
 decreases_loop query marks codes vectors lows order keys₀ best₀ factors terms k end done₀ keys best done = terms.k + length lows - done
 
 module _ {l : Index} {query : Query} {k : ℕ} (is : Ready l query k) {lows order : List ℕ}
@@ -113,15 +113,15 @@ abbrev asked : tie.Start invariant_loop decreases_loop → Query
 asked s = query_of s.args.task.terms s.args.query.now
 
 -- where the next number is looked up
-abbrev entry : tie.After-shared-slice-known4 invariant_loop decreases_loop → tie.Start invariant_loop decreases_loop
+abbrev entry : tie.After-shared_slice_known-in-loop-done-1 invariant_loop decreases_loop → tie.Start invariant_loop decreases_loop
 entry c = c.before.before.before.before.before.before.before.before.before.before
 
-is_below : (c : tie.After-shared-slice-known4 invariant_loop decreases_loop)
-    → get_or (entry c).args.order.now c.before.before.loop.done 0 < (entry c).args.task.terms.n
+is_below : (c : tie.After-shared_slice_known-in-loop-done-1 invariant_loop decreases_loop)
+    → get_or (entry c).args.order.now c.loop-done.done 0 < (entry c).args.task.terms.n
 is_below c =
     let pre = (entry c).requires in
-    let inv = c.before.before.loop.invariant in
-    below pre.0.ready pre.1.0 pre.1.1.0 inv.2 inv.1 c.before.loop-test.true _ refl
+    let inv = c.loop-done.invariant in
+    below pre.0.ready pre.1.0 pre.1.1.0 inv.2 inv.1 c.loop-done-test.true _ refl
 
 -- it stands in the order, as far as its low is known
 stands : (s : tie.Start invariant_loop decreases_loop) → (s.args.task.terms.k + length s.args.lows.now ≤ length s.args.order.now)
@@ -134,73 +134,73 @@ stands s =
     )
 
 -- and whether it is read
-test : (c : tie.After-goes-on invariant_loop decreases_loop) → let next = c.before.before.before.before in let s = entry next in
-    let done = next.before.before.loop.done in
+test : (c : tie.After-goes_on invariant_loop decreases_loop) → let next = c in let s = entry next.before.before in
+    let done = next.loop-done.done in
     goes_on s.args.task.terms.k (after_reads (given s) (asked s) s.args.task.terms.k done).best
     (pair_of (low_in (given s) (asked s))
     (get_or (reading_order (low_in (given s) (asked s)) (numbers_in (given s))) done 0))
     ≡ c.goes_on.result
 test c =
-    let next = c.before.before.before.before in
-    let pre = (entry next).requires in
-    let inv = next.before.before.loop.invariant in
-    tested pre.0.ready pre.1.0 pre.1.1.0 inv.2 inv.1 next.before.loop-test.true _ refl inv.0 _ refl
+    let next = c in
+    let pre = (entry next.before.before).requires in
+    let inv = next.loop-done.invariant in
+    tested pre.0.ready pre.1.0 pre.1.1.0 inv.2 inv.1 next.loop-done-test.true _ refl inv.0 _ refl
     c.goes_on.ensures
 
 -- the two slices keep their lengths
-record SameRoom (c : tie.After-shared-slice-known4 invariant_loop decreases_loop) : Type 0 where
-  keys : length c.before.before.loop.keys ≡ length (entry c).args.keys.now
-  best : length c.before.before.loop.best ≡ length (entry c).args.best.now
+record SameRoom (c : tie.After-shared_slice_known-in-loop-done-1 invariant_loop decreases_loop) : Type 0 where
+  keys : length c.loop-done.keys ≡ length (entry c).args.keys.now
+  best : length c.loop-done.best ≡ length (entry c).args.best.now
 
-same_room : (c : tie.After-shared-slice-known4 invariant_loop decreases_loop) → SameRoom c
+same_room : (c : tie.After-shared_slice_known-in-loop-done-1 invariant_loop decreases_loop) → SameRoom c
 same_room c =
-    let now = c.before.before.loop.invariant.2.holds in
+    let now = c.loop-done.invariant.2.holds in
     let first = (entry c).requires.1.1.1.holds in
     record { keys = now.keys_room ∙ sym first.keys_room; best = now.numbers_room ∙ sym first.numbers_room }
 
-returns : tie.Need-returns invariant_loop decreases_loop
+returns : tie.Need-returns-then-not-goes_on invariant_loop decreases_loop
 returns c =
-    let next = c.before.before.before.before.before in
-    let pre = (entry next).requires in
-    let inv = next.before.before.loop.invariant in
-    stop pre.0.ready pre.1.0 pre.1.1.0 inv.2 inv.1 next.before.loop-test.true _ refl
-    (test c.before ∙ not-true _ c.if1.true)
+    let next = c in
+    let pre = (entry next.before.before.before).requires in
+    let inv = next.loop-done.invariant in
+    stop pre.0.ready pre.1.0 pre.1.1.0 inv.2 inv.1 next.loop-done-test.true _ refl
+    (test c.before ∙ not-true _ c.if-not-goes_on.true-raw)
 
-returns_2 : tie.Need-returns-2 invariant_loop decreases_loop
+returns_2 : tie.Need-returns-in_default invariant_loop decreases_loop
 returns_2 c =
-    let read = c.before.before in
-    let goes = read.before.before in
-    let next = goes.before.before.before.before.before in
-    let pre = (entry next).requires in
-    let inv = next.before.before.loop.invariant in
-    outside pre.0.ready pre.1.0 pre.1.1.0 inv.2 inv.1 next.before.loop-test.true _ refl
-    (test goes.before ∙ not-false _ goes.if1.false) (sym read.read_vector.ensures ∙ c.enum_told.given.1)
+    let read = c in
+    let goes = read in
+    let next = goes in
+    let pre = (entry next.before.before.before.before.before.before).requires in
+    let inv = next.loop-done.invariant in
+    outside pre.0.ready pre.1.0 pre.1.1.0 inv.2 inv.1 next.loop-done-test.true _ refl
+    (test goes.before.before.before.before ∙ not-false _ goes.if-not-goes_on.false-raw) (sym read.read_vector-read.ensures ∙ c.in_default.is)
 
 -- the turn's start, at its end
-abbrev next_of : tie.After-slice-known4 invariant_loop decreases_loop → tie.After-shared-slice-known4 invariant_loop decreases_loop
-next_of c = c.before.before.before.before.before.before.before.before.before.before.before.before.before.before.before.before.before
+abbrev next_of : tie.After-slice_known-in-loop-done-2-1 invariant_loop decreases_loop → tie.After-shared_slice_known-in-loop-done-1 invariant_loop decreases_loop
+next_of c = c.before.before.before.before.before.before.before.before.before.before.before.before.before
 
-loop_again : tie.Need-loop-preserved invariant_loop decreases_loop
+loop_again : tie.Need-loop-done-preserved invariant_loop decreases_loop
 loop_again c =
-    let kept = c.before.before.before.before in
-    let known = kept.before.before.before in
-    let read = known.before.before.before in
-    let goes = read.before.before in
-    let next = goes.before.before.before.before.before in
-    let pre = (entry next).requires in
-    let inv = next.before.before.loop.invariant in (
+    let kept = c in
+    let known = kept in
+    let read = known in
+    let goes = read in
+    let next = goes in
+    let pre = (entry next.before.before.before.before.before.before.before.before.before.before.before.before.before).requires in
+    let inv = next.loop-done.invariant in (
       omega (arith, inv.0),
-      omega (arith, next.before.loop-test.true),
-      turn pre.0.ready pre.1.0 pre.1.1.0 inv.2 inv.1 next.before.loop-test.true _ refl
-          (test goes.before ∙ not-false _ goes.if1.false) inv.0
-          _ (sym read.read_vector.ensures ∙ known.before.read.given.1) kept.keep.ensures,
+      omega (arith, next.loop-done-test.true),
+      turn pre.0.ready pre.1.0 pre.1.1.0 inv.2 inv.1 next.loop-done-test.true _ refl
+          (test goes.before.before.before.before.before.before.before.before.before.before.before ∙ not-false _ goes.if-not-goes_on.false-raw) inv.0
+          _ (sym read.read_vector-read.ensures ∙ known.in-Distance.is) kept.keep.ensures,
     )
 
-returns_3 : tie.Need-returns-3 invariant_loop decreases_loop
+returns_3 : tie.Need-returns invariant_loop decreases_loop
 returns_3 c =
-    let s = c.before.before.before.before.before.before.before.before.before in
-    let inv = c.before.loop.invariant in
-    let all : c.before.loop.done ≡ s.args.task.terms.k + length s.args.lows.now = omega (arith, inv.1) in
+    let s = c in
+    let inv = c.loop-done.invariant in
+    let all : c.loop-done.done ≡ s.args.task.terms.k + length s.args.lows.now = omega (arith, inv.1) in
     finish s.requires.0.ready s.requires.1.0 s.requires.1.1.0 inv.2 inv.1 (rw all (s.requires.1.1.0.whole (rw all at inv.2.reached)))
 
 pub read_rest_spec : {M : Type 1} → statement M
@@ -210,25 +210,25 @@ read_rest_spec =
     invariant_loop
     decreases_loop
     (λ c. omega (arith, stands c.before.before.before.before.before.before.before))
-    (λ c. (omega arith, omega arith, c.before.before.before.before.before.before.before.requires.1.1.1))
-    (λ c. omega (arith, stands c.before.before.before.before.before.before.before.before.before, c.before.loop.invariant.1))
-    (λ c. omega (arith, stands (entry c)))
-    (λ c. c.before.before.loop.invariant.0)
-    (λ c. omega (arith, stands (entry c), c.before.before.loop.invariant.1))
-    (λ c. omega (arith, c.before.before.before.loop.invariant.0, c.before.before.loop-test.true))
+    (λ c. (omega arith, omega arith, c.requires.1.1.1))
+    (λ c. omega (arith, stands c.before.before.before.before.before.before.before.before.before, c.loop-done.invariant.1))
+    (λ c. omega (arith, stands c.before.before.before.before.before.before.before.before.before.before))
+    (λ c. c.loop-done.invariant.0)
+    (λ c. omega (arith, stands (entry c), c.loop-done.invariant.1))
+    (λ c. omega (arith, c.loop-done.invariant.0, c.loop-done-test.true))
     (λ c κs. search rules)
     (λ c. search rules)
     (λ c. search rules)
     returns
-    (λ c κs. ((entry c.before.before.before.before.before.before).pre.0, is_below c.before.before.before.before.before.before))
+    (λ c κs. ((entry c.before.before.before.before).requires.0, is_below c.before.before.before.before))
     (λ c. search rules)
     (λ c. search rules)
-    (λ c. (same_room c.before.before.before.before.before.before.before.before.before).keys)
-    (λ c. (same_room c.before.before.before.before.before.before.before.before.before).best)
+    (λ c. (same_room c.before.before.before.before.before.before).keys)
+    (λ c. (same_room c.before.before.before.before.before.before).best)
     returns_2
     (λ c κs. search rules)
-    (λ c. omega (arith, stands (entry (next_of c)), (next_of c).before.before.loop.invariant.1))
-    (λ c. omega (arith, (next_of c).before.loop-test.true))
+    (λ c. omega (arith, stands (entry (next_of c)), (next_of c).loop-done.invariant.1))
+    (λ c. omega (arith, (next_of c).loop-done-test.true))
     loop_again
     (λ c. search rules)
     (λ c. search rules)

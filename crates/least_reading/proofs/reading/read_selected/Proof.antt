@@ -130,19 +130,19 @@ given s = index_of s.args.task.terms s.args.marks.now s.args.codes.now s.args.ve
 abbrev asked : tie.Start → Query
 asked s = query_of s.args.task.terms s.args.query.now
 
-order_holds : tie.Need-slice-relend-prefix-select-first
+order_holds : tie.Need-slice_bounds-select_first-end
 order_holds c =
-    let lent = c.before.before.before.before.before.before.requires.1 in
+    let lent = c.requires.1 in
     omega (arith, lent.order_room, lent.prepared.ready.enough)
 
-words_hold : tie.Need-slice-relend-prefix-select-first-2
+words_hold : tie.Need-slice_bounds-select_first-end-3
 words_hold c =
-    let lent = c.before.before.before.before.before.before.before.requires.1 in
+    let lent = c.requires.1 in
     omega (arith, lent.words_room, lent.prepared.ready.enough)
 
-select_first_requires : tie.Need-select-first-requires
+select_first_requires : tie.Need-select_first-last-requires
 select_first_requires c κs =
-    let s = c.before.before.before.before.before.before.before.before in
+    let s = c in
     let lent = s.requires.1 in
     let size = length-take-le s.args.task.terms.k s.args.order.now (order_holds c.before.before) in
     let room = length-take-le s.args.task.terms.k s.args.words.now (words_hold c.before) in
@@ -155,197 +155,197 @@ select_first_requires c κs =
     )
 
 -- after the selection
-first_count : (c : tie.After-select-first) → let s = c.before.before.before.before.before.before.before.before.before in length
+first_count : (c : tie.After-select_first-last) → let s = c in length
     (take s.args.task.terms.k s.args.order.now) ≡ s.args.task.terms.k
 first_count c = length-take-le _ _ (order_holds c.before.before.before)
 
-words_long : (c : tie.After-select-first) → let s = c.before.before.before.before.before.before.before.before.before in
-    length (c.select-first.new.1.1.0 ++ drop s.args.task.terms.k s.args.words.now) ≡ length s.args.words.now
+words_long : (c : tie.After-select_first-last) → let s = c in
+    length (c.select_first-last.new.least ++ drop s.args.task.terms.k s.args.words.now) ≡ length s.args.words.now
 words_long c =
-    let s = c.before.before.before.before.before.before.before.before.before in
-    length_front s.args.words.now c.select-first.new.1.1.0 s.args.task.terms.k c.select-first.auto.1.1.0
+    let s = c in
+    length_front s.args.words.now c.select_first-last.new.least s.args.task.terms.k c.select_first-last.auto.least
 
-order_long : (c : tie.After-select-first) → let s = c.before.before.before.before.before.before.before.before.before in
-    length (c.select-first.new.1.0 ++ drop s.args.task.terms.k s.args.order.now) ≡ length s.args.order.now
+order_long : (c : tie.After-select_first-last) → let s = c in
+    length (c.select_first-last.new.first ++ drop s.args.task.terms.k s.args.order.now) ≡ length s.args.order.now
 order_long c =
-    let s = c.before.before.before.before.before.before.before.before.before in
-    length_front s.args.order.now c.select-first.new.1.0 s.args.task.terms.k c.select-first.auto.1.0
+    let s = c in
+    length_front s.args.order.now c.select_first-last.new.first s.args.task.terms.k c.select_first-last.auto.first
 
-first_k : (c : tie.After-select-first) → let s = c.before.before.before.before.before.before.before.before.before in let l = given
-    s in
-    take s.args.task.terms.k (c.select-first.new.1.0 ++ drop s.args.task.terms.k s.args.order.now)
-    ≡ take s.args.task.terms.k (reading_order (low_in l (asked s)) (numbers_in l))
-first_k c = front c.before.before.before.before.before.before.before.before.before.requires.1 _ (first_count c)
-    c.select-first.ensures.1 _
+first_k : (c : tie.After-select_first-last) → let s = c in let l = given
+    s.before.before.before.before.before.before.before.before in
+    take s.args.task.terms.k (c.select_first-last.new.first ++ drop s.args.task.terms.k s.args.order.now)
+    ≡ take s.args.task.terms.k (reading_order (low_in l (asked s.before.before.before.before.before.before.before.before)) (numbers_in l))
+first_k c = front c.requires.1 _ (first_count c)
+    c.select_first-last.ensures.1 _
 
-words_hold_2 : tie.Need-slice-relend-prefix-read-first
+words_hold_2 : tie.Need-slice_bounds-read_first-end
 words_hold_2 c =
-    let lent = c.before.before.before.before.before.before.before.before.before.before.before.before.before.before.requires.1 in
-    omega (arith, words_long c.before.before.before.before.before, lent.words_room, lent.prepared.ready.enough)
+    let lent = c.requires.1 in
+    omega (arith, words_long c.before.before.before.before, lent.words_room, lent.prepared.ready.enough)
 
-read_first_requires : tie.Need-read-first-requires
+read_first_requires : tie.Need-read_first-requires
 read_first_requires c κs =
-    let s = c.before.before.before.before.before.before.before.before.before.before.before.before.before.before.before.before in (
-      (s.pre.1.prepared, length-take-le _ _ (words_hold_2 c.before.before), s.pre.1.best_room),
-      first_k c.before.before.before.before.before.before.before,
+    let s = c in (
+      (s.requires.1.prepared, length-take-le _ _ (words_hold_2 c.before.before), s.requires.1.best_room),
+      first_k c.before.before.before.before.before.before,
     )
 
 -- after the first were read
-module _ (c : tie.After-read-first) where
-  keys_long : length c.read_first.new.1.1.1.1.1.1.0
-      ≡ c.before.before.before.before.before.before.before.before.before.before.before.before.before.before.before.before.before.args.task.terms.k
-  keys_long = c.read_first.auto.1.1.1.1.1.1.0 ∙ length-take-le _ _ (words_hold_2 c.before.before.before)
+module _ (c : tie.After-read_first) where
+  keys_long : length c.read_first.new.keys
+      ≡ c.args.task.terms.k
+  keys_long = c.read_first.auto.keys ∙ length-take-le _ _ (words_hold_2 c.before.before.before)
 
-  best_long : length c.read_first.new.1.1.1.1.1.1.1.0
-      ≡ c.before.before.before.before.before.before.before.before.before.before.before.before.before.before.before.before.before.args.task.terms.k
-  best_long = c.read_first.auto.1.1.1.1.1.1.1.0
-      ∙ c.before.before.before.before.before.before.before.before.before.before.before.before.before.before.before.before.before.requires.1.best_room
+  best_long : length c.read_first.new.best
+      ≡ c.args.task.terms.k
+  best_long = c.read_first.auto.best
+      ∙ c.requires.1.best_room
 
-  words_long_2 : let s = c.before.before.before.before.before.before.before.before.before.before.before.before.before.before.before.before.before in let k = s.args.task.terms.k in let chosen = c.before.before.before.before.before.before.before.before
+  words_long_2 : let s = c in let k = s.args.task.terms.k in let chosen = c
       in
-      length (c.read_first.new.1.1.1.1.1.1.0 ++ drop k (chosen.select-first.last.1.1.0 ++ drop k s.args.words.now))
+      length (c.read_first.new.keys ++ drop k (chosen.select_first-last.new.least ++ drop k s.args.words.now))
       ≡ length s.args.words.now
   words_long_2 =
-      let s = c.before.before.before.before.before.before.before.before.before.before.before.before.before.before.before.before.before in
+      let s = c in
       let k = s.args.task.terms.k in
-      let chosen = c.before.before.before.before.before.before.before.before in
-      length_front (chosen.select-first.new.1.1.0 ++ drop k s.args.words.now) c.read_first.new.1.1.1.1.1.1.0 k
-      c.read_first.auto.1.1.1.1.1.1.0
-      ∙ words_long chosen
+      let chosen = c in
+      length_front (chosen.select_first-last.new.least ++ drop k s.args.words.now) c.read_first.new.keys k
+      c.read_first.auto.keys
+      ∙ words_long chosen.before.before.before.before.before.before.before
 
-returns : tie.Need-returns
-returns c = first_outside c.before.before.before.before.before.read_first.ensures (not-true _ c.if1.true) _ _ _
+returns : tie.Need-returns-then-not-read_first
+returns c = first_outside c.read_first.ensures (not-true _ c.if-not-read_first.true-raw) _ _ _
 
-words_hold_3 : tie.Need-slice-relend-prefix-sort-few
+words_hold_3 : tie.Need-slice_bounds-sort_few-end
 words_hold_3 c =
-    let lent = c.before.before.before.before.before.before.before.before.before.before.before.before.before.before.before.before.before.before.before.before.before.before.requires.1 in
+    let lent = c.requires.1 in
     omega (arith, words_long_2 c.before.before.before.before.before, lent.words_room, lent.prepared.ready.enough)
 
-front_size : tie.Need-slice-aggregate-sort-few
+front_size : tie.Need-slice_bounds-sort_few-end-2
 front_size c = sym (length-take-le _ _ (words_hold_3 c.before))
 
-sort_few_requires : tie.Need-sort-few-requires
+sort_few_requires : tie.Need-sort_few-requires
 sort_few_requires c κs =
-    let s = c.before.before.before.before.before.before.before.before.before.before.before.before.before.before.before.before.before.before.before.before.before.before.before.before in
+    let s = c in
     let size = front_size c.before in (
-      rw (sym size) s.pre.1.prepared.ready.some,
-      rw (sym size) s.pre.0,
+      rw (sym size) s.requires.1.prepared.ready.some,
+      rw (sym size) s.requires.0,
       best_long c.before.before.before.before.before.before.before ∙ size,
     )
 
 -- after these were sorted
-abbrev start : tie.After-sort-few → tie.Start
-start c = c.before.before.before.before.before.before.before.before.before.before.before.before.before.before.before.before.before.before.before.before.before.before.before.before.before
+abbrev start : tie.After-sort_few → tie.Start
+start c = c.before.before.before.before.before.before.before.before.before.before.before.before.before.before.before.before.before.before.before.before.before.before.before
 
-abbrev selects : tie.After-sort-few → tie.After-select-first
-selects c = c.before.before.before.before.before.before.before.before.before.before.before.before.before.before.before.before
+abbrev selects : tie.After-sort_few → tie.After-select_first-last
+selects c = c.before.before.before.before.before.before.before.before.before.before.before.before.before.before.before
 
-abbrev first_read : tie.After-sort-few → tie.After-read-first
+abbrev first_read : tie.After-sort_few → tie.After-read_first
 first_read c = c.before.before.before.before.before.before.before.before
 
 -- the words once the first were selected, and once they were read
-abbrev words₁ : tie.After-sort-few → List ℕ
-words₁ c = (selects c).select-first.new.1.1.0 ++ drop (start c).args.task.terms.k (start c).args.words.now
+abbrev words₁ : tie.After-sort_few → List ℕ
+words₁ c = (selects c).select_first-last.new.least ++ drop (start c).args.task.terms.k (start c).args.words.now
 
-abbrev words₂ : tie.After-sort-few → List ℕ
-words₂ c = (first_read c).read_first.new.1.1.1.1.1.1.0 ++ drop (start c).args.task.terms.k (words₁ c)
+abbrev words₂ : tie.After-sort_few → List ℕ
+words₂ c = (first_read c).read_first.new.keys ++ drop (start c).args.task.terms.k (words₁ c)
 
-module _ (c : tie.After-sort-few) where
-  keys_long_2 : length c.sort-few.new.0 ≡ (start c).args.task.terms.k
-  keys_long_2 = c.sort-few.auto.0 ∙ length-take-le _ _ (words_hold_3 c.before.before.before)
+module _ (c : tie.After-sort_few) where
+  keys_long_2 : length c.sort_few.new.keys ≡ (start c).args.task.terms.k
+  keys_long_2 = c.sort_few.auto.keys ∙ length-take-le _ _ (words_hold_3 c.before.before.before)
 
-  best_long_2 : length c.sort-few.new.1.0 ≡ (start c).args.task.terms.k
-  best_long_2 = c.sort-few.auto.1.0 ∙ best_long (first_read c)
+  best_long_2 : length c.sort_few.new.numbers ≡ (start c).args.task.terms.k
+  best_long_2 = c.sort_few.auto.numbers ∙ best_long (first_read c)
 
-  words_long_3 : length (c.sort-few.new.0 ++ drop (start c).args.task.terms.k (words₂ c)) ≡ length (start c).args.words.now
+  words_long_3 : length (c.sort_few.new.keys ++ drop (start c).args.task.terms.k (words₂ c)) ≡ length (start c).args.words.now
   words_long_3 =
-      length_front (words₂ c) c.sort-few.new.0 (start c).args.task.terms.k c.sort-few.auto.0
+      length_front (words₂ c) c.sort_few.new.keys (start c).args.task.terms.k c.sort_few.auto.keys
       ∙ words_long_2 (first_read c)
 
   has_read : let s = start c in
-      HasRead (given s) (asked s) s.args.task.terms.k s.args.task.terms.k c.sort-few.new.0 c.sort-few.new.1.0
+      HasRead (given s) (asked s) s.args.task.terms.k s.args.task.terms.k c.sort_few.new.keys c.sort_few.new.numbers
   has_read =
       let read = first_read c in
       let s = start c in
-      let front = take_at read.read_first.last.1.1.1.1.1.1.0 (drop s.args.task.terms.k (words₁ c)) s.args.task.terms.k
+      let front = take_at read.read_first.new.keys (drop s.args.task.terms.k (words₁ c)) s.args.task.terms.k
       (keys_long read) in
-      first_sorted read.read_first.ensures s.pre.1.prepared.ready (not-false _ c.before.before.before.if1.false)
-      (c.sort-few.ensures.0 ∙ ap (λ (keys : List ℕ). keys_of (sort (pairs_of keys read.read_first.last.1.1.1.1.1.1.1.0)))
+      first_sorted read.read_first.ensures s.requires.1.prepared.ready (not-false _ c.if-not-read_first.false-raw)
+      (c.sort_few.ensures.0 ∙ ap (λ (keys : List ℕ). keys_of (sort (pairs_of keys read.read_first.new.best)))
       front)
-      (c.sort-few.ensures.1 ∙ ap (λ (keys : List ℕ). numbers_of (sort (pairs_of keys read.read_first.last.1.1.1.1.1.1.1.0)))
+      (c.sort_few.ensures.1 ∙ ap (λ (keys : List ℕ). numbers_of (sort (pairs_of keys read.read_first.new.best)))
       front)
 
-rank_candidates_requires : tie.Need-rank-candidates-requires
+rank_candidates_requires : tie.Need-rank_candidates-count-requires
 rank_candidates_requires c κs =
-    let sorted = c.before.before.before.before.before.before.before.before in
-    let chosen = sorted.before.before.before.before.before.before.before.before.before.before.before.before.before.before.before.before in
-    let lent = chosen.before.before.before.before.before.before.before.before.before.pre.1 in
-    let size = best_long_2 sorted in
+    let sorted = c in
+    let chosen = sorted in
+    let lent = chosen.requires.1 in
+    let size = best_long_2 sorted.before.before.before.before.before.before.before in
     let long = lows_room lent in (
       (
         omega (arith, size, lent.prepared.ready.some),
         omega (arith, size, long, lent.prepared.ready.enough),
         omega (arith, long, lent.prepared.ready.count),
-        order_long chosen ∙ lent.order_room ∙ sym long,
-        words_long_3 sorted ∙ lent.words_room ∙ sym long,
+        order_long chosen.before.before.before.before.before.before.before.before.before.before.before.before.before.before.before.before.before.before.before.before.before.before ∙ lent.order_room ∙ sym long,
+        words_long_3 sorted.before.before.before.before.before.before.before ∙ lent.words_room ∙ sym long,
       ),
-      last_pair lent _ (first_count chosen) chosen.select-first.ensures.1 _ chosen.select-first.ensures.0 _ size,
+      last_pair lent _ (first_count chosen.before.before.before.before.before.before.before.before.before.before.before.before.before.before.before.before.before.before.before.before.before.before) chosen.select_first-last.ensures.1 _ chosen.select_first-last.ensures.0 _ size,
     )
 
-lows_hold : tie.Need-slice-reshare-prefix-read-rest
+lows_hold : tie.Need-slice_bounds-read_rest-end
 lows_hold c =
-    let ranked = c.before.before.before.before.before.before in
-    let sorted = ranked.before.before.before.before.before.before.before.before.before in
-    fits sorted.before.before.before.before.before.before.before.before.before.before.before.before.before.before.before.before.before.before.before.before.before.before.before.before.before.requires.1 (has_read sorted) _ _ (best_long_2 sorted)
-    _ _ _ _ _ ranked.rank-candidates.ensures
+    let ranked = c in
+    let sorted = ranked in
+    fits sorted.requires.1 (has_read sorted.before.before.before.before.before.before.before.before.before.before.before.before.before.before) _ _ (best_long_2 sorted.before.before.before.before.before.before.before.before.before.before.before.before.before.before)
+    _ _ _ _ _ ranked.rank_candidates-count.ensures
 
-words_long_4 : (c : tie.After-rank-candidates) → length c.rank-candidates.new.1.1.1.0
-    ≡ length c.before.before.before.before.before.before.before.before.before.before.before.before.before.before.before.before.before.before.before.before.before.before.before.before.before.before.before.before.before.before.before.before.before.before.args.words.now
-words_long_4 c = c.rank-candidates.auto.1.1.1.0
-    ∙ words_long_3 c.before.before.before.before.before.before.before.before.before
+words_long_4 : (c : tie.After-rank_candidates-count) → length c.rank_candidates-count.new.words
+    ≡ length c.args.words.now
+words_long_4 c = c.rank_candidates-count.auto.words
+    ∙ words_long_3 c.before.before.before.before.before.before.before.before
 
-words_hold_4 : tie.Need-slice-relend-prefix-read-rest
+words_hold_4 : tie.Need-slice_bounds-read_rest-end-3
 words_hold_4 c =
-    let lent = c.before.before.before.before.before.before.before.before.before.before.before.before.before.before.before.before.before.before.before.before.before.before.before.before.before.before.before.before.before.before.before.before.before.before.before.before.before.before.before.before.before.before.requires.1 in
-    omega (arith, words_long_4 c.before.before.before.before.before.before.before.before, lent.words_room, lent.prepared.ready.enough)
+    let lent = c.requires.1 in
+    omega (arith, words_long_4 c.before.before.before.before.before.before, lent.words_room, lent.prepared.ready.enough)
 
-read_rest_requires : tie.Need-read-rest-requires
+read_rest_requires : tie.Need-read_rest-requires
 read_rest_requires c κs =
-    let ranked = c.before.before.before.before.before.before.before.before.before.before in
-    let sorted = ranked.before.before.before.before.before.before.before.before.before in
-    let chosen = sorted.before.before.before.before.before.before.before.before.before.before.before.before.before.before.before.before in
-    let lent = chosen.before.before.before.before.before.before.before.before.before.pre.1 in
-    let told = ranked.rank-candidates.ensures in (
+    let ranked = c in
+    let sorted = ranked in
+    let chosen = sorted in
+    let lent = chosen.requires.1 in
+    let told = ranked.rank_candidates-count.ensures in (
       lent.prepared,
       (
-        aligned lent (has_read sorted) _ _ (best_long_2 sorted) _ _ _ _ _ told (first_k chosen),
+        aligned lent (has_read sorted.before.before.before.before.before.before.before.before.before.before.before.before.before.before.before.before) _ _ (best_long_2 sorted.before.before.before.before.before.before.before.before.before.before.before.before.before.before.before.before) _ _ _ _ _ told (first_k chosen.before.before.before.before.before.before.before.before.before.before.before.before.before.before.before.before.before.before.before.before.before.before.before.before.before.before.before.before.before.before.before),
         (
-          ends lent (has_read sorted) _ _ (best_long_2 sorted) _ _ _ _ _ told,
-          still lent (has_read sorted) _ _ (best_long_2 sorted) _ _ _ _ _ told,
+          ends lent (has_read sorted.before.before.before.before.before.before.before.before.before.before.before.before.before.before.before.before) _ _ (best_long_2 sorted.before.before.before.before.before.before.before.before.before.before.before.before.before.before.before.before) _ _ _ _ _ told,
+          still lent (has_read sorted.before.before.before.before.before.before.before.before.before.before.before.before.before.before.before.before) _ _ (best_long_2 sorted.before.before.before.before.before.before.before.before.before.before.before.before.before.before.before.before) _ _ _ _ _ told,
         ),
       ),
     )
 
-words_back : tie.Need-same-length-7
+words_back : tie.Need-shape_of-words
 words_back c =
-    let rest = c.before.before.before.before in
-    let ranked = rest.before.before.before.before.before.before.before.before.before.before.before in
-    length_front ranked.rank-candidates.new.1.1.1.0 rest.read-rest.new.1.1.1.1.1.1.1.0
-    ranked.before.before.before.before.before.before.before.before.before.before.before.before.before.before.before.before.before.before.before.before.before.before.before.before.before.before.before.before.before.before.before.before.before.before.args.task.terms.k rest.read-rest.auto.1.1.1.1.1.1.1.0
-    ∙ words_long_4 ranked
+    let rest = c in
+    let ranked = rest in
+    length_front ranked.rank_candidates-count.new.words rest.read_rest.new.keys
+    ranked.args.task.terms.k rest.read_rest.auto.keys
+    ∙ words_long_4 ranked.before.before.before.before.before.before.before.before.before.before.before.before.before
 
-best_back : tie.Need-same-length-8
+best_back : tie.Need-shape_of-best
 best_back c =
-    let rest = c.before.before.before.before in
-    rest.read-rest.auto.1.1.1.1.1.1.1.1.0 ∙ best_long_2
-    rest.before.before.before.before.before.before.before.before.before.before.before.before.before.before.before.before.before.before.before.before ∙ sym
-    rest.before.before.before.before.before.before.before.before.before.before.before.before.before.before.before.before.before.before.before.before.before.before.before.before.before.before.before.before.before.before.before.before.before.before.before.before.before.before.before.before.before.before.before.before.before.requires.1.best_room
+    let rest = c in
+    rest.read_rest.auto.best ∙ best_long_2
+    rest.before.before.before.before.before.before.before.before.before.before.before.before.before.before.before.before.before.before.before.before.before ∙ sym
+    rest.requires.1.best_room
 
-returns_2 : tie.Need-returns-2
+returns_2 : tie.Need-returns
 returns_2 c =
-    let rest = c.before.before.before.before in
-    reads_front _ rest.read-rest.ensures
-    (rest.read-rest.auto.1.1.1.1.1.1.1.0 ∙ length-take-le _ _ (words_hold_4 rest.before.before.before))
+    let rest = c in
+    reads_front _ rest.read_rest.ensures
+    (rest.read_rest.auto.keys ∙ length-take-le _ _ (words_hold_4 rest.before.before.before.before.before.before.before))
 
 pub read_selected_spec : {M : Type 1} → statement M
 read_selected_spec =
@@ -360,7 +360,7 @@ read_selected_spec =
     (λ c. sym (length-take-le _ _ (words_hold_2 c.before)))
     read_first_requires
     (λ c. search rules)
-    (λ c. order_long c.before.before.before.before.before.before.before.before.before.before.before.before.before)
+    (λ c. order_long c.before.before.before.before.before.before.before.before.before.before.before.before)
     (λ c. words_long_2 c.before.before.before.before.before)
     (λ c. search rules)
     returns
@@ -369,13 +369,13 @@ read_selected_spec =
     sort_few_requires
     rank_candidates_requires
     lows_hold
-    (λ c. sym (length-take-le _ _ (lows_hold c.before)))
+    (λ c. sym (length-take-le _ _ (lows_hold c)))
     words_hold_4
     (λ c. sym (length-take-le _ _ (words_hold_4 c.before)))
     read_rest_requires
-    (λ c. c.before.before.before.before.before.before.before.before.before.before.before.before.before.before.before.rank-candidates.auto.1.0)
-    (λ c. c.before.before.before.before.before.before.before.before.before.before.before.before.before.before.before.rank-candidates.auto.1.1.0 ∙ order_long
-    c.before.before.before.before.before.before.before.before.before.before.before.before.before.before.before.before.before.before.before.before.before.before.before.before.before.before.before.before.before.before.before.before.before.before.before.before.before.before.before.before)
+    (λ c. c.rank_candidates-count.auto.lows)
+    (λ c. c.rank_candidates-count.auto.order ∙ order_long
+    c.before.before.before.before.before.before.before.before.before.before.before.before.before.before.before.before.before.before.before.before.before.before.before.before.before.before.before.before.before.before.before.before.before.before.before.before)
     words_back
     best_back
     returns_2)

@@ -22,32 +22,32 @@ given s = index_of s.args.terms s.args.marks.now s.args.codes.now s.args.vectors
 its_place : (s : tie.Start) → Place s.args.terms.d s.args.vectors.now s.args.number
 its_place s = place s.requires.0.ready s.args.number s.requires.1
 
-inside : (c : tie.After-in-cell) → let s = c.before.before.before in c.in_cell_lem.result ≡ in_own_cell (given s) s.args.number
+inside : (c : tie.After-in_cell) → let s = c in c.in_cell.result ≡ in_own_cell (given s.before.before.before) s.args.number
 inside c =
-    let s = c.before.before.before in
+    let s = c in
     let a = s.args in
     let o = a.number * a.terms.d in
     let size : o + a.terms.d - o ≡ a.terms.d = omega arith in
-    c.in_cell_lem.ensures
+    c.in_cell.ensures
     ∙ ap (λ (m : ℕ). in_cell a.terms.d a.terms.b a.marks.now a.codes.now a.number (take m (drop o a.vectors.now))) size
-    ∙ rw (celled s.requires.0.ready a.number s.requires.1, eq-eqb _ _ (its_place s).size)
+    ∙ rw (celled s.requires.0.ready a.number s.requires.1, eq-eqb _ _ (its_place s.before.before.before).size)
 
-returns : tie.Need-returns
+returns : tie.Need-returns-then-not-in_cell
 returns c =
-    let out = sym (inside c.before) ∙ not-true _ c.if1.true in
+    let out = sym (inside c.before) ∙ not-true _ c.if-not-in_cell.true-raw in
     rw out
 
-returns_2 : tie.Need-returns-2
+returns_2 : tie.Need-returns
 returns_2 c =
-    let tested = c.before.before in
-    let s = tested.before.before.before in
+    let tested = c in
+    let s = tested in
     let a = s.args in
     let o = a.number * a.terms.d in
     let size : o + a.terms.d - o ≡ a.terms.d = omega arith in
-    let in-it = sym (inside tested) ∙ not-false _ c.before.if1.false in
+    let in-it = sym (inside tested.before.before) ∙ not-false _ c.if-not-in_cell.false-raw in
     rw in-it
     (ap (λ (m : ℕ). Distance m)
-    (c.weighed-distance.ensures
+    (c.weighed_distance.ensures
     ∙ ap (λ (m : ℕ). measured_of a.factors.now a.query.now (take m (drop o a.vectors.now))) size
     ∙ ap (λ (factors : List ℕ). measured_of factors a.query.now (take a.terms.d (drop o a.vectors.now))) s.requires.0.weighed
     ∙ measured s.requires.0.ready a.number s.requires.1 in-it))
