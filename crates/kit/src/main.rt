@@ -1,6 +1,7 @@
 // The kit program (document 01, "The program"): a match on standard input, its text on standard output. `matching::run` is all of it, on
 // what was read.
 #![tactic(auto)]
+
 ghost use Rattle.std.specs.Prelude.{◌≡◌, suc, ◌≤◌, length, take};
 ghost use Rattle.matching.specs.Match.{text_room};
 ghost use Rattle.matching.specs.Longest.{longest_match, PrintsRead};

@@ -10,7 +10,8 @@ use Rattle.order.specs.Pair.{Pair, ranked, numbers_of}
 use Rattle.order.specs.Pairs.{keys_of, numbers_of_map}
 use Rattle.order.specs.Sorted.{Sorted}
 use Rattle.selection.specs.Reading.{least_pair, reading_order}
-use Rattle.selection.specs.Candidates.{candidates, candidates_first, ranked_at}
+use Rattle.selection.specs.Candidates.{candidates}
+use Rattle.selection.proofs.Candidates.{candidates_first, ranked_at}
 use Rattle.best_pairs.specs.Kept.{map_take}
 
 pub record Aligned (k : ℕ) (ranking : List Pair) (lows order : List ℕ) : Type 0 where

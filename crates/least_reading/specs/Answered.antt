@@ -12,8 +12,9 @@ use Rattle.order.specs.Members.{◌∈◌}
 use Rattle.order.specs.Counted.{counted_length}
 use Rattle.selection.specs.Reading.{Reading, read_next, goes_on, reading_order}
 use Rattle.order.specs.Ranking.{ranked_count}
-use Rattle.selection.specs.Loop.{Reached, after, after_next, reached_next, reached_first}
-use Rattle.selection.specs.Steps.{next_read}
+use Rattle.selection.specs.Loop.{Reached, after}
+use Rattle.selection.proofs.Loop.{after_next, reached_next, reached_first}
+use Rattle.selection.proofs.Steps.{next_read}
 use Rattle.best_pairs.specs.Gathered.{Gathers, gathers_sorted}
 use Rattle.best_pairs.specs.Holds.{HoldsBest}
 use Rattle.search.specs.declared.Searched.{Searched}

@@ -1,5 +1,6 @@
 // The matcher's C interface: thin functions over the public calls. A float is passed as its 32 bits, or as itself.
 #![tactic(auto)]
+
 pub mod approximations;
 pub mod distances;
 pub mod files;

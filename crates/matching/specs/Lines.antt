@@ -7,7 +7,7 @@ use Rattle.order.specs.Pair.{Pair}
 use Rattle.order.specs.Pairs.{pair}
 use Rattle.order.specs.Members.{◌∈◌}
 use Rattle.order.specs.Counted.{counted}
-use Rattle.selection.specs.Theorems.{reads_among, best_entries}
+use Rattle.selection.proofs.Theorems.{reads_among, best_entries}
 use Rattle.search.specs.Search.{Index as Searchable, Query, numbers_in, distance_in, low_in, searched}
 use Rattle.entries.specs.declared.Entry.{Entry}
 use Rattle.entries.specs.Entries.{entries_of}

@@ -22,7 +22,7 @@ use Rattle.signed.specs.Components.{are_components, component_at_lem}
 use Rattle.order.specs.Pair.{Pair}
 use Rattle.order.specs.Members.{◌∈◌}
 use Rattle.order.specs.Counted.{counted_length}
-use Rattle.selection.specs.Theorems.{reads_count, best_length, best_entries}
+use Rattle.selection.proofs.Theorems.{reads_count, best_length, best_entries}
 use Rattle.cells.specs.Cells.{vector_at}
 use Rattle.cells.specs.CellLaws.{vector_component}
 use Rattle.step.specs.Step.{gap, weighed, squared_le}

@@ -1,5 +1,6 @@
 // A match (document 01, "The program"): the bytes of a library, k and a query in, text out. `run` is the whole program.
 #![tactic(auto)]
+
 mod answer;
 mod lines;
 mod parts;

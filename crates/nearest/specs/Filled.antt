@@ -9,7 +9,7 @@ use Rattle.limits.specs.Limits.{max_neighbours}
 use Rattle.presence.specs.Presence.{factors_of}
 use Rattle.order.specs.Pair.{count_from}
 use Rattle.order.specs.Counted.{counted_length}
-use Rattle.selection.specs.Scan.{scan_length}
+use Rattle.selection.proofs.Scan.{scan_length}
 use Rattle.entries.specs.declared.Entry.{Entry}
 use Rattle.entries.specs.Entries.{entries_of, in_array}
 use Rattle.entries.specs.EntryLaws.{entries_length}

@@ -1,5 +1,6 @@
 // The nearest vectors as entries: the full scan and the search as other programs call them. Each is thin over its covered core.
 #![tactic(auto)]
+
 ghost use Rattle.std.specs.Prelude.{◌≡◌, length};
 ghost use Rattle.refusal.specs.First.{first};
 ghost use Rattle.scan.specs.Scanning.{scan_causes, scanned_entries};

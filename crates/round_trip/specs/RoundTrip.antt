@@ -1,5 +1,5 @@
--- The two round trips of the library file: what was written loads to the same, what was loaded is written to the same bytes, and so each
--- library has one encoding. Assumes nothing.
+-- The two round trips of the library file: what was written loads to the same, what was loaded is written to the same bytes. That each
+-- library has one encoding follows in proofs/OneEncoding.antt. Assumes nothing.
 use Rattle.std.specs.Prelude.{◌≡◌, List, ◌++◌, ℕ, ◌^◌, ◌<◌, length, get_or, take}
 use Rattle.std.proofs.Common.{sym, ◌∙◌}
 use Rattle.refusal.specs.declared.Verdict.TheVariants.{Accepted}
@@ -44,10 +44,3 @@ loaded_writes bytes l used are loads =
     let bytes-are : library_bytes l ≡ take used bytes = rw (← loads.length_is, ← loads.library) (written_loaded bytes are rows) in
     let writable = rw loads.library at (loaded_writable bytes rows) in
     record { accepted = rw (← bytes-are, library_size l) writable; is = bytes-are }
-
--- So each library has one encoding: two inputs that load to it used the same bytes.
-pub one_encoding : (bytes others : List ℕ) (l : Library) (used used' : ℕ) → AreBytes bytes → AreBytes others → Loads bytes l used
-    → Loads others l used'
-    → take used bytes ≡ take used' others
-one_encoding bytes others l used used' are are' loads loads' =
-    sym (loaded_writes bytes l used are loads).is ∙ (loaded_writes others l used' are' loads').is

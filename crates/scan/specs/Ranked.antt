@@ -8,7 +8,7 @@ use Rattle.order.specs.Counted.{counted}
 use Rattle.order.specs.Rank.{key_at, keyed_count}
 use Rattle.selection.specs.Reading.{scan, read}
 use Rattle.selection.specs.Settles.{Agree}
-use Rattle.selection.specs.Theorems.{reads_among, stable}
+use Rattle.selection.proofs.Theorems.{reads_among, stable}
 use Rattle.distance.specs.Values.{values_from, values_length, value_at}
 
 -- keys that agree at the numbers rank them alike

@@ -10,7 +10,7 @@ use Rattle.limits.specs.Tests.{neighbours}
 use Rattle.presence.specs.Presence.{has_bit_past, has_too_few, word_causes}
 use Rattle.signed.specs.Components.{are_components}
 use Rattle.order.specs.Counted.{counted_length}
-use Rattle.selection.specs.Theorems.{best_length}
+use Rattle.selection.proofs.Theorems.{best_length}
 use Rattle.layout.specs.Layout.{first_marks}
 use Rattle.partition.specs.Marks.{good_marks}
 use Rattle.codes.specs.Codes.{code_length}

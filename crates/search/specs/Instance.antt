@@ -8,9 +8,9 @@ use Rattle.order.specs.Members.{◌∈◌}
 use Rattle.order.specs.Counted.{counted, counts}
 use Rattle.selection.specs.Reading.{scan}
 use Rattle.selection.specs.Settles.{LowerBound, Bounds, Within, Settles, Needed, changed}
-use Rattle.selection.specs.Changed.{changed_there, changed_elsewhere}
-use Rattle.selection.specs.Least.{member?}
-use Rattle.selection.specs.Theorems.{exact}
+use Rattle.selection.proofs.Changed.{changed_there, changed_elsewhere}
+use Rattle.selection.proofs.Least.{member?}
+use Rattle.selection.proofs.Theorems.{exact}
 use Rattle.codes.specs.Codes.{spare_zero}
 use Rattle.cells.specs.Cells.{vector_at, none_empty, no_empty_codes, good_codes}
 use Rattle.distance.specs.Bounds.{weighed_bound}

@@ -12,8 +12,8 @@ use Rattle.order.specs.Members.{◌∈◌}
 use Rattle.order.specs.Counted.{counted, counted_distinct}
 use Rattle.selection.specs.Reading.{reading_order}
 use Rattle.selection.specs.Settles.{Bounds, Agree, fixed}
-use Rattle.selection.specs.Least.{member?}
-use Rattle.selection.specs.Theorems.{reads_in_order, reads_among, exact, stable, stable_answer, needed, settling_holds, least}
+use Rattle.selection.proofs.Least.{member?}
+use Rattle.selection.proofs.Theorems.{reads_in_order, reads_among, exact, stable, stable_answer, needed, settling_holds, least}
 use Rattle.cells.specs.Cells.{vector_at}
 use Rattle.search.specs.Search.{Index, Query, numbers_in, distance_from, distance_in, low_in, high_in, in_own_cells, scanned, searched, Room}
 use Rattle.search.specs.Accepted.{Accepts, passes, accepts, lengths_told, lengths_exact}

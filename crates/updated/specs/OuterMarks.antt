@@ -1,5 +1,5 @@
--- Outer marks at the ends of the scale (document 02, Slip 2): every component lies inside them, and 8 never occurs in adding.
--- Assumes nothing.
+-- Outer marks at the ends of the scale (document 02, Slip 2): every component lies inside them. That 8 never occurs in adding follows in
+-- proofs/NeverOutside.antt. Assumes nothing.
 use Rattle.std.specs.Prelude.{◌≡◌, refl, Bool, true, false, not, ◌&&◌, List, [], ◌∷◌, ℕ, suc, ◌+◌, ◌%◌, ◌≤◌, ◌<◌, eqb, ℤ, pos, get_or}
 use Rattle.std.proofs.Common.{sym, ap, ◌∙◌, mod-lt}
 use Rattle.std.proofs.Math.Bool.{and-eq-true_iff}
@@ -32,7 +32,7 @@ pub record EndsOfScale (d b : ℕ) (marks : List ℤ) : Type 0 where
   pub last : (t : ℕ) → t < d → last_mark (dimension_marks d b marks (suc t)) ≡ scale_ends.last
 
 -- every component lies inside them
-all_inside : {d b : ℕ} {marks : List ℤ} → EndsOfScale d b marks → 0 < d → (vectors : List ℤ) → are_components vectors ≡ true
+pub all_inside : {d b : ℕ} {marks : List ℤ} → EndsOfScale d b marks → 0 < d → (vectors : List ℤ) → are_components vectors ≡ true
     → vectors_inside d b marks vectors ≡ true
 all_inside {d} {b} {marks} ends some vectors are =
     rw zero-mod at
@@ -54,35 +54,3 @@ made_ends d b n vectors =
       last = λ t among.
           rw (part t among) (between_last scale_ends n (bits_of d b (suc t)) (in_order (column d n vectors t)));
     }
-
--- ---- no row refuses for 8
-
--- where 8 is the verdict, a row of another cause fails, and 8 is that of the rows behind it
-record Behind (test : Bool) (rows : List Row) : Type 0 where
-  pub fails : test ≡ false
-  pub rest : first rows ≡ Refused Outside
-
-behind : (test : Bool) (cause : Refusal) (rows : List Row) → eqb (number_of cause) (number_of Outside) ≡ false
-    → first ((test ⇒ cause) ∷ rows) ≡ Refused Outside → Behind test rows
-unfolding first
-behind true cause rows other refused = absurd (eqb-false (number_of cause) (number_of Outside) other (ap verdict_number refused))
-behind false cause rows other refused = record { fails = refl; rest = refused }
-
-pub never_outside : (l : CodedLibrary) → EndsOfScale l.d l.b l.marks → (vector : List ℤ) (room : Lengths)
-    → ¬ (first (add_causes l vector room) ≡ Refused Outside)
-never_outside l ends vector room refused =
-    let dimensions = behind (not (is_dimension_count l.d)) Dimension _ refl refused in
-    let bits = behind _ Bits _ refl dimensions.rest in
-    let count = behind _ Count _ refl bits.rest in
-    let lengths = behind _ Length _ refl count.rest in
-    let more = behind _ Length _ refl lengths.rest in
-    let full = behind _ Full _ refl more.rest in
-    let components = are_components l.vectors && are_components vector in
-    let range = behind (not components) Component _ refl full.rest in
-    let good = behind _ Mark _ refl range.rest in
-    let some : 1 ≤ l.d = (between 1 l.d max_dimensions (not-false (is_dimension_count l.d) dimensions.fails)).above in
-    let are = (and-eq-true_iff (are_components l.vectors) (are_components vector)).0 (not-false components range.fails) in
-    let inside : not (vectors_inside l.d l.b l.marks l.vectors && vectors_inside l.d l.b l.marks vector) ≡ false =
-    rw (all_inside ends some l.vectors are.0, all_inside ends some vector are.1) in
-    let coded = behind _ Code [] refl (sym (first_next Outside _ inside) ∙ good.rest) in
-    apart (sym first_none ∙ coded.rest)

@@ -1,5 +1,6 @@
--- What adding and removing promise (document 02, Slip 3). The statements can be read without the proofs; the laws behind them are in the
--- other files of this folder. Assumes nothing.
+-- What adding and removing promise (document 02, Slip 3); what follows from it for the vectors' own codes, for the search and for outer
+-- marks is in proofs/Follows.antt. The statements can be read without the proofs; the laws behind them are in the other files of this
+-- folder. Assumes nothing.
 use Rattle.std.specs.Prelude.{◌≡◌, refl, Bool, true, false, cond, List, [], ◌∷◌, ℕ, suc, ◌-◌, ◌*◌, ◌≤◌, ◌<◌, ltb, ℤ, length, get_or, take}
 use Rattle.std.proofs.Common.{sym, ap, ◌∙◌, mul-one, mul-le-mul_right, arith, ltb-true, ltb-false, take_all, drop_at}
 use Rattle.std.proofs.Math.Bool.{and-eq-true_iff}
@@ -32,7 +33,6 @@ use Rattle.updated.specs.CodeRows.{removed_bytes, code_before, code_behind}
 use Rattle.updated.specs.Fresh.{added_packed, removed_packed}
 use Rattle.updated.specs.After.{packs, removes, added_measured, added_sound, removed_measured, removed_sound}
 use Rattle.updated.specs.Renumbered.{scan_more, without_number, moved_up, scan_without, scan_all_without}
-use Rattle.updated.specs.OuterMarks.{EndsOfScale, made_ends, never_outside}
 
 -- the region that code i of a library names for dimension t + 1
 abbrev pub region_in : CodedLibrary → ℕ → ℕ → ℕ
@@ -101,15 +101,6 @@ module _ (l : CodedLibrary) (vector : List ℤ) (room : Lengths) (accepted : fir
       (own_packed some facts.library.of_marks facts.contents.good facts.library.exact.of_vectors is.own is.bytes
       facts.library.exact.of_codes) vector
 
-  -- .. and these are the vectors' own.
-  pub adding_keeps_own : OwnLibrary l → OwnLibrary new
-  adding_keeps_own is = record {
-    bytes = added_bytes l.d l.b l.n some l.marks l.codes vector facts.library.exact.of_codes facts.size;
-    own = rw (adding_is_fresh is)
-        (own_codes l.d l.b (suc l.n) some l.marks new.vectors
-        (added_measured l vector room accepted setting).exact.of_vectors (added_sound l vector room accepted setting).inside);
-  }
-
   -- What is removed after it was added is the old library, ..
   pub added_removed : Bytes l.codes → removed new l.n ≡ l
   added_removed bytes =
@@ -146,14 +137,6 @@ module _ (l : CodedLibrary) (vector : List ℤ) (room : Lengths) (accepted : fir
       scan_more k (distance_in (index_in l) query) (distance_in (index_in new) query) l.n
       (λ j m. ap (distance_from (index_in l) query) (adding_keeps_vectors j (omega (arith, (counted 0 l.n m).below))))
       ∙ rw adding_puts_last
-
-  -- .. and so does the search, where the codes were the vectors' own.
-  pub adding_search : OwnLibrary l → (query : Query) (k : ℕ) → (searched (index_in new) query k).best
-      ≡ take k (insert (record { key = distance_from (index_in l) query vector; number = l.n }) (searched (index_in l) query k).best)
-  adding_search is query k =
-      search_is_scan (index_in new) query k (adding_keeps_own is).own
-      ∙ adding_scan query k
-      ∙ rw (search_is_scan (index_in l) query k is.own)
 
 -- ---- a removal that is not refused
 
@@ -220,15 +203,6 @@ module _ (l : CodedLibrary) (i : ℕ) (room : Lengths) (accepted : first (remove
       (own_packed positive known.library.of_marks known.contents.good known.library.exact.of_vectors is.own is.bytes
       known.library.exact.of_codes) i known.stored
 
-  -- .. and these are the vectors' own.
-  pub removing_keeps_own : OwnLibrary l → OwnLibrary left
-  removing_keeps_own is = record {
-    bytes = removed_bytes l.b l.n l.codes known.library.exact.of_codes i known.stored;
-    own = rw (removing_is_fresh is)
-        (own_codes l.d l.b (l.n - 1) positive l.marks left.vectors
-        (removed_measured l i room accepted).exact.of_vectors (removed_sound l i room accepted).inside);
-  }
-
   -- a number's vector is that of the number as it was before
   moved_vector : (j : ℕ) → vector_at l.d left.vectors j ≡ vector_at l.d l.vectors (moved_up i j)
   moved_vector j = go (ltb j i) refl
@@ -249,23 +223,3 @@ module _ (l : CodedLibrary) (i : ℕ) (room : Lengths) (accepted : first (remove
   removing_scan query k =
       scan_without i (distance_in (index_in l) query) (distance_in (index_in left) query)
       (λ j. ap (distance_from (index_in l) query) (moved_vector j)) l.n known.stored k
-
-  -- .. and so does the search, where the codes were the vectors' own.
-  pub removing_search : OwnLibrary l → (query : Query) (k : ℕ)
-      → (searched (index_in left) query k).best ≡ take k (without_number i (searched (index_in l) query (suc k)).best)
-  removing_search is query k =
-      search_is_scan (index_in left) query k (removing_keeps_own is).own
-      ∙ removing_scan query k
-      ∙ rw (search_is_scan (index_in l) query (suc k) is.own)
-
--- ---- outer marks at the ends of the scale
-
--- "8 never occurs in adding to a library whose outer marks are those of Slip 2", whatever the vector, the buffers and the rest of the
--- library.
-pub adding_never_outside : (l : CodedLibrary) → EndsOfScale l.d l.b l.marks → (vector : List ℤ) (room : Lengths)
-    → ¬ (first (add_causes l vector room) ≡ Refused Outside)
-adding_never_outside = never_outside
-
--- Marks that are made from any vectors have such outer marks.
-pub made_marks_end : (d b n : ℕ) (vectors : List ℤ) → EndsOfScale d b (made_marks d b n vectors)
-made_marks_end = made_ends

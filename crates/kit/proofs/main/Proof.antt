@@ -10,20 +10,20 @@ use Rattle.kit.proofs.main.Statement.{statement}
 use Rattle.kit.proofs.main.Tie as tie
 
 -- the buffer has one byte more than the longest match, and what was read stands in it
-room : (c : tie.After-read-full) → length c.read-full.new.1.0 ≡ suc longest_match
-room c = c.read-full.auto.1.0 ∙ ap suc (sym longest_match_lem)
+room : (c : tie.After-read_full-n) → length c.read_full-n.new.buf ≡ suc longest_match
+room c = c.read_full-n.auto.buf ∙ ap suc (sym longest_match_lem)
 
-read_within : (c : tie.After-read-full) → c.read-full.result ≤ suc longest_match
-read_within c = omega (arith, c.read-full.ensures, room c)
+read_within : (c : tie.After-read_full-n) → c.read_full-n.result ≤ suc longest_match
+read_within c = omega (arith, c.read_full-n.ensures, room c)
 
-output_holds : tie.Need-array-share-prefix-output
+output_holds : tie.Need-slice_bounds-output-end
 output_holds c =
-    let ran = c.before in
-    let read = ran.before.before.before.before in
-    let bytes = take read.read-full.result read.read-full.new.1.0 in
+    let ran = c in
+    let read = ran in
+    let bytes = take read.read_full-n.result read.read_full-n.new.buf in
     let few : length bytes ≤ suc longest_match =
-    omega (arith, length-take read.read-full.result read.read-full.new.1.0, read_within read) in
-    front_within (ran.print.ensures bytes (take_all (suc longest_match) bytes few))
+    omega (arith, length-take read.read_full-n.result read.read_full-n.new.buf, read_within read.before.before.before.before.before) in
+    front_within (ran.print-length.ensures bytes (take_all (suc longest_match) bytes few))
 
 pub main_spec : {M : Type 1} → statement M
 main_spec =

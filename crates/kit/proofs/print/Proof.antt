@@ -30,11 +30,11 @@ front {room} text before right told left =
 
 returns : tie.Need-returns
 returns c =
-    let ran = c.before.before in
-    let s = ran.before.before.before.before.before in
-    prints_read (front (match_text _) _ s.requires.2 ran.run.ensures.0 ran.run.ensures.1)
+    let ran = c in
+    let s = ran in
+    prints_read (front (match_text _) _ s.requires.2 ran.run-printed.ensures.0 ran.run-printed.ensures.1)
 
 pub print_spec : {M : Type 1} → statement M
 print_spec =
     tie.close
-    (tie.spec (λ c. sym (length-take-le _ _ (within c.before.before.before))) (λ c κs. search rules) (λ c. search rules) returns)
+    (tie.spec (λ c. sym (length-take-le _ _ (within c.before.before))) (λ c κs. search rules) (λ c. search rules) returns)

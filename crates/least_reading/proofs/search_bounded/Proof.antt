@@ -12,7 +12,7 @@ use Rattle.refusal.specs.First.{first, outcome_accepted}
 use Rattle.order.specs.Pairs.{pairs_of, pairs_both}
 use Rattle.order.specs.Counted.{counted_length}
 use Rattle.order.proofs.Prefix.{back_within}
-use Rattle.selection.specs.Theorems.{reads_count}
+use Rattle.selection.proofs.Theorems.{reads_count}
 use Rattle.entries.specs.declared.Entry.{Entry}
 use Rattle.entries.specs.Entries.{entries_of, in_array}
 use Rattle.search.specs.declared.Searched.{Searched}

@@ -8,31 +8,31 @@ use Rattle.matching.specs.Steps.{loaded_refused, loaded_holds}
 use Rattle.matching.proofs.match_input.Statement.{statement}
 use Rattle.matching.proofs.match_input.Tie as tie
 
-abbrev start : tie.After-load → tie.Start
+abbrev start : tie.After-load-loaded → tie.Start
 start c = c.before.before.before.before.before.before.before
 
-match_loaded_requires : tie.Need-match-loaded-requires
+match_loaded_requires : tie.Need-match_loaded-requires
 match_loaded_requires c κs =
-    let told = c.before.before.before.before in
-    let load = told.before.before.before.before.before.before in
-    let pre = (start load).requires in
-    let of = load.load.ensures in
-    let input = (start load).args.input.now in
-    let accepted = told.enum_told.given.1 in
+    let told = c in
+    let load = told in
+    let pre = (start load.before.before.before.before.before.before).requires in
+    let of = load.load-loaded.ensures in
+    let input = (start load.before.before.before.before.before.before).args.input.now in
+    let accepted = told.in-Accepted.is in
     (loaded_holds input pre.0.0 pre.0.1 pre.0.2 of.0 accepted _ _ _ of.1.0 of.1.1.0 of.1.1.1, pre.1)
 
 -- the library is refused
-refused_is : (c : tie.After-verdict) → let load = c.before.before.before.before.before.before in
-    match_text (start load).args.input.now ≡ refused_text c.verdict.given.0.0
+refused_is : (c : tie.In-Refused) → let load = c in
+    match_text (start load.before.before.before.before.before).args.input.now ≡ refused_text c.in-Refused.cause
 refused_is c =
-    let load = c.before.before.before.before.before.before in
-    let pre = (start load).requires in
-    loaded_refused (start load).args.input.now pre.0.0 pre.0.1 pre.0.2 load.load.ensures.0 c.verdict.given.1
+    let load = c in
+    let pre = (start load.before.before.before.before.before).requires in
+    loaded_refused (start load.before.before.before.before.before).args.input.now pre.0.0 pre.0.1 pre.0.2 load.load-loaded.ensures.0 c.in-Refused.is
 
-returns_2 : tie.Need-returns-2
+returns_2 : tie.Need-returns-in-Refused
 returns_2 c =
-    let put = c.before.before in
-    puts_same (sym (refused_is put.before.before.before)) put.put-refusal.ensures
+    let put = c in
+    puts_same (sym (refused_is put.before.before.before.before)) put.put_refusal.ensures
 
 pub match_input_spec : {M : Type 1} → statement M
 match_input_spec =

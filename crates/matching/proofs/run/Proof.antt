@@ -17,29 +17,29 @@ use Rattle.text.specs.Puts.{puts_length, puts_front, front_fits}
 use Rattle.matching.proofs.run.Statement.{statement}
 use Rattle.matching.proofs.run.Tie as tie
 
-returns : tie.Need-returns
+returns : tie.Need-returns-then-output-ne-TEXT_ROOM
 returns c =
-    let s = c.before.before.before in
+    let s = c in
     let refused : first (room_causes (length s.args.output.now)) ≡ Refused Length =
-    first_here Length [] (ap not (ne_eqb _ text_room c.if1.true)) in
+    first_here Length [] (ap not (ne_eqb _ text_room c.if-output-ne-TEXT_ROOM.true)) in
     (sym (outcome_refused _ _ refused), sym (outcome_refused _ _ refused))
 
 -- the output has room
-room : (c : tie.Else1) → let s = c.before.before.before in length (match_text s.args.input.now) ≤ length s.args.output.now
+room : (c : tie.Else-output-ne-TEXT_ROOM) → let s = c in length (match_text s.args.input.now) ≤ length s.args.output.now
 room c =
-    let s = c.before.before.before in
-    rw c.if1.false (text_room_lem s.args.input.now (λ i. omega (arith, c.before.before.shared-slice-known.given i)))
+    let s = c in
+    rw c.if-output-ne-TEXT_ROOM.false (text_room_lem s.args.input.now (λ i. omega (arith, c.shared_slice_known-1.given i)))
 
-returns_2 : tie.Need-returns-2
+returns_2 : tie.Need-returns
 returns_2 c =
-    let put = c.before.before.before.before.before in
-    let tested = put.before.before.before.before.before in
-    let s = tested.before.before.before in
+    let put = c in
+    let tested = put in
+    let s = tested in
     let accepted : first (room_causes (length s.args.output.now)) ≡ Accepted =
-    first_next Length [] (ap not (eq-eqb _ text_room tested.if1.false)) ∙ first_none in
-    let front = puts_front put.match-input.ensures in (
+    first_next Length [] (ap not (eq-eqb _ text_room tested.if-output-ne-TEXT_ROOM.false)) ∙ first_none in
+    let front = puts_front put.match_input-length.ensures in (
       ap {B = Printed} (λ n. record { verdict = Accepted; length = n }) front.0 ∙ sym (outcome_accepted _ _ accepted),
-      front.1 ∙ front_fits _ s.args.output.now (room tested) ∙ sym (outcome_accepted _ _ accepted),
+      front.1 ∙ front_fits _ s.args.output.now (room tested.before.before.before.before.before.before.before.before.before.before) ∙ sym (outcome_accepted _ _ accepted),
     )
 
 pub run_spec : {M : Type 1} → statement M
@@ -51,5 +51,5 @@ run_spec =
     (λ c. search rules)
     (λ c. search rules)
     (λ c κs. ((refl, refl, refl), room c.before.before.before.before))
-    (λ c. puts_length c.before.before.before.before.before.match-input.ensures)
+    (λ c. puts_length c.match_input-length.ensures)
     returns_2)

@@ -15,7 +15,8 @@ use Rattle.order.specs.Counted.{counted_length, counted_distinct}
 use Rattle.order.specs.Insertion.{length_ranked}
 use Rattle.order.specs.Sorted.{ranked_sorted}
 use Rattle.selection.specs.Reading.{least_pair}
-use Rattle.selection.specs.Candidates.{candidates, is_candidate, numbers_passing, ranked_candidates, candidates_fit}
+use Rattle.selection.specs.Candidates.{candidates, is_candidate, numbers_passing}
+use Rattle.selection.proofs.Candidates.{ranked_candidates, candidates_fit}
 use Rattle.best_pairs.specs.Gathered.{with_keys}
 use Rattle.least_reading.proofs.candidates.rank_candidates.Statement.{statement}
 use Rattle.least_reading.proofs.candidates.rank_candidates.Tie as tie

@@ -11,7 +11,7 @@ use borrow.Author.Rules.{rules}
 use Rattle.order.specs.Counted.{counted_length}
 use Rattle.order.specs.Ranking.{ranked_count}
 use Rattle.selection.specs.Reading.{reading_order}
-use Rattle.selection.specs.Loop.{reached_first, goes_on_first}
+use Rattle.selection.proofs.Loop.{reached_first, goes_on_first}
 use Rattle.best_pairs.specs.Gathered.{Gathers, gathers_start, gathers_next}
 use Rattle.search.specs.Search.{Index, Query, numbers_in, distance_in, low_in, in_own_cell, in_own_cells}
 use Rattle.search.specs.Ready.{index_of, query_of, Ready, ordered_below}

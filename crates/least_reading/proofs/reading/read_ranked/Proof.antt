@@ -13,7 +13,8 @@ use Rattle.order.specs.Pairs.{pairs_of, keys_of}
 use Rattle.order.specs.Counted.{counted_length}
 use Rattle.order.specs.Insertion.{length_ranked}
 use Rattle.order.specs.Rank.{pair_causes, sort_leaves}
-use Rattle.selection.specs.Loop.{EndsBy, ends_all}
+use Rattle.selection.specs.Loop.{EndsBy}
+use Rattle.selection.proofs.Loop.{ends_all}
 use Rattle.scan.specs.Ranked.{values_sorted}
 use Rattle.search.specs.Search.{Index, Query, numbers_in, distance_in, low_in}
 use Rattle.search.specs.Ready.{index_of, query_of}

@@ -16,7 +16,8 @@ use Rattle.order.specs.Pairs.{pair, pairs_of}
 use Rattle.order.specs.Counted.{counted_length}
 use Rattle.order.specs.Ranking.{ranked_count}
 use Rattle.selection.specs.Reading.{reading_order, goes_on}
-use Rattle.selection.specs.Loop.{EndsBy, after, reached_next, reached_stop, full_after}
+use Rattle.selection.specs.Loop.{EndsBy, after}
+use Rattle.selection.proofs.Loop.{reached_next, reached_stop, full_after}
 use Rattle.best_pairs.specs.Kept.{Keeps}
 use Rattle.best_pairs.specs.Holds.{holds_keys, holds_numbers, arrays_goes_on, arrays_next}
 use Rattle.search.specs.declared.Searched.TheVariants.{Read, Refused}

@@ -15,7 +15,8 @@ use Rattle.order.specs.Ranking.{ranked_count}
 use Rattle.order.specs.Sorted.{ranked_sorted}
 use Rattle.selection.specs.Reading.{least_pair, reading_order}
 use Rattle.selection.specs.Loop.{EndsBy}
-use Rattle.selection.specs.Candidates.{candidates, candidates_end, ranked_at}
+use Rattle.selection.specs.Candidates.{candidates}
+use Rattle.selection.proofs.Candidates.{candidates_end, ranked_at}
 use Rattle.best_pairs.specs.Kept.{held_at}
 use Rattle.distance.specs.Values.{values_length}
 use Rattle.scan.specs.Ranked.{values_ranked}

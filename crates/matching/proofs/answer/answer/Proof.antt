@@ -42,20 +42,20 @@ length_is d b n codes vectors marks accepted =
     codes_length_is d b n (accepted_front (shape_causes d b) (length_causes d b n (length vectors) codes) sized)
     (sizes d b n (length vectors) codes sized).few
 
-size_is : (c : tie.After-codes-length) → let a = c.before.before.before.args in c.codes-length.result ≡ code_length a.terms.b a.terms.n
+size_is : (c : tie.After-codes_length-size) → let a = c.args in c.codes_length-size.result ≡ code_length a.terms.b a.terms.n
 size_is c =
-    let s = c.before.before.before in
-    c.codes-length.ensures
+    let s = c in
+    c.codes_length-size.ensures
     ∙ length_is s.args.terms.d s.args.terms.b s.args.terms.n _ s.args.components.now s.args.marks.now s.requires.0
 
-codes_hold : tie.Need-array-borrow-prefix-codes
+codes_hold : tie.Need-slice_bounds-codes-end
 codes_hold c = omega (arith, few c.before.before.before, size_is c)
 
-codes_within : tie.Need-array-share-prefix-codes
+codes_within : tie.Need-slice_bounds-codes-end-2
 codes_within c =
-    let back = c.before in
-    back_within _ _ back.pack-vectors.new.1.1.1.1.1.0 (codes_hold back.before.before)
-    back.pack-vectors.auto.1.1.1.1.1.0
+    let back = c in
+    back_within _ _ back.pack_vectors.new.codes (codes_hold back.before.before.before)
+    back.pack_vectors.auto.codes
 
 -- what packing gives for a buffer of the right length
 packed_are : (d b n : ℕ) (vectors marks : List ℤ) (old : List ℕ) {new : List ℕ} (room : ℕ)
@@ -65,36 +65,36 @@ packed_are : (d b n : ℕ) (vectors marks : List ℤ) (old : List ℕ) {new : Li
 packed_are d b n vectors marks old room accepted exact New-is =
     New-is ∙ outcome_accepted _ _ (ap (λ (m : ℕ). first (pack_vectors_causes d b n vectors marks m)) exact ∙ accepted)
 
-abbrev codes_back : tie.After-pack-vectors → List ℕ
-codes_back c = c.pack-vectors.new.1.1.1.1.1.0
+abbrev codes_back : tie.After-pack_vectors → List ℕ
+codes_back c = c.pack_vectors.new.codes
 
 -- the codes that were shared
-codes_are : (c : tie.After-pack-vectors) → let a = c.before.before.before.before.before.args in
-    let size = c.before.before.codes-length.result in
+codes_are : (c : tie.After-pack_vectors) → let a = c.args in
+    let size = c.codes_length-size.result in
     take size (codes_back c ++ drop size (replicate 12288 0)) ≡ vector_codes a.terms.d a.terms.b a.terms.n a.marks.now a.components.now
 codes_are c =
-    let s = c.before.before.before.before.before in
+    let s = c in
     let hold = codes_hold c.before.before in
-    shared_is _ _ (codes_back c) hold c.pack-vectors.auto.1.1.1.1.1.0
+    shared_is _ _ (codes_back c) hold c.pack_vectors.auto.codes
     ∙ packed_are s.args.terms.d s.args.terms.b s.args.terms.n s.args.components.now s.args.marks.now _ _ s.requires.0
-    (length-take-le _ _ hold ∙ size_is c.before.before) c.pack-vectors.ensures.1
+    (length-take-le _ _ hold ∙ size_is c.before.before) c.pack_vectors.ensures.1
 
-answer_coded_requires : tie.Need-answer-coded-requires
+answer_coded_requires : tie.Need-answer_coded-requires
 answer_coded_requires c κs =
-    let back = c.before.before.before in
-    let s = back.before.before.before.before.before in
-    (rw (codes_are back) s.requires.1.0, (s.requires.1.1.0, rw (codes_are back) s.requires.1.1.1))
+    let back = c in
+    let s = back in
+    (rw (codes_are back.before.before.before) s.requires.1.0, (s.requires.1.1.0, rw (codes_are back.before.before.before) s.requires.1.1.1))
 
 returns : tie.Need-returns
 returns c =
-    let put = c.before.before in
-    let back = put.before.before.before.before in
-    let a = back.before.before.before.before.before.args in
+    let put = c in
+    let back = put in
+    let a = back.args in
     puts_same (ap
     (λ (codes : List ℕ). answer_lines a.settings.now a.terms.k
     (searched (index_of a.terms a.marks.now codes a.components.now) (query_of a.terms a.query.now) a.terms.k))
-    (codes_are back))
-    put.answer-coded.ensures
+    (codes_are back.before.before.before.before.before.before))
+    put.answer_coded.ensures
 
 pub answer_spec : {M : Type 1} → statement M
 answer_spec =
@@ -107,5 +107,5 @@ answer_spec =
     codes_within
     (λ c. sym (length-take-le _ _ (codes_within c.before)))
     answer_coded_requires
-    (λ c. puts_length c.before.before.answer-coded.ensures)
+    (λ c. puts_length c.answer_coded.ensures)
     returns)

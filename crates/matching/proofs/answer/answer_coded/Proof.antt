@@ -62,34 +62,34 @@ module _ (l : Index) (query : Query) (k n reads : ℕ) {f : Found} {old new : Li
     named = λ p m. rw named (best_below l query k p (subst (λ (ps : List Pair). p ∈ ps) pairs_are m));
   }
 
-abbrev start : tie.After-read-count → tie.Start
+abbrev start : tie.After-read_count → tie.Start
 start c = c.before.before.before.before.before.before.before.before
 
-text_is : (c : tie.After-read-count) → let a = (start c).args in let found = c.before.before.before.nearest-by-bounds in
+text_is : (c : tie.After-read_count) → let a = (start c).args in let found = c.nearest_by_bounds-found in
     lines_of a.settings.now a.terms.k c.read_count.result (pairs_in (take a.terms.k found.result.entries))
     ≡ answer_lines a.settings.now a.terms.k (searched (given (start c)) (asked (start c)) a.terms.k)
 text_is c =
     let s = start c in
     let t = s.args.terms in
-    let found = c.before.before.before.nearest-by-bounds in
-    lines_are (given s) (asked s) t.k t.n _ s.pre.0 (length-take-le _ _ (few s)) found.ensures s.args.settings.now
+    let found = c.nearest_by_bounds-found in
+    lines_are (given s) (asked s) t.k t.n _ s.requires.0 (length-take-le _ _ (few s)) found.ensures s.args.settings.now
     c.read_count.ensures
 
-put_answer_requires : tie.Need-put-answer-requires
+put_answer_requires : tie.Need-put_answer-requires
 put_answer_requires c κs =
-    let count = c.before in
-    let s = start count in
+    let count = c in
+    let s = start count.before in
     let t = s.args.terms in
-    let found = count.before.before.before.nearest-by-bounds in (
-      listed (given s) (asked s) t.k t.n _ s.pre.0 (length-take-le _ _ (few s)) found.ensures
-          s.args.settings.now (few_neighbours s) s.pre.1.0,
-      rw (text_is count) s.pre.1.1,
+    let found = count.nearest_by_bounds-found in (
+      listed (given s) (asked s) t.k t.n _ s.requires.0 (length-take-le _ _ (few s)) found.ensures
+          s.args.settings.now (few_neighbours s) s.requires.1.0,
+      rw (text_is count.before) s.requires.1.1,
     )
 
 returns : tie.Need-returns
 returns c =
-    let put = c.before.before in
-    puts_same (text_is put.before.before) put.put-answer.ensures
+    let put = c in
+    puts_same (text_is put.before.before.before.before) put.put_answer.ensures
 
 pub answer_coded_spec : {M : Type 1} → statement M
 answer_coded_spec =
@@ -100,5 +100,5 @@ answer_coded_spec =
     (λ c κs. search rules)
     (λ c κs. search rules)
     put_answer_requires
-    (λ c. puts_length c.before.before.put-answer.ensures)
+    (λ c. puts_length c.put_answer.ensures)
     returns)

@@ -23,10 +23,10 @@ record Lines (k : ℕ) (settings text₀ : List ℕ) (at : ℕ) (entries : List 
   puts : Puts front at text₀ text next
   whole : front ++ lines_from settings (take k entries) i ≡ entry_lines settings (pairs_in (take k entries))
 
-abbrev invariant_loop : tie.invariant_loop
+abbrev invariant_loop : tie.invariant-loop-i
 invariant_loop k settings text₀ at entries next₀ i₀ text next i = Lines k settings text₀ at entries text next i
 
-abbrev decreases_loop : tie.decreases_loop
+abbrev decreases_loop : tie.decreases-loop-i
 decreases_loop k settings text₀ at entries next₀ i₀ text next i = k - i
 
 abbrev none : Entry
@@ -66,53 +66,53 @@ module _ {k : ℕ} {settings text₀ : List ℕ} {at : ℕ} {entries : List Entr
       let nothing = lines_none settings (take k entries) i (omega (arith, is.size)) in
       puts_same (sym (append-nil is.front) ∙ ap (λ (rest : List ℕ). is.front ++ rest) (sym nothing) ∙ is.whole) is.puts
 
-loop_holds : tie.Need-loop-init invariant_loop decreases_loop
+loop_holds : tie.Need-loop-i-init invariant_loop decreases_loop
 loop_holds c =
-    let start = c.before.before in
-    let size : length start.args.t3 ≡ max_neighbours = start.well-formed.1.1.0.1.0.1 in
+    let start = c in
+    let size : length start.args.entries ≡ max_neighbours = start.well_formed.1.1.0.1.0.1 in
     record {
       few = omega arith;
-      size = length-take-le start.args.k start.args.t3 (rw size start.requires.0.few);
+      size = length-take-le start.args.k start.args.entries (rw size start.requires.0.few);
       front = [];
       puts = puts_none _ _;
       whole = refl;
     }
 
 -- the settings of the entry's vector
-settings_there : tie.Need-shared-slice-read-vector-settings invariant_loop decreases_loop
+settings_there : tie.Need-bounds-settings-number invariant_loop decreases_loop
 settings_there c =
-    let at = c.before.before.before.before in
-    named at.loop.invariant c.before.before.before.loop-test.true at.before.before.before.requires.0
+    let at = c in
+    named at.loop-i.invariant c.loop-i-test.true at.requires.0
 
-settings_fit : tie.Need-overflow-cast-put-three-2 invariant_loop decreases_loop
+settings_fit : tie.Need-overflow_cast-vector_settings invariant_loop decreases_loop
 settings_fit c =
-    let at = c.before.before.before.before.before in
-    omega (arith, c.before.shared-slice-known2.given (get_or at.before.before.before.args.t3 at.loop.i none).number)
+    let at = c in
+    omega (arith, c.shared_slice_known-in-loop-i-1.given (get_or at.args.entries at.loop-i.i none).number)
 
 -- the line's room
-line_room : (c : tie.After-struct-known2 invariant_loop decreases_loop) → let at = c.before.before.before.before.before in
-    at.loop.next + length (line at.loop.invariant) ≤ length at.loop.text
+line_room : (c : tie.After-struct_known-in-loop-i-1 invariant_loop decreases_loop) → let at = c in
+    at.loop-i.next + length (line at.loop-i.invariant) ≤ length at.loop-i.text
 line_room c =
-    let at = c.before.before.before.before.before in
-    room at.loop.invariant c.before.before.before.before.loop-test.true at.before.before.before.requires.1
+    let at = c in
+    room at.loop-i.invariant c.loop-i-test.true at.requires.1
 
-part_start : tie.Need-overflow-sub-put-three invariant_loop decreases_loop
+part_start : tie.Need-slice_bounds-put_three-count invariant_loop decreases_loop
 part_start c = omega (arith, line_room c)
 
-next_fits : tie.Need-overflow-add-next invariant_loop decreases_loop
+next_fits : tie.Need-overflow_add-next invariant_loop decreases_loop
 next_fits c =
-    let put = c.before.before in
-    let at = put.before.before.before.before.before.before.before in
-    let fits = at.before.before.before.well-formed.1.1.1.0.0 in
-    omega (arith, line_room put.before.before, put.put_three.ensures.0, puts_length at.loop.invariant.puts, fits)
+    let put = c in
+    let at = put in
+    let fits = at.well_formed.1.1.1.0.0 in
+    omega (arith, line_room put.before.before.before.before, put.put_three-length.ensures.0, puts_length at.loop-i.invariant.puts, fits)
 
-loop_again : tie.Need-loop-preserved invariant_loop decreases_loop
+loop_again : tie.Need-loop-i-preserved invariant_loop decreases_loop
 loop_again c =
-    let put = c.before.before in
-    let tested = put.before.before.before.before.before.before in
-    let at = tested.before in
-    let puts = part_puts at.loop.text (part_start put.before.before) put.put_three.ensures.0 put.put_three.ensures.1 in
-    turn at.loop.invariant tested.loop-test.true puts
+    let put = c in
+    let tested = put in
+    let at = tested in
+    let puts = part_puts at.loop-i.text (part_start put.before.before.before.before) put.put_three-length.ensures.0 put.put_three-length.ensures.1 in
+    turn at.loop-i.invariant tested.loop-i-test.true puts
 
 pub put_entries_spec : {M : Type 1} → statement M
 put_entries_spec =
@@ -122,9 +122,9 @@ put_entries_spec =
     decreases_loop
     loop_holds
     (λ c. omega arith)
-    (λ c. omega (arith, c.before.before.before.before.requires.0.few))
+    (λ c. omega (arith, c.requires.0.few))
     (λ c. search rules)
-    (λ c. omega (arith, c.struct_known.given))
+    (λ c. omega (arith, c.struct_known-1.given))
     settings_there
     (λ c. search rules)
     settings_fit
@@ -136,5 +136,5 @@ put_entries_spec =
     (λ c. omega arith)
     (λ c. omega arith)
     loop_again
-    (λ c. puts_length c.before.loop.invariant.puts)
-    (λ c. done c.before.loop.invariant (omega arith)))
+    (λ c. puts_length c.loop-i.invariant.puts)
+    (λ c. done c.loop-i.invariant (omega arith)))

@@ -7,10 +7,10 @@ use Rattle.matching.specs.Answer.{refused_text}
 use Rattle.matching.proofs.lines.put_refusal.Statement.{statement}
 use Rattle.matching.proofs.lines.put_refusal.Tie as tie
 
-puts : (c : tie.After-put-refused) → let start = c.before.before.before.before in
-    Puts (refused_text start.args.cause) 0 start.args.text.now c.Put-refused.new.1.0 c.Put-refused.result
+puts : (c : tie.After-put_refused) → let start = c in
+    Puts (refused_text start.args.cause) 0 start.args.text.now c.put_refused.new.text c.put_refused.result
 puts c =
-    puts_same (ap refused_line c.before.before.number.ensures) (front_puts c.Put-refused.ensures.0 c.Put-refused.ensures.1)
+    puts_same (ap refused_line c.number.ensures) (front_puts c.put_refused.ensures.0 c.put_refused.ensures.1)
 
 pub put_refusal_spec : {M : Type 1} → statement M
 put_refusal_spec =

@@ -14,26 +14,26 @@ use Rattle.matching.proofs.parts.check_k.Statement.{statement}
 use Rattle.matching.proofs.parts.check_k.Tie as tie
 
 -- the test of a k that is there
-tested : (c : tie.After-is-neighbour-count) → let args = c.before.before.before.before.args in
-    first (k_causes args.n args.rest.now) ≡ cond c.is-neighbour-count.result Accepted (Refused Neighbours)
+tested : (c : tie.After-is_neighbour_count) → let args = c.args in
+    first (k_causes args.n args.rest.now) ≡ cond c.is_neighbour_count.result Accepted (Refused Neighbours)
 tested c =
-    let args = c.before.before.before.before.args in
-    k_tested args.n args.rest.now c.before.before.if1.false
+    let args = c.args in
+    k_tested args.n args.rest.now c.if-rest-lt-K_LENGTH.false
     ∙ ap (λ (t : Bool). cond t Accepted (Refused Neighbours))
-    (ap (λ (k : ℕ). leb 1 k && leb k args.n) (sym c.before.u16-at.ensures) ∙ sym c.is-neighbour-count.ensures)
+    (ap (λ (k : ℕ). leb 1 k && leb k args.n) (sym c.u16_at.ensures) ∙ sym c.is_neighbour_count.ensures)
 
-returns : tie.Need-returns
-returns c = sym (k_truncated c.before.before.args.n c.before.before.args.rest.now c.if1.true)
+returns : tie.Need-returns-then-rest-lt-K_LENGTH
+returns c = sym (k_truncated c.args.n c.args.rest.now c.if-rest-lt-K_LENGTH.true)
 
-returns_2 : tie.Need-returns-2
+returns_2 : tie.Need-returns-then-not-is_neighbour_count
 returns_2 c =
     sym (tested c.before
-    ∙ ap (λ (t : Bool). cond t Accepted (Refused Neighbours)) (not-true c.before.is-neighbour-count.result c.if2.true))
+    ∙ ap (λ (t : Bool). cond t Accepted (Refused Neighbours)) (not-true c.is_neighbour_count.result c.if-not-is_neighbour_count.true-raw))
 
-returns_3 : tie.Need-returns-3
+returns_3 : tie.Need-returns
 returns_3 c =
     sym (tested c.before
-    ∙ ap (λ (t : Bool). cond t Accepted (Refused Neighbours)) (not-false c.before.is-neighbour-count.result c.if2.false))
+    ∙ ap (λ (t : Bool). cond t Accepted (Refused Neighbours)) (not-false c.is_neighbour_count.result c.if-not-is_neighbour_count.false-raw))
 
 pub check_k_spec : {M : Type 1} → statement M
 check_k_spec = tie.close (tie.spec returns (λ c κs. search rules) (λ c. search rules) (λ c κs. search rules) returns_2 returns_3)

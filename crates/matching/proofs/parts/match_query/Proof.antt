@@ -25,34 +25,34 @@ use Rattle.matching.specs.Steps.{query_text, ready_dimensions, query_rows}
 use Rattle.matching.proofs.parts.match_query.Statement.{statement}
 use Rattle.matching.proofs.parts.match_query.Tie as tie
 
-query_holds : tie.Need-array-borrow-prefix-query
+query_holds : tie.Need-slice_bounds-query-end
 query_holds c =
-    let start = c.before.before.before in
+    let start = c in
     (between 1 start.args.d max_dimensions (ready_dimensions start.requires.0.0)).below
 
 -- the call's verdict is that of the query's records
-verdict_is : (c : tie.After-query-present) → let start = c.before.before.before.before.before in
-    c.query-present.result.verdict ≡ first (present_causes_of start.args.d start.args.bytes.now)
+verdict_is : (c : tie.After-query_present-taken) → let start = c in
+    c.query_present-taken.result.verdict ≡ first (present_causes_of start.args.d start.args.bytes.now)
 verdict_is c =
-    let start = c.before.before.before.before.before in
-    c.query-present.ensures.0
+    let start = c in
+    c.query_present-taken.ensures.0
     ∙ query_rows start.args.d _ start.args.bytes.now (ready_dimensions start.requires.0.0)
     (length-take-le _ _ (query_holds c.before.before))
 
-abbrev query_back : tie.After-query-present → List ℤ
-query_back c = c.query-present.new.1.1.0
+abbrev query_back : tie.After-query_present-taken → List ℤ
+query_back c = c.query_present-taken.new.components
 
-query_within : tie.Need-array-share-prefix-query
+query_within : tie.Need-slice_bounds-query-end-in-Accepted
 query_within c =
-    let back = c.before.before.before in
-    back_within _ _ (query_back back) (query_holds back.before.before) back.query-present.auto.1.1.0
+    let back = c in
+    back_within _ _ (query_back back.before.before) (query_holds back.before.before.before.before) back.query_present-taken.auto.components
 
 -- the library that is asked
 abbrev given : tie.Start → Library
 given s = library_with s.args.d s.args.b s.args.n s.args.marks.now s.args.settings.now s.args.components.now
 
 -- a query that passes: the components that were shared, and the text
-module _ (c : tie.After-query-present) (is : c.query-present.result.verdict ≡ Accepted) where
+module _ (c : tie.After-query_present-taken) (is : c.query_present-taken.result.verdict ≡ Accepted) where
   abbrev s : tie.Start
   s = c.before.before.before.before.before
 
@@ -62,17 +62,17 @@ module _ (c : tie.After-query-present) (is : c.query-present.result.verdict ≡ 
   components_are : take s.args.d (query_back c ++ drop s.args.d (replicate 32 (pos 0)))
       ≡ components_of s.args.d s.args.bytes.now
   components_are =
-      shared_is _ _ (query_back c) (query_holds c.before.before) c.query-present.auto.1.1.0
-      ∙ c.query-present.ensures.2 ∙ outcome_accepted _ _ (sym c.query-present.ensures.0 ∙ is)
+      shared_is _ _ (query_back c) (query_holds c.before.before) c.query_present-taken.auto.components
+      ∙ c.query_present-taken.ensures.2 ∙ outcome_accepted _ _ (sym c.query_present-taken.ensures.0 ∙ is)
 
-  word_is : c.query-present.result.word ≡ word_of s.args.d s.args.bytes.now
-  word_is = c.query-present.ensures.1 ∙ outcome_accepted _ _ (sym c.query-present.ensures.0 ∙ is)
+  word_is : c.query_present-taken.result.word ≡ word_of s.args.d s.args.bytes.now
+  word_is = c.query_present-taken.ensures.1 ∙ outcome_accepted _ _ (sym c.query_present-taken.ensures.0 ∙ is)
 
   -- what the search is asked
   abbrev asked : Query
   asked = record {
     components = take s.args.d (query_back c ++ drop s.args.d (replicate 32 (pos 0)));
-    word = c.query-present.result.word;
+    word = c.query_present-taken.result.word;
   }
 
   asked_is : asked ≡ read_query s.args.d s.args.bytes.now
@@ -83,30 +83,30 @@ module _ (c : tie.After-query-present) (is : c.query-present.result.verdict ≡ 
 
 answer_requires : tie.Need-answer-requires
 answer_requires c κs =
-    let told = c.before.before in
-    let back = told.before.before.before in
-    let is = told.enum_told.given.1 in
-    let s = back.before.before.before.before.before in
+    let told = c in
+    let back = told in
+    let is = told.in-Accepted.is in
+    let s = back in
     let ready = s.requires.0.0 in
-    let size = ap length (components_are back is) ∙ components_length s.args.d s.args.bytes.now in
-    let components = ap are_components (components_are back is) ∙ present_components s.args.d s.args.bytes.now (passes back is) in
-    let present = ap (λ (w : ℕ). first (word_causes s.args.d w)) (word_is back is) ∙ word_passes s.args.d s.args.bytes.now (passes back is) in (
+    let size = ap length (components_are back.before.before.before.before is) ∙ components_length s.args.d s.args.bytes.now in
+    let components = ap are_components (components_are back.before.before.before.before is) ∙ present_components s.args.d s.args.bytes.now (passes back.before.before.before.before is) in
+    let present = ap (λ (w : ℕ). first (word_causes s.args.d w)) (word_is back.before.before.before.before is) ∙ word_passes s.args.d s.args.bytes.now (passes back.before.before.before.before is) in (
       ready.of_packing,
-      (ready.of_search (asked back is) s.args.k size components present s.requires.0.1, (ready.of_settings, rw (text_is back is) s.requires.1)),
+      (ready.of_search (asked back.before.before.before.before is) s.args.k size components present s.requires.0.1, (ready.of_settings, rw (text_is back.before.before.before.before is) s.requires.1)),
     )
 
-returns : tie.Need-returns
+returns : tie.Need-returns-in-Accepted
 returns c =
-    let put = c.before.before in
-    let told = put.before.before.before in
-    puts_same (text_is told.before.before.before told.enum_told.given.1) put.answer.ensures
+    let put = c in
+    let told = put in
+    puts_same (text_is told.before.before.before.before.before.before.before told.in-Accepted.is) put.answer.ensures
 
-returns_2 : tie.Need-returns-2
+returns_2 : tie.Need-returns-in-Refused
 returns_2 c =
-    let put = c.before.before in
-    let back = put.before.before.before.before.before.before in
-    let refused = sym (verdict_is back) ∙ put.before.before.before.verdict.given.1 in
-    puts_same (sym (outcome_refused _ refused_text refused)) put.put-refusal.ensures
+    let put = c in
+    let back = put in
+    let refused = sym (verdict_is back.before.before.before.before.before.before) ∙ put.in-Refused.is in
+    puts_same (sym (outcome_refused _ refused_text refused)) put.put_refusal.ensures
 
 pub match_query_spec : {M : Type 1} → statement M
 match_query_spec =
@@ -121,7 +121,7 @@ match_query_spec =
     answer_requires
     (λ c. search rules)
     (λ c κs. search rules)
-    (λ c. puts_length c.before.before.answer.ensures)
+    (λ c. puts_length c.answer.ensures)
     returns
-    (λ c. puts_length c.before.before.put-refusal.ensures)
+    (λ c. puts_length c.put_refusal.ensures)
     returns_2)

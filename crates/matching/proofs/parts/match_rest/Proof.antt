@@ -18,14 +18,14 @@ use Rattle.matching.proofs.parts.match_rest.Statement.{statement}
 use Rattle.matching.proofs.parts.match_rest.Tie as tie
 
 -- k passes
-accepted : (c : tie.After-enum-told) → let start = c.before.before.before.before.before.before in
+accepted : (c : tie.In-Accepted) → let start = c in
     first (k_causes start.args.n start.args.rest.now) ≡ Accepted
-accepted c = sym c.before.before.check-k.ensures ∙ c.enum_told.given.1
+accepted c = sym c.check_k.ensures ∙ c.in-Accepted.is
 
-there : (c : tie.After-u16-at) → let start = c.before.before.before.before.before.before.before in
+there : (c : tie.After-u16_at-k) → let start = c in
     k_length ≤ length start.args.rest.now
 there c =
-    let start = c.before.before.before.before.before.before.before in
+    let start = c in
     k_there start.args.n start.args.rest.now (accepted c.before)
 
 -- the library that is asked
@@ -33,38 +33,38 @@ abbrev given : tie.Start → Library
 given s = library_with s.args.d s.args.b s.args.n s.args.marks.now s.args.settings.now s.args.components.now
 
 -- k and the bytes behind it
-text_is : (c : tie.After-u16-at) → let s = c.before.before.before.before.before.before.before in let rest = s.args.rest.now in
-    query_text (given s) c.u16-at.result (take (length rest - k_length) (drop k_length rest)) ≡ rest_text (given s) rest
+text_is : (c : tie.After-u16_at-k) → let s = c in let rest = s.args.rest.now in
+    query_text (given s.before.before.before.before.before.before) c.u16_at-k.result (take (length rest - k_length) (drop k_length rest)) ≡ rest_text (given s.before.before.before.before.before.before) rest
 text_is c =
-    let s = c.before.before.before.before.before.before.before in
+    let s = c in
     let rest = s.args.rest.now in
-    ap₂ (λ (k : ℕ) (bytes : List ℕ). query_text (given s) k bytes) c.u16-at.ensures (part_to_end rest k_length)
-    ∙ sym (k_passes (given s) rest (accepted c.before))
+    ap₂ (λ (k : ℕ) (bytes : List ℕ). query_text (given s.before.before.before.before.before.before) k bytes) c.u16_at-k.ensures (part_to_end rest k_length)
+    ∙ sym (k_passes (given s.before.before.before.before.before.before) rest (accepted c.before))
 
-match_query_requires : tie.Need-match-query-requires
+match_query_requires : tie.Need-match_query-requires
 match_query_requires c κs =
-    let u = c.before.before in
-    let s = u.before.before.before.before.before.before.before in
+    let u = c in
+    let s = u in
     let among =
-    ap (λ (k : ℕ). leb 1 k && leb k s.args.n) u.u16-at.ensures ∙ k_among s.args.n s.args.rest.now (accepted u.before) in
-    ((s.requires.0, among), rw (text_is u) s.requires.1)
+    ap (λ (k : ℕ). leb 1 k && leb k s.args.n) u.u16_at-k.ensures ∙ k_among s.args.n s.args.rest.now (accepted u.before.before.before) in
+    ((s.requires.0, among), rw (text_is u.before.before) s.requires.1)
 
 -- k is refused
-refused_is : (c : tie.After-cause) → let s = c.before.before.before.before.before.before in
-    rest_text (given s) s.args.rest.now ≡ refused_text c.cause.given.0.0
+refused_is : (c : tie.In-Refused) → let s = c in
+    rest_text (given s.before.before.before.before.before) s.args.rest.now ≡ refused_text c.in-Refused.cause
 refused_is c =
-    let s = c.before.before.before.before.before.before in
-    k_refused (given s) s.args.rest.now (sym c.before.before.check-k.ensures ∙ c.cause.given.1)
+    let s = c in
+    k_refused (given s.before.before.before.before.before) s.args.rest.now (sym c.check_k.ensures ∙ c.in-Refused.is)
 
-returns : tie.Need-returns
+returns : tie.Need-returns-in-Accepted
 returns c =
-    let put = c.before.before in
-    puts_same (text_is put.before.before.before) put.match-query.ensures
+    let put = c in
+    puts_same (text_is put.before.before.before.before.before) put.match_query.ensures
 
-returns_2 : tie.Need-returns-2
+returns_2 : tie.Need-returns-in-Refused
 returns_2 c =
-    let put = c.before.before in
-    puts_same (sym (refused_is put.before.before.before)) put.put-refusal.ensures
+    let put = c in
+    puts_same (sym (refused_is put.before.before.before.before)) put.put_refusal.ensures
 
 pub match_rest_spec : {M : Type 1} → statement M
 match_rest_spec =
@@ -80,7 +80,7 @@ match_rest_spec =
     match_query_requires
     (λ c. search rules)
     (λ c κs. search rules)
-    (λ c. puts_length c.before.before.match-query.ensures)
+    (λ c. puts_length c.match_query.ensures)
     returns
-    (λ c. puts_length c.before.before.put-refusal.ensures)
+    (λ c. puts_length c.put_refusal.ensures)
     returns_2)

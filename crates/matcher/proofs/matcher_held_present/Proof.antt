@@ -1,8 +1,0 @@
--- `matcher_held_present` meets its contract: the reading made is the one named. Assumes nothing.
-use borrow.Author.Rules.{rules}
-use Rattle.matcher.proofs.matcher_held_present.Statement.{statement}
-use Rattle.matcher.proofs.matcher_held_present.Tie as tie
-
-pub matcher_held_present_spec : {M : Type 1} → statement M
-matcher_held_present_spec =
-    tie.close (tie.spec (λ c κs. search rules) (λ c κs. search rules) (λ c. rw (← c.before.before.before.held-bits.ensures) c.put-presence.ensures))

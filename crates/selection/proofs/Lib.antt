@@ -1,0 +1,10 @@
+pub mod Theorems
+pub mod Loop
+pub mod Scan
+pub mod Steps
+pub mod Exact
+pub mod Stable
+pub mod Changed
+pub mod Needed
+pub mod Least
+pub mod Candidates

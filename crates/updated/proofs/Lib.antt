@@ -1,0 +1,2 @@
+pub mod NeverOutside
+pub mod Follows
