@@ -1,42 +1,16 @@
 -- So a search of a library remade is refused as before, and leaves the entries that it left. Assumes nothing.
-use Rattle.std.specs.Prelude.{◌≡◌, true, not, List, ℤ, pos, length, get_or}
-use Rattle.std.proofs.Math.Path.{refl}
-use Rattle.std.proofs.Common.{sym, ap, ◌∙◌, inl, inr, eq-or-lt_of_le, mod-lt}
-use Rattle.std.proofs.Math.Bool.{and-eq-true_iff}
-use Prim.Native.Nat.{ℕ, zero, suc, ◌+◌, ◌*◌, ◌%◌, ◌^◌, ◌≤◌, ◌<◌}
-use Rattle.std.proofs.Math.Nat.{zero-mod}
-use native.Mathlib.Omega.{arith}
-use borrow.Author.Tests.{eq-eqb}
-use Rattle.std.specs.Int.Signed.{le_z, lt_z}
-use Rattle.refusal.specs.declared.Refusal.TheVariants.{Dimension, Bits, Count}
-use Rattle.refusal.specs.declared.Verdict.TheVariants.{Accepted}
-use Rattle.refusal.specs.First.{first, any, passed, accepted_if_none}
-use Rattle.limits.specs.Limits.{is_component, is_dimension_count, is_bits, is_vector_count}
-use Rattle.signed.specs.Components.{component_at_lem}
-use Rattle.layout.specs.Layout.{bits_of, first_marks}
-use Rattle.layout.specs.Stretch.{shape}
-use Rattle.region.specs.Region.{in_region}
-use Rattle.region.specs.Within.{within}
-use Rattle.partition.specs.Marks.{dimension_marks, good_marks}
-use Rattle.codes.specs.BitLaws.{Bytes}
-use Rattle.codes.specs.Codes.{code_length, code_region}
-use Rattle.codes.specs.PackLaws.{code_region_fits}
-use Rattle.cells.specs.Cells.{vector_at, in_first, Own}
-use Rattle.cells.specs.CellLaws.{vector_component}
-use Rattle.approximation.specs.Vectors.{vectors_inside, vector_codes}
-use Rattle.approximation.specs.VectorCauses.{pack_vectors_causes}
-use Rattle.approximation.specs.OwnCodes.{inside_from_lem, own_good, own_packed}
+use Rattle.std.specs.Prelude.{◌≡◌, true, List}
+use Rattle.std.proofs.Common.{ap}
+use Prim.Native.Nat.{ℕ}
+use Rattle.refusal.specs.First.{first}
+use Rattle.partition.specs.Marks.{good_marks}
+use Rattle.approximation.specs.OwnCodes.{own_good}
 use Rattle.entries.specs.declared.Entry.{Entry}
-use Rattle.search.specs.Search.{Index, Query, Room, searched, search_causes}
+use Rattle.search.specs.Search.{Index, Query, Room, search_causes}
 use Rattle.search.specs.Answer.{search_entries}
-use Rattle.search.specs.Settled.{OwnCodes}
-use Rattle.search.specs.Theorems.{search_is_scan, own_reads}
-use Rattle.marking.specs.Made.{Outer, column, in_order, mark_at, marks_between, scale_ends, made_marks}
-use Rattle.marking.specs.Making.{make_causes, Given, given}
-use Rattle.marking.specs.MadeDimension.{between_at, mark_first, mark_inner, mark_last, on_scale}
-use Rattle.marking.specs.MadeLaws.{between_count, between_part, made_passes, made_inside}
-use Rattle.remade.specs.Former.{former_outers, former_marks, former_passes}
-use Rattle.remade.specs.Remade.{FormerLibrary, new_marks, remade}
+use Rattle.search.specs.Theorems.{own_reads}
+use Rattle.remade.specs.Former.{former_passes}
+use Rattle.remade.specs.Remade.{FormerLibrary, remade}
 use Rattle.remade.proofs.Kept.{facts, new_passes, new_count, remade_codes, remade_own}
 use Rattle.remade.proofs.Neighbours.{remade_neighbours}
 

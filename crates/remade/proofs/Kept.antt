@@ -1,7 +1,7 @@
 -- A library remade has the codes that it had. Assumes nothing.
 use Rattle.std.specs.Prelude.{◌≡◌, true, not, List, ℤ, pos, length, get_or}
 use Rattle.std.proofs.Math.Path.{refl}
-use Rattle.std.proofs.Common.{sym, ap, ◌∙◌, inl, inr, eq-or-lt_of_le, mod-lt}
+use Rattle.std.proofs.Common.{inl, inr, eq-or-lt_of_le, mod-lt}
 use Rattle.std.proofs.Math.Bool.{and-eq-true_iff}
 use Prim.Native.Nat.{ℕ, zero, suc, ◌+◌, ◌*◌, ◌%◌, ◌^◌, ◌≤◌, ◌<◌}
 use Rattle.std.proofs.Math.Nat.{zero-mod}
@@ -18,24 +18,20 @@ use Rattle.layout.specs.Stretch.{shape}
 use Rattle.region.specs.Region.{in_region}
 use Rattle.region.specs.Within.{within}
 use Rattle.partition.specs.Marks.{dimension_marks, good_marks}
-use Rattle.codes.specs.BitLaws.{Bytes}
 use Rattle.codes.specs.Codes.{code_length, code_region}
 use Rattle.codes.specs.PackLaws.{code_region_fits}
 use Rattle.cells.specs.Cells.{vector_at, in_first, Own}
 use Rattle.cells.specs.CellLaws.{vector_component}
-use Rattle.approximation.specs.Vectors.{vectors_inside, vector_codes}
+use Rattle.approximation.specs.Vectors.{vectors_inside}
 use Rattle.approximation.specs.VectorCauses.{pack_vectors_causes}
-use Rattle.approximation.specs.OwnCodes.{inside_from_lem, own_good, own_packed}
-use Rattle.entries.specs.declared.Entry.{Entry}
-use Rattle.search.specs.Search.{Index, Query, Room, searched, search_causes}
-use Rattle.search.specs.Answer.{search_entries}
+use Rattle.approximation.specs.OwnCodes.{inside_from_lem, own_packed}
+use Rattle.search.specs.Search.{Index}
 use Rattle.search.specs.Settled.{OwnCodes}
-use Rattle.search.specs.Theorems.{search_is_scan, own_reads}
-use Rattle.marking.specs.Made.{Outer, column, in_order, mark_at, marks_between, scale_ends, made_marks}
-use Rattle.marking.specs.Making.{make_causes, Given, given}
+use Rattle.marking.specs.Made.{Outer, column, in_order, mark_at, marks_between, scale_ends}
+use Rattle.marking.specs.Making.{Given, given}
 use Rattle.marking.specs.MadeDimension.{between_at, mark_first, mark_inner, mark_last, on_scale}
 use Rattle.marking.specs.MadeLaws.{between_count, between_part, made_passes, made_inside}
-use Rattle.remade.specs.Former.{former_outers, former_marks, former_passes}
+use Rattle.remade.specs.Former.{former_outers}
 use Rattle.remade.specs.Remade.{FormerLibrary, new_marks, remade}
 
 -- ---- a component of a region between any outer marks is in the same region between the ends of the scale

@@ -1,7 +1,7 @@
 -- The two round trips of the library file: what was written loads to the same, what was loaded is written to the same bytes. That each
 -- library has one encoding follows in proofs/OneEncoding.antt. Assumes nothing.
 use Rattle.std.specs.Prelude.{◌≡◌, List, ◌++◌, ℕ, ◌^◌, ◌<◌, length, get_or, take}
-use Rattle.std.proofs.Common.{sym, ◌∙◌}
+use Rattle.std.proofs.Common.{sym}
 use Rattle.refusal.specs.declared.Verdict.TheVariants.{Accepted}
 use Rattle.refusal.specs.First.{first}
 use Rattle.records.specs.Bytes.{AreBytes}

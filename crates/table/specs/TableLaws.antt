@@ -12,7 +12,7 @@ use Rattle.std.proofs.Math.Seq.{get_or-append-add}
 use Rattle.refusal.specs.declared.Verdict.{Verdict}
 use Rattle.refusal.specs.declared.Verdict.TheVariants.{Accepted, Refused}
 use Rattle.refusal.specs.First.{first, outcome, outcome_accepted}
-use Rattle.limits.specs.Limits.{max_dimensions, max_dimension_bits}
+use Rattle.limits.specs.Limits.{max_dimension_bits}
 use Rattle.signed.specs.Components.{are_components}
 use Rattle.layout.specs.Layout.{mark_count, first_marks}
 use Rattle.layout.specs.Laws.{marks_le, marks_within, first_next_marks}

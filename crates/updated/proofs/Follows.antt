@@ -1,37 +1,24 @@
 -- What follows from the promises of adding and removing (specs/Updates.antt): the codes after them are the vectors' own where the old ones
 -- were, so the search gives what is due; and 8 never occurs in adding where the outer marks are at the ends of the scale. Assumes nothing.
-use Rattle.std.specs.Prelude.{◌≡◌, refl, Bool, true, false, cond, List, [], ◌∷◌, ℕ, suc, ◌-◌, ◌*◌, ◌≤◌, ◌<◌, ltb, ℤ, length, get_or, take}
-use Rattle.std.proofs.Common.{sym, ap, ◌∙◌, mul-one, mul-le-mul_right, arith, ltb-true, ltb-false, take_all, drop_at}
-use Rattle.std.proofs.Math.Bool.{and-eq-true_iff}
-use Rattle.std.proofs.Math.ListN.{get_or-append}
-use Rattle.std.proofs.lemmas.List.{get_or_at}
+use Rattle.std.specs.Prelude.{◌≡◌, List, ℕ, suc, ◌-◌, ◌<◌, ℤ, take}
+use Rattle.std.proofs.Common.{◌∙◌}
 use Rattle.refusal.specs.declared.Refusal.TheVariants.{Outside}
 use Rattle.refusal.specs.declared.Verdict.TheVariants.{Accepted, Refused}
-use Rattle.refusal.specs.First.{Row, first}
-use Rattle.limits.specs.Limits.{max_vectors}
-use Rattle.limits.specs.Tests.{between}
+use Rattle.refusal.specs.First.{first}
 use Rattle.order.specs.Pair.{insert}
-use Rattle.order.specs.Counted.{counted}
 use Rattle.layout.specs.Stretch.{shape}
-use Rattle.codes.specs.BitLaws.{Bytes}
-use Rattle.codes.specs.Codes.{code_region}
-use Rattle.cells.specs.Cells.{vector_at, no_empty_codes, Own}
-use Rattle.approximation.specs.Vectors.{vector_codes}
-use Rattle.approximation.specs.VectorCauses.{pack_vectors_causes}
-use Rattle.approximation.specs.OwnCodes.{own_codes, own_packed}
-use Rattle.search.specs.Search.{Index, Query, distance_from, distance_in, scanned, searched}
+use Rattle.approximation.specs.OwnCodes.{own_codes}
+use Rattle.search.specs.Search.{Query, distance_from, searched}
 use Rattle.search.specs.Theorems.{search_is_scan}
 use Rattle.marking.specs.Made.{made_marks}
 use Rattle.updating.specs.declared.Lengths.{Lengths}
-use Rattle.updating.specs.Updated.{CodedLibrary, code_bits, added, without, removed, removed_codes}
-use Rattle.updating.specs.UpdateCauses.{lengths_of, add_causes, remove_causes}
+use Rattle.updating.specs.Updated.{CodedLibrary, added, removed}
+use Rattle.updating.specs.UpdateCauses.{add_causes, remove_causes}
 use Rattle.updating.specs.Accepted.{Addable, addable, Removable, removable}
-use Rattle.updated.specs.ListRows.{row_front, row_one, without_before, without_behind, without_last}
-use Rattle.updated.specs.CodeRows.{code_at, region_same, added_bytes, earlier_bits, earlier_code, taken_back}
-use Rattle.updated.specs.CodeRows.{removed_bytes, code_before, code_behind}
-use Rattle.updated.specs.Fresh.{added_packed, removed_packed}
-use Rattle.updated.specs.After.{packs, removes, added_measured, added_sound, removed_measured, removed_sound}
-use Rattle.updated.specs.Renumbered.{scan_more, without_number, moved_up, scan_without, scan_all_without}
+use Rattle.updated.specs.CodeRows.{added_bytes}
+use Rattle.updated.specs.CodeRows.{removed_bytes}
+use Rattle.updated.specs.After.{added_measured, added_sound, removed_measured, removed_sound}
+use Rattle.updated.specs.Renumbered.{without_number}
 use Rattle.updated.specs.OuterMarks.{EndsOfScale, made_ends}
 use Rattle.updated.specs.Updates.{OwnLibrary, index_in, adding_is_fresh, adding_scan, removing_is_fresh, removing_scan}
 use Rattle.updated.proofs.NeverOutside.{never_outside}

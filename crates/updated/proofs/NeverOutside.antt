@@ -1,8 +1,7 @@
 -- 8 never occurs in adding to a library whose outer marks are at the ends of the scale. Assumes nothing.
-use Rattle.std.specs.Prelude.{◌≡◌, refl, Bool, true, false, not, ◌&&◌, List, [], ◌∷◌, ℕ, suc, ◌+◌, ◌%◌, ◌≤◌, ◌<◌, eqb, ℤ, pos, get_or}
-use Rattle.std.proofs.Common.{sym, ap, ◌∙◌, mod-lt}
+use Rattle.std.specs.Prelude.{◌≡◌, refl, Bool, true, false, not, ◌&&◌, List, [], ◌∷◌, ◌≤◌, eqb, ℤ}
+use Rattle.std.proofs.Common.{sym, ap, ◌∙◌}
 use Rattle.std.proofs.Math.Bool.{and-eq-true_iff}
-use Rattle.std.proofs.Math.Nat.{zero-mod}
 use Rattle.std.proofs.lemmas.Bool.{not-false, eqb-false}
 use Rattle.refusal.specs.declared.Refusal.{Refusal}
 use Rattle.refusal.specs.declared.Refusal.TheVariants.{Dimension, Bits, Count, Length, Component, Mark, Outside, Code, Full}
@@ -11,16 +10,8 @@ use Rattle.refusal.specs.Refusal.{number_of, verdict_number}
 use Rattle.refusal.specs.First.{Row, ◌⇒◌, first, first_next, first_none, apart}
 use Rattle.limits.specs.Limits.{max_dimensions, is_dimension_count}
 use Rattle.limits.specs.Tests.{between}
-use Rattle.signed.specs.Components.{are_components, component_at_lem}
-use Rattle.layout.specs.Layout.{bits_of}
-use Rattle.region.specs.Region.{first_mark, last_mark}
-use Rattle.region.specs.Regions.{within_marks}
-use Rattle.partition.specs.Marks.{dimension_marks}
+use Rattle.signed.specs.Components.{are_components}
 use Rattle.approximation.specs.Vectors.{vectors_inside}
-use Rattle.approximation.specs.OwnCodes.{inside_from_lem}
-use Rattle.marking.specs.Made.{column, in_order, scale_ends, made_marks}
-use Rattle.marking.specs.MadeDimension.{between_first, between_last, on_scale}
-use Rattle.marking.specs.MadeLaws.{between_part}
 use Rattle.updating.specs.declared.Lengths.{Lengths}
 use Rattle.updating.specs.Updated.{CodedLibrary}
 use Rattle.updating.specs.UpdateCauses.{add_causes}

@@ -1,17 +1,8 @@
 -- Outer marks at the ends of the scale (document 02, Slip 2): every component lies inside them. That 8 never occurs in adding follows in
 -- proofs/NeverOutside.antt. Assumes nothing.
-use Rattle.std.specs.Prelude.{◌≡◌, refl, Bool, true, false, not, ◌&&◌, List, [], ◌∷◌, ℕ, suc, ◌+◌, ◌%◌, ◌≤◌, ◌<◌, eqb, ℤ, pos, get_or}
-use Rattle.std.proofs.Common.{sym, ap, ◌∙◌, mod-lt}
-use Rattle.std.proofs.Math.Bool.{and-eq-true_iff}
+use Rattle.std.specs.Prelude.{◌≡◌, true, List, ℕ, suc, ◌+◌, ◌%◌, ◌<◌, ℤ, pos, get_or}
+use Rattle.std.proofs.Common.{mod-lt}
 use Rattle.std.proofs.Math.Nat.{zero-mod}
-use Rattle.std.proofs.lemmas.Bool.{not-false, eqb-false}
-use Rattle.refusal.specs.declared.Refusal.{Refusal}
-use Rattle.refusal.specs.declared.Refusal.TheVariants.{Dimension, Bits, Count, Length, Component, Mark, Outside, Code, Full}
-use Rattle.refusal.specs.declared.Verdict.TheVariants.{Refused}
-use Rattle.refusal.specs.Refusal.{number_of, verdict_number}
-use Rattle.refusal.specs.First.{Row, ◌⇒◌, first, first_next, first_none, apart}
-use Rattle.limits.specs.Limits.{max_dimensions, is_dimension_count}
-use Rattle.limits.specs.Tests.{between}
 use Rattle.signed.specs.Components.{are_components, component_at_lem}
 use Rattle.layout.specs.Layout.{bits_of}
 use Rattle.region.specs.Region.{first_mark, last_mark}
@@ -22,9 +13,6 @@ use Rattle.approximation.specs.OwnCodes.{inside_from_lem}
 use Rattle.marking.specs.Made.{column, in_order, scale_ends, made_marks}
 use Rattle.marking.specs.MadeDimension.{between_first, between_last, on_scale}
 use Rattle.marking.specs.MadeLaws.{between_part}
-use Rattle.updating.specs.declared.Lengths.{Lengths}
-use Rattle.updating.specs.Updated.{CodedLibrary}
-use Rattle.updating.specs.UpdateCauses.{add_causes}
 
 -- Outer marks "are those of Slip 2": each dimension's marks begin and end at the ends of the scale.
 pub record EndsOfScale (d b : ℕ) (marks : List ℤ) : Type 0 where

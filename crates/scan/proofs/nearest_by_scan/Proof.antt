@@ -1,11 +1,9 @@
 -- `nearest_by_scan` meets its contract: the verdict decides whether there is an answer. Assumes nothing.
 use mathlib.Core.Path.{◌≡◌, sym, ap, ◌∙◌}
-use mathlib.Core.List.{List, []}
 use borrow.Author.Rules.{rules}
-use Rattle.refusal.specs.declared.Verdict.TheVariants.{Accepted, Refused}
+use Rattle.refusal.specs.declared.Verdict.TheVariants.{Accepted}
 use Rattle.refusal.specs.declared.Verdict.{Verdict}
 use Rattle.refusal.specs.First.{first, outcome_accepted, outcome_refused}
-use Rattle.entries.specs.declared.Entry.{Entry}
 use Rattle.entries.specs.Entries.{in_array}
 use Rattle.scan.specs.Scanning.{scan_causes}
 use Rattle.scan.specs.Scanned.{scannable}

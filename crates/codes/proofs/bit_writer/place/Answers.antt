@@ -1,11 +1,8 @@
 -- `place` meets its contract: all bits are placed where fewer are left than are free, else as many as are free. Assumes nothing.
-use mathlib.Core.Path.{◌≡◌, refl}
-use Prim.Native.Nat.{ℕ, ◌+◌, ◌-◌, ◌*◌, ◌%◌, ◌^◌, ◌≤◌, ◌<◌, min}
+use Rattle.std.proofs.Common.{◌≡◌, refl, ℕ, ◌+◌, ◌-◌, ◌*◌, ◌%◌, ◌^◌, ◌≤◌, ◌<◌, min, arith}
 use native.Mathlib.Nat.{min-eq_left, min-eq_right, sub_self, div-one}
-use native.Mathlib.Omega.{arith}
 use lib.Pow.{pow_mono, shl_exact, shl_lt, shr_le}
-use Rattle.codes.proofs.bit_writer.place.Statement.{statement}
-use Rattle.codes.proofs.bit_writer.place.Tie as tie
+use Rattle.codes.proofs.bit_writer.place.Goals as goal
 
 -- the bits of a byte, with c places behind them
 module _ (byte free c : ℕ) (small : byte < 2 ^ (8 - free)) (few : c ≤ 8) where
@@ -23,21 +20,24 @@ number_lt x left own few =
     let power : 2 ^ left ≤ 2 ^ 8 = pow_mono few in
     omega arith
 
-add_all : tie.Need-overflow_add-all
-add_all c =
+pub overflow_add-all : goal.overflow_add-all
+overflow_add-all c =
     let a = c.args in
     let pre = c.requires in
     omega (arith, moved_lt a.byte a.free a.left pre.2 pre.1, number_lt a.x a.left pre.0 pre.1)
 
-returns : tie.Need-returns-then-left-free
-returns c =
+pub returns-then-left-free : goal.returns-then-left-free
+returns-then-left-free c =
     let a = c.args in
     let pre = c.requires in
     let all : min a.left a.free ≡ a.left = min-eq_left (omega arith) in
-    rw (all, exact a.byte a.free a.left pre.2 pre.1, sub_self a.left, div-one) (refl, refl)
+    record {
+      count_value = rw all refl;
+      byte_value = rw (all, exact a.byte a.free a.left pre.2 pre.1, sub_self a.left, div-one) refl;
+    }
 
-add_full : tie.Need-overflow_add-full
-add_full c =
+pub overflow_add-full : goal.overflow_add-full
+overflow_add-full c =
     let a = c.args in
     let pre = c.requires in
     omega (
@@ -48,21 +48,12 @@ add_full c =
       shr_le a.x (a.left - a.free),
     )
 
-returns_2 : tie.Need-returns
-returns_2 c =
+pub returns : goal.returns
+returns c =
     let a = c.args in
     let pre = c.requires in
     let most : min a.left a.free ≡ a.free = min-eq_right c.if-left-free.false in
-    rw (most, exact a.byte a.free a.free pre.2 pre.3, c.first_bits.ensures) (refl, refl)
-
-pub place_spec : {M : Type 1} → statement M
-place_spec =
-    tie.close
-    (tie.spec
-    (λ c. omega (arith, c.requires.1))
-    add_all
-    returns
-    (λ c. omega (arith, c.requires.3))
-    (λ c κs. (c.requires.1, c.if-left-free.false))
-    add_full
-    returns_2)
+    record {
+      count_value = rw most refl;
+      byte_value = rw (most, exact a.byte a.free a.free pre.2 pre.3, c.first_bits.ensures) refl;
+    }
