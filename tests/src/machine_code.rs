@@ -49,6 +49,11 @@ impl Code {
         seen
     }
 
+    /// The registers of the floats whose bits a function takes.
+    pub fn taken_from(&self, function: &str) -> BTreeSet<&str> {
+        self.0.get(function).into_iter().flatten().filter_map(Instruction::float_taken).collect()
+    }
+
     /// Where the bits of a float are taken in a function and in all that it calls.
     pub fn bits_taken(&self, function: &str) -> Taken {
         let mut taken = Taken { all: 0, of_a_nan: 0 };
@@ -182,6 +187,13 @@ mod tests {
         }
         assert_eq!(Code::of(&LISTING.replace("jb ", "jae")).bits_taken("call"), told, "a jump the other way");
         assert_eq!(Code::of(&LISTING.replace("mov    $0xd01", "add    $0xd01")).bits_taken("call"), told, "flags lost");
+    }
+
+    #[test]
+    fn a_register_whose_bits_are_taken_is_told() {
+        let code = Code::of(LISTING);
+        assert_eq!(code.taken_from("a::taken").into_iter().collect::<Vec<_>>(), ["%xmm0"]);
+        assert!(code.taken_from("call").is_empty() && code.taken_from("another").is_empty());
     }
 
     #[test]

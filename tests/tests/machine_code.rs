@@ -15,7 +15,7 @@ fn function_at(listing: &str, place: usize) -> &str {
 }
 
 /// The bits of a float are taken, and never those of a NaN: the comparisons that refuse it still stand before. If one of
-/// them were gone, this would be told of each call that comes to it.
+/// those of the very register whose bits are taken were gone, this would be told of each call that comes to it.
 #[test]
 fn no_bits_of_a_nan_are_taken() {
     let library = c::root().join("target/staticlib/libmatcher.a");
@@ -30,6 +30,11 @@ fn no_bits_of_a_nan_are_taken() {
     for (place, _) in listing.match_indices("ucomiss") {
         let without = format!("{}nop    {}", &listing[..place], &listing[place + "ucomiss".len()..]);
         let (without, function) = (Code::of(&without), function_at(&listing, place));
+        // the compiler also compares a copy of the float, and again the float itself before its bits are taken
+        let operands = listing[place..].lines().next().expect("an instruction stands there");
+        if !code.taken_from(function).iter().any(|register| operands.contains(register)) {
+            continue;
+        }
         let concerned: Vec<&str> = CALLS.into_iter().filter(|call| code.reached(call).contains(function)).collect();
         assert!(!concerned.is_empty(), "no call comes to the comparison in {function}");
         for call in concerned {

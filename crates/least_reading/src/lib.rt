@@ -106,6 +106,7 @@ pub(crate) fn search_ready(
 }
 
 // The same with the lower bounds. Nothing is written where a vector that is read refuses.
+#[inline(never)]
 fn search_bounded(
     task: Task,
     query: &[i32],
@@ -149,7 +150,9 @@ fn search_bounded(
     }
 }
 
-// The lower bounds of the codes' cells.
+// The lower bounds of the codes' cells. Their table and the arrays of `search_bounded` are on the stack one after the other, since the
+// compiler joins neither function with `search_ready`.
+#[inline(never)]
 fn lower_bounds(
     d: usize,
     b: usize,
