@@ -12,8 +12,7 @@ fn listed(crates: &str) -> BTreeMap<String, BTreeSet<String>> {
     let words = |text: &str| text.split_whitespace().map(str::to_string).collect();
     // behind the name may stand that it is a static library
     let name = |head: &str| head.split_whitespace().next().unwrap_or_default().to_string();
-    let listed: BTreeMap<String, BTreeSet<String>> =
-        lines.map(|(head, others)| (name(head), words(others))).collect();
+    let listed: BTreeMap<String, BTreeSet<String>> = lines.map(|(head, others)| (name(head), words(others))).collect();
     let inside =
         |others: &BTreeSet<String>| others.iter().filter(|other| listed.contains_key(*other)).cloned().collect();
     listed.iter().map(|(name, others)| (name.clone(), inside(others))).collect()
