@@ -49,11 +49,6 @@ impl Code {
         seen
     }
 
-    /// The registers of the floats whose bits a function takes.
-    pub fn taken_from(&self, function: &str) -> BTreeSet<&str> {
-        self.0.get(function).into_iter().flatten().filter_map(Instruction::float_taken).collect()
-    }
-
     /// Where the bits of a float are taken in a function and in all that it calls.
     pub fn bits_taken(&self, function: &str) -> Taken {
         let mut taken = Taken { all: 0, of_a_nan: 0 };
@@ -90,6 +85,19 @@ impl Instruction {
         (["movd", "vmovd"].contains(&&self.name[..]) && from.starts_with("%xmm") && whole).then_some(from)
     }
 
+    /// The register of a float that is written.
+    fn written(&self) -> Option<&str> {
+        let to = self.operands.rsplit_once(',').map_or(&self.operands[..], |(_, to)| to);
+        (to.starts_with("%xmm") && !self.name.ends_with("comiss") && self.name != "nop").then_some(to)
+    }
+
+    /// The two registers of a float's copy: from where, and to where.
+    fn copied(&self) -> Option<(&str, &str)> {
+        let (from, to) = self.operands.split_once(',')?;
+        (["movaps", "vmovaps"].contains(&&self.name[..]) && from.starts_with("%xmm") && to.starts_with("%xmm"))
+            .then_some((from, to))
+    }
+
     fn compares(&self, registers: &BTreeSet<&str>) -> bool {
         let of = |register: &&str| self.operands.split(',').any(|operand| operand == *register);
         self.name.ends_with("comiss") && registers.iter().any(|register| of(register))
@@ -116,9 +124,19 @@ impl Instruction {
     }
 }
 
+/// Registers of floats, and those that hold nothing but a copy of one of them, which is not written over either where it has a copy.
+fn with_copies<'a>(code: &'a [Instruction], taken: BTreeSet<&'a str>) -> BTreeSet<&'a str> {
+    let writes = |register: &str| code.iter().filter(|instruction| instruction.written() == Some(register)).count();
+    let copies = code.iter().filter_map(Instruction::copied);
+    let of_them = copies.filter(|&(from, to)| taken.contains(from) && writes(to) == 1 && writes(from) <= 1);
+    let of_them: BTreeSet<&str> = of_them.map(|(_, to)| to).collect();
+    taken.union(&of_them).copied().collect()
+}
+
 /// The instructions of a function that can be run if the floats whose bits it takes are NaNs.
 fn reached_by_a_nan(code: &[Instruction]) -> BTreeSet<usize> {
-    let floats: BTreeSet<&str> = code.iter().filter_map(Instruction::float_taken).collect();
+    let taken: BTreeSet<&str> = code.iter().filter_map(Instruction::float_taken).collect();
+    let floats = with_copies(code, taken);
     let (mut seen, mut waiting) = (BTreeSet::new(), vec![(0, false)]);
     while let Some((place, behind_nan)) = waiting.pop() {
         let Some(instruction) = code.get(place).filter(|_| seen.insert((place, behind_nan))) else {
@@ -190,10 +208,16 @@ mod tests {
     }
 
     #[test]
-    fn a_register_whose_bits_are_taken_is_told() {
-        let code = Code::of(LISTING);
-        assert_eq!(code.taken_from("a::taken").into_iter().collect::<Vec<_>>(), ["%xmm0"]);
-        assert!(code.taken_from("call").is_empty() && code.taken_from("another").is_empty());
+    fn a_copy_that_is_compared_counts_as_the_float() {
+        let of_a_copy = LISTING
+            .replace("ucomiss %xmm0,%xmm1", "ucomiss %xmm2,%xmm1")
+            .replace("ucomiss %xmm1,%xmm0", "ucomiss %xmm1,%xmm2");
+        assert_eq!(Code::of(&of_a_copy).bits_taken("call"), Taken { all: 1, of_a_nan: 1 }, "no copy of it");
+        let copied = of_a_copy.replace("   6:\tcmp    $0x1,%eax", "   5:\tmovaps %xmm0,%xmm2\n   6:\tcmp    $0x1,%eax");
+        assert_eq!(Code::of(&copied).bits_taken("call"), Taken { all: 1, of_a_nan: 0 });
+        let written_over =
+            copied.replace("  11:\tmov    $0xd01,%eax", "  10:\tmovaps %xmm3,%xmm2\n  11:\tmov    $0xd01,%eax");
+        assert_eq!(Code::of(&written_over).bits_taken("call"), Taken { all: 1, of_a_nan: 1 }, "another value later");
     }
 
     #[test]

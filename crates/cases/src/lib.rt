@@ -1,2 +1,3 @@
-// Document 01's proved cases: specs/Cases.antt has the table and its one statement.
+// The proved cases: specs/Cases.antt has document 01's, P10 as document 02 has it, as one table under one statement; specs/Further.antt has
+// cases for document 02, and libraries that meet what its theorems ask.
 #![tactic(auto)]

@@ -16,14 +16,14 @@ use Rattle.search.specs.Accepted.{Accepts, best_few, best_size}
 use Rattle.search.specs.Search.{Index, Query, Room, in_own_cells, searched, entry_causes, search_causes}
 
 -- the outcome of a verdict: the answer, its entries, and the read list, which a refusal leaves as it was
-pub record Searches (v : Verdict) (l : Index) (query : Query) (k : ℕ) (r : Found) (reads Reads-then : List ℕ) : Type 0 where
+pub record Searches (v : Verdict) (l : Index) (query : Query) (k : ℕ) (r : Found) (reads reads_then : List ℕ) : Type 0 where
   pub answer : r.answer ≡ search_answer v l query k
   pub entries_are : r.entries ≡ in_array (search_entries v l query k [])
-  pub reads_are : Reads-then ≡ search_reads v l query k reads
+  pub reads_are : reads_then ≡ search_reads v l query k reads
 
 -- where nothing refuses, the first k entries are those of the best
-pub found_front : (l : Index) (query : Query) (k : ℕ) (room : Room) {r : Found} {reads Reads-then : List ℕ} → Accepts l query k room
-    → Searches (first (search_causes l query k room)) l query k r reads Reads-then
+pub found_front : (l : Index) (query : Query) (k : ℕ) (room : Room) {r : Found} {reads reads_then : List ℕ} → Accepts l query k room
+    → Searches (first (search_causes l query k room)) l query k r reads reads_then
     → take k r.entries ≡ entries_of (searched l query k).best
 found_front l query k room held s =
     ap (take k) (s.entries_are ∙ ap in_array (outcome_accepted _ _ held))
@@ -39,8 +39,8 @@ pub behind_entry : (l : Index) (query : Query) (k : ℕ) (room : Room) → first
 behind_entry l query k room accepted = first_append (entry_causes l query k room) (cell_causes l query k) ∙ outcome_accepted _ _ accepted
 
 -- the outcome of an equal verdict
-pub searches_by : {v w : Verdict} {l : Index} {query : Query} {k : ℕ} {r : Found} {reads Reads-then : List ℕ} → w ≡ v
-    → Searches v l query k r reads Reads-then → Searches w l query k r reads Reads-then
+pub searches_by : {v w : Verdict} {l : Index} {query : Query} {k : ℕ} {r : Found} {reads reads_then : List ℕ} → w ≡ v
+    → Searches v l query k r reads reads_then → Searches w l query k r reads reads_then
 searches_by e s = rw e s
 
 -- what a refusal leaves

@@ -43,9 +43,9 @@ pub own_refused : (l : Index) (query : Query) (k : ℕ) (cause : Refusal) → fi
 own_refused l query k cause refused = first_append (entry_rows l query) (cell_causes l query k) ∙ outcome_refused _ _ refused
 
 -- the answer, the entries to fill with their place, and the read list, which stands in its part
-pub record Turned (batch : Batch) (i : ℕ) (r : Turn) (reads Reads-then : List ℕ) : Type 0 where
+pub record Turned (batch : Batch) (i : ℕ) (r : Turn) (reads reads_then : List ℕ) : Type 0 where
   pub answer_is : r.answer ≡ answer_in batch i
   pub entries_are : r.entries ≡ in_array (entries_in batch i [])
   pub start_is : r.start ≡ i * batch.terms.k
   pub count_is : r.count ≡ outcome (verdict_in batch i) batch.terms.k (λ _. 0)
-  pub reads_are : Reads-then ≡ with_part batch.terms.n i (reads_in batch i (part_at batch.terms.n reads i)) reads
+  pub reads_are : reads_then ≡ with_part batch.terms.n i (reads_in batch i (part_at batch.terms.n reads i)) reads

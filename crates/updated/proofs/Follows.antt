@@ -44,7 +44,8 @@ module _ (l : CodedLibrary) (vector : List ℤ) (room : Lengths) (accepted : fir
         (added_measured l vector room accepted setting).exact.of_vectors (added_sound l vector room accepted setting).inside);
   }
 
-  -- A search of the new library gives what the scan of it gives, where the codes were the vectors' own.
+  -- A search of the new library gives what a search of the old one gives, with the new vector's pair put in, cut to k, where the codes were
+  -- the vectors' own.
   pub adding_search : OwnLibrary l → (query : Query) (k : ℕ) → (searched (index_in new) query k).best
       ≡ take k (insert (record { key = distance_from (index_in l) query vector; number = l.n }) (searched (index_in l) query k).best)
   adding_search is query k =
@@ -73,7 +74,8 @@ module _ (l : CodedLibrary) (i : ℕ) (room : Lengths) (accepted : first (remove
         (removed_measured l i room accepted).exact.of_vectors (removed_sound l i room accepted).inside);
   }
 
-  -- A search of the library after it gives what the scan of it gives, where the codes were the vectors' own.
+  -- A search of the library after it for any k gives what a search of the old one for k + 1 gives, without number i, numbers above i less
+  -- one, cut to k, where the codes were the vectors' own.
   pub removing_search : OwnLibrary l → (query : Query) (k : ℕ)
       → (searched (index_in left) query k).best ≡ take k (without_number i (searched (index_in l) query (suc k)).best)
   removing_search is query k =

@@ -1,4 +1,4 @@
--- `four_bytes_lem` meets its contract: each byte is one. Assumes nothing.
+-- `four_bytes` meets its contract: each byte is one. Assumes nothing.
 use Rattle.std.proofs.Common.{◌+◌, ◌*◌, ◌<◌, get_or, refl, arith}
 use Rattle.codes.specs.BitLaws.{Bytes}
 use Rattle.bounds.proofs.bit_buffer.four_bytes.Statement.{statement}

@@ -1,4 +1,4 @@
--- `run_inside_lem` meets its contract: the components passed lie between their marks. Assumes nothing.
+-- `run_inside` meets its contract: the components passed lie between their marks. Assumes nothing.
 use Rattle.std.proofs.Common.{◌≡◌, ℕ, ◌+◌, ◌-◌, ◌*◌, ◌/◌, ◌%◌, ◌^◌, ◌<◌, ◌≤◌, Bool, true, List, length, get_or, ℤ, pos, sym, refl, ◌∙◌, add-one, arith, pow_pos, w32, rules}
 use borrow.Author.Tests.{not-true, not-false}
 use mir.ValLaws.{to_z-of_z}
