@@ -6,3 +6,6 @@ pub mod Inside
 pub mod Regions
 pub mod RegionRun
 pub mod Unpacked
+pub mod Leaves
+pub mod Plain
+pub mod Present

@@ -6,3 +6,5 @@ pub mod CellBounds
 pub mod CellComponents
 pub mod Small
 pub mod Values
+pub mod FullWord
+pub mod Present

@@ -7,3 +7,5 @@ pub mod Theorems
 pub mod Ready
 pub mod Answer
 pub mod Plain
+pub mod Leaves
+pub mod Present

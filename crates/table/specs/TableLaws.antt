@@ -103,7 +103,7 @@ module _ (bound : Bound) (d b : ℕ) (marks : List ℤ) (factors : List ℕ) (qu
       ∙ mod-eq_of_lt (bound_small factors moderate query components bound d b marks good codes i (shape d b shaped).few)
 
 -- functions that agree have the same values
-values_agree : (f g : ℕ → ℕ) → ((j : ℕ) → f j ≡ g j) → (i n : ℕ) → values_from f i n ≡ values_from g i n
+pub values_agree : (f g : ℕ → ℕ) → ((j : ℕ) → f j ≡ g j) → (i n : ℕ) → values_from f i n ≡ values_from g i n
 unfolding values_from
 values_agree f g agree i zero = refl
 values_agree f g agree i (suc n) = rw (agree i, values_agree f g agree (suc i) n)
