@@ -50,10 +50,14 @@ plain_scan_leaves d n k query vectors lent refused =
 -- ---- with every dimension present
 
 module _ (d n k : ℕ) (query vectors : List ℤ) where
-  pub full_word_answer : d ≤ max_dimensions → scan_answer (full_terms d n k) query vectors ≡ plain_scan_answer d n k query vectors
-  full_word_answer few =
+  full_word_scanned : d ≤ max_dimensions
+      → scan k (distances_of d (factors_of (full_word d)) query vectors) (count_from 0 n) ≡ plain_scan_answer d n k query vectors
+  full_word_scanned few =
       scan_agree k (plain_distances d query vectors) (distances_of d (factors_of (full_word d)) query vectors) (count_from 0 n)
       (λ i m. full_distance (factors_of (full_word d)) query (vector_at d vectors i) d (word_full d few))
+
+  pub full_word_answer : d ≤ max_dimensions → scan_answer (full_terms d n k) query vectors ≡ plain_scan_answer d n k query vectors
+  full_word_answer few = full_word_scanned few
 
   module _ (lent : ℕ) where
     -- 19 and 18 never hold: the scan refuses for document 01's causes alone, in their order
@@ -74,5 +78,5 @@ module _ (d n k : ℕ) (query vectors : List ℤ) where
       where
         go : (counts : Bool) → is_dimension_count d ≡ counts
             → scan_leaves (full_terms d n k) query vectors lent refused ≡ plain_scan_leaves d n k query vectors lent refused
-        go true is = rw (full_word_scan_verdict, full_word_answer (between 1 d max_dimensions is).below) refl
+        go true is = rw (full_word_scan_verdict, full_word_scanned (between 1 d max_dimensions is).below) refl
         go false none = rw (full_word_scan_verdict, first_here {test = not (is_dimension_count d)} Dimension _ (ap not none)) refl
