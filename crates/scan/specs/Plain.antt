@@ -50,6 +50,7 @@ plain_scan_leaves d n k query vectors lent refused =
 -- ---- with every dimension present
 
 module _ (d n k : ℕ) (query vectors : List ℤ) where
+  -- the least pairs by the distances of present dimensions, which are all
   full_word_scanned : d ≤ max_dimensions
       → scan k (distances_of d (factors_of (full_word d)) query vectors) (count_from 0 n) ≡ plain_scan_answer d n k query vectors
   full_word_scanned few =

@@ -15,6 +15,7 @@ use Rattle.scan.specs.Leaves.{scan_leaves}
 use Rattle.scan.specs.Ranked.{scan_agree}
 
 module _ (t : ScanTerms) (query other : List ℤ) (vectors : List ℤ) (same : SamePresent t.d t.word query other) where
+  -- the least pairs by the distances of either
   same_scanned :
       scan t.k (distances_of t.d (factors_of t.word) other vectors) (count_from 0 t.n)
       ≡ scan t.k (distances_of t.d (factors_of t.word) query vectors) (count_from 0 t.n)
