@@ -1,20 +1,20 @@
 -- "The kit program goes over to both and no longer gives 13" (document 02, Slip 1): no input has the number, and none the text. Assumes
 -- nothing.
-use Rattle.std.specs.Prelude.{◌≡◌, refl, ◌≢◌, true, List, ◌++◌, ℕ, suc, drop}
+use Rattle.std.specs.Prelude.{◌≡◌, refl, ◌≢◌, true, List, ◌++◌, ℕ, zero, suc, drop}
 use Rattle.std.proofs.Common.{ap}
 use Rattle.refusal.specs.declared.Refusal.{Refusal}
 use Rattle.refusal.specs.declared.Refusal.TheVariants.{Stale}
 use Rattle.refusal.specs.declared.Verdict.{Verdict}
 use Rattle.refusal.specs.declared.Verdict.TheVariants.{Accepted, Refused}
 use Rattle.refusal.specs.Refusal.{number_of, verdict_number}
-use Rattle.refusal.specs.First.{first, outcome}
+use Rattle.refusal.specs.First.{Row, first, outcome}
 use Rattle.refusal.proofs.Never.{lacks, lacks_append, never_number}
 use Rattle.refusal.proofs.Numbers.{one_cause}
 use Rattle.layout.specs.Layout.{mark_count, first_marks}
 use Rattle.records.specs.Frame.{frame_causes}
 use Rattle.library.specs.Library.{Library, read_library}
-use Rattle.library.specs.EachLaws.{each_lacks}
-use Rattle.loading.specs.Load.{head_causes, mark_causes, vector_causes, loaded_marks_causes, vectors_causes, end_causes}
+use Rattle.library.specs.Each.{each}
+use Rattle.loading.specs.Load.{head_causes, mark_causes, vector_causes, marks_causes, vectors_causes, end_causes}
 use Rattle.loading.specs.Load.{records_causes as library_causes}
 use Rattle.query.specs.Query.{present_causes_of}
 use Rattle.query.specs.Intakes.{present_causes_lack}
@@ -25,6 +25,12 @@ use Rattle.matching.specs.Match.{behind, k_length, k_of, k_causes, read_query, m
 
 -- ---- the number
 
+-- a cause that none of the lists has
+each_lacks : (cause : Refusal) (n : ℕ) (f : ℕ → List Row) → ((i : ℕ) → lacks cause (f i) ≡ true) → lacks cause (each n f) ≡ true
+unfolding each lacks
+each_lacks cause zero f none = refl
+each_lacks cause (suc n) f none = lacks_append cause (each n f) (f n) (each_lacks cause n f none) (none n)
+
 library_lacks : (l : Library) (bytes : List ℕ) → lacks Stale (library_causes l bytes) ≡ true
 unfolding lacks frame_causes
 library_lacks l bytes =
@@ -32,9 +38,9 @@ library_lacks l bytes =
     each_lacks Stale l.d _
     (λ t. each_lacks Stale (mark_count l.d l.b (suc t)) (mark_causes bytes (first_marks l.d l.b t)) (λ i. refl)) in
     let in_vectors = each_lacks Stale l.n (vector_causes l bytes) (λ i. refl) in
-    let front = lacks_append Stale (head_causes l bytes) (loaded_marks_causes l bytes) refl in_marks in
-    let records = lacks_append Stale (head_causes l bytes ++ loaded_marks_causes l bytes) (vectors_causes l bytes) front in_vectors in
-    lacks_append Stale (head_causes l bytes ++ loaded_marks_causes l bytes ++ vectors_causes l bytes) (end_causes l bytes) records refl
+    let front = lacks_append Stale (head_causes l bytes) (marks_causes l bytes) refl in_marks in
+    let records = lacks_append Stale (head_causes l bytes ++ marks_causes l bytes) (vectors_causes l bytes) front in_vectors in
+    lacks_append Stale (head_causes l bytes ++ marks_causes l bytes ++ vectors_causes l bytes) (end_causes l bytes) records refl
 
 match_lacks : (input : List ℕ) → lacks Stale (match_causes input) ≡ true
 unfolding lacks match_causes
