@@ -7,3 +7,4 @@ pub mod Alike
 pub mod Longest
 pub mod Room
 pub mod Steps
+pub mod NeverStale

@@ -3,3 +3,4 @@ pub mod Intake
 pub mod IntakeLaws
 pub mod Fields
 pub mod Product
+pub mod Intakes
