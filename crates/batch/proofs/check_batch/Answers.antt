@@ -2,7 +2,6 @@
 use mathlib.Core.Path.{◌≡◌, sym, ◌∙◌, ap}
 use mathlib.Core.Bool.{false, not}
 use native.Mathlib.Omega.{arith}
-use borrow.Author.Rules.{rules}
 use borrow.Author.Tests.{le-leb, lt-leb}
 use lib.Dec.{leb}
 use Rattle.refusal.specs.declared.Refusal.TheVariants.{TooManyQueries}
@@ -10,19 +9,19 @@ use Rattle.refusal.specs.First.{first_here, first_next, outcome_accepted, outcom
 use Rattle.limits.specs.Limits.{max_queries}
 use Rattle.layout.specs.Stretch.{shape_causes}
 use Rattle.batch.specs.BatchCauses.{shaped_batch_causes}
-use Rattle.batch.proofs.check_batch.Statement.{statement}
 use Rattle.batch.proofs.check_batch.Tie as tie
+use Rattle.batch.proofs.check_batch.Goals as goal
 
 few : (c : tie.Else-terms-gt-MAX_QUERIES) → not (leb c.args.terms.m max_queries) ≡ false
 few c = ap not (le-leb c.args.terms.m max_queries (omega (arith, c.if-terms-gt-MAX_QUERIES.false)))
 
-returns : tie.Need-returns-then-terms-gt-MAX_QUERIES
-returns c =
+pub returns-then-terms-gt-MAX_QUERIES : goal.returns-then-terms-gt-MAX_QUERIES
+returns-then-terms-gt-MAX_QUERIES c =
     let m = c.args.terms.m in
     sym (first_here TooManyQueries _ (ap not (lt-leb m max_queries (omega (arith, c.if-terms-gt-MAX_QUERIES.true)))))
 
-returns_2 : tie.Need-returns-in-Accepted
-returns_2 c =
+pub returns-in-Accepted : goal.returns-in-Accepted
+returns-in-Accepted c =
     let tested = c in
     let a = tested.args in
     c.check_shaped.ensures
@@ -30,22 +29,13 @@ returns_2 c =
     ∙ first_append (shape_causes a.terms.d a.terms.b) (shaped_batch_causes a.terms a.lengths a.marks.now a.codes.now)
     ∙ outcome_accepted _ _ (sym tested.check_shape.ensures ∙ c.in-Accepted.is))
 
-returns_3 : tie.Need-returns-in-Refused
-returns_3 c =
+pub returns-in-Refused : goal.returns-in-Refused
+returns-in-Refused c =
     let tested = c in
     let a = tested.args in
     sym (first_next TooManyQueries _ (few c.before.before)
     ∙ first_append (shape_causes a.terms.d a.terms.b) (shaped_batch_causes a.terms a.lengths a.marks.now a.codes.now)
     ∙ outcome_refused _ _ (sym tested.check_shape.ensures ∙ c.in-Refused.is))
 
-pub check_batch_spec : {M : Type 1} → statement M
-check_batch_spec =
-    tie.close
-    (tie.spec
-    returns
-    (λ c κs. search rules)
-    (λ c. search rules)
-    (λ c κs. (omega (arith, c.if-terms-gt-MAX_QUERIES.false), sym c.check_shape.ensures ∙ c.in-Accepted.is))
-    (λ c. search rules)
-    returns_2
-    returns_3)
+pub check_shaped-requires : goal.check_shaped-requires
+check_shaped-requires c = (omega (arith, c.if-terms-gt-MAX_QUERIES.false), sym c.check_shape.ensures ∙ c.in-Accepted.is)

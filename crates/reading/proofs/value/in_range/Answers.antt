@@ -9,28 +9,24 @@ use mir.ValLaws.{to_z-of_z}
 use Rattle.limits.specs.Limits.{least_component, greatest_component}
 use Rattle.reading.specs.declared.Intake.TheVariants.{Component}
 use Rattle.reading.proofs.Values.{below_range, above_range, within_range}
-use Rattle.reading.proofs.value.in_range.Statement.{statement}
-use Rattle.reading.proofs.value.in_range.Tie as tie
+use Rattle.reading.proofs.value.in_range.Goals as goal
 
 -- what holds of a number read back holds of the number
 read_back : (P : ℤ → Type 0) {z : ℤ} → SFits w32 z → P (to_z w32 (of_z w32 z)) → P z
 read_back P {z} fits = subst P (to_z-of_z w32 z fits)
 
-returns : tie.Need-returns-then-z-lt-LEAST_COMPONENT
-returns c =
+pub returns-then-z-lt-LEAST_COMPONENT : goal.returns-then-z-lt-LEAST_COMPONENT
+returns-then-z-lt-LEAST_COMPONENT c =
     sym (below_range c.args.z (read_back (λ z. lt_z z least_component ≡ true) c.ranges.z c.if-z-lt-LEAST_COMPONENT.true))
 
-returns_2 : tie.Need-returns-then-z-gt-GREATEST_COMPONENT
-returns_2 c =
+pub returns-then-z-gt-GREATEST_COMPONENT : goal.returns-then-z-gt-GREATEST_COMPONENT
+returns-then-z-gt-GREATEST_COMPONENT c =
     let z = c.args.z in
     sym (above_range z (read_back (λ z. lt_z greatest_component z ≡ true) c.ranges.z c.if-z-gt-GREATEST_COMPONENT.true))
 
-returns_3 : tie.Need-returns
-returns_3 c =
+pub returns : goal.returns
+returns c =
     let z = c.args.z in
     let fits = c.ranges.z in
     ap Component (to_z-of_z w32 z fits)
     ∙ sym (within_range z (read_back (λ z. lt_z z least_component ≡ false) fits c.if-z-lt-LEAST_COMPONENT.false) (read_back (λ z. lt_z greatest_component z ≡ false) fits c.if-z-gt-GREATEST_COMPONENT.false))
-
-pub in_range_spec : {M : Type 1} → statement M
-in_range_spec = tie.close (tie.spec returns returns_2 returns_3)
