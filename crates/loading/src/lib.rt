@@ -67,6 +67,7 @@ pub fn load(bytes: &[u8], marks: &mut [i32], settings: &mut [u32], components: &
 }
 
 // The first cause for which a library is not loaded: the lengths of the buffers are tested, then the records.
+#[tactic(auto, using(std::proofs::lemmas::Bool::Decides::nat_tests), unfolding(refusal::specs::First::first, crate::specs::Load::load_causes))]
 fn check_load(bytes: &[u8], marks: usize, settings: usize, components: usize) -> Verdict
     ensures { result ≡ first (load_causes marks settings components bytes.now) }
 {

@@ -8,6 +8,7 @@ use limits::MAX_VECTORS;
 use refusal::{Refusal, Verdict};
 
 // The lengths of the new buffers come first, and then the limit.
+#[tactic(auto, using(std::proofs::lemmas::Bool::Decides::nat_tests), unfolding(refusal::specs::First::first))]
 pub(crate) fn check_place(exact: bool, n: usize) -> Verdict
     ensures { result ≡ first ((not exact ⇒ Length) ∷ (eqb n max_vectors ⇒ Full) ∷ []) }
 {

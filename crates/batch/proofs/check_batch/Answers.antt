@@ -4,16 +4,16 @@ use mathlib.Core.Bool.{false, not}
 use native.Mathlib.Omega.{arith}
 use borrow.Author.Tests.{le-leb, lt-leb}
 use lib.Dec.{leb}
+use Prim.Native.Nat.{ℕ, ◌≤◌}
 use Rattle.refusal.specs.declared.Refusal.TheVariants.{TooManyQueries}
 use Rattle.refusal.specs.First.{first_here, first_next, outcome_accepted, outcome_refused, first_append}
 use Rattle.limits.specs.Limits.{max_queries}
 use Rattle.layout.specs.Stretch.{shape_causes}
 use Rattle.batch.specs.BatchCauses.{shaped_batch_causes}
-use Rattle.batch.proofs.check_batch.Tie as tie
 use Rattle.batch.proofs.check_batch.Goals as goal
 
-few : (c : tie.Else-terms-gt-MAX_QUERIES) → not (leb c.args.terms.m max_queries) ≡ false
-few c = ap not (le-leb c.args.terms.m max_queries (omega (arith, c.if-terms-gt-MAX_QUERIES.false)))
+few : (m : ℕ) → m ≤ max_queries → not (leb m max_queries) ≡ false
+few m below = ap not (le-leb m max_queries below)
 
 pub returns-then-terms-gt-MAX_QUERIES : goal.returns-then-terms-gt-MAX_QUERIES
 returns-then-terms-gt-MAX_QUERIES c =
@@ -25,7 +25,7 @@ returns-in-Accepted c =
     let tested = c in
     let a = tested.args in
     c.check_shaped.ensures
-    ∙ sym (first_next TooManyQueries _ (few c.before.before.before)
+    ∙ sym (first_next TooManyQueries _ (few a.terms.m (omega arith))
     ∙ first_append (shape_causes a.terms.d a.terms.b) (shaped_batch_causes a.terms a.lengths a.marks.now a.codes.now)
     ∙ outcome_accepted _ _ (sym tested.check_shape.ensures ∙ c.in-Accepted.is))
 
@@ -33,9 +33,9 @@ pub returns-in-Refused : goal.returns-in-Refused
 returns-in-Refused c =
     let tested = c in
     let a = tested.args in
-    sym (first_next TooManyQueries _ (few c.before.before)
+    sym (first_next TooManyQueries _ (few a.terms.m (omega arith))
     ∙ first_append (shape_causes a.terms.d a.terms.b) (shaped_batch_causes a.terms a.lengths a.marks.now a.codes.now)
     ∙ outcome_refused _ _ (sym tested.check_shape.ensures ∙ c.in-Refused.is))
 
 pub check_shaped-requires : goal.check_shaped-requires
-check_shaped-requires c = (omega (arith, c.if-terms-gt-MAX_QUERIES.false), sym c.check_shape.ensures ∙ c.in-Accepted.is)
+check_shaped-requires c = (omega arith, sym c.check_shape.ensures ∙ c.in-Accepted.is)

@@ -50,7 +50,7 @@ returns-then-i-regions c =
     to_z-of_z w32 _ (record { sfits = c.component_of.type_inv })
     ∙ c.component_of.ensures
     ∙ sym (map_at whole_of keys (a.i * length keys / 2 ^ a.w) 0 (pos 0) (place_below a.i (length keys) a.w (among a.i a.w start.requires.0.bits c.if-i-regions.true) start.requires.0.some))
-    ∙ sym (mark_inner scale_ends (length keys) a.w _ a.i (omega (arith, taken.if-i-lt1.false)) (among a.i a.w start.requires.0.bits c.if-i-regions.true))
+    ∙ sym (mark_inner scale_ends (length keys) a.w _ a.i (omega arith) (among a.i a.w start.requires.0.bits c.if-i-regions.true))
 
 pub returns : goal.returns
 returns c =
