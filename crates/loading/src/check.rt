@@ -186,6 +186,7 @@ fn check_vector(bytes: &[u8], d: usize, at: usize, lows: &[i32], highs: &[i32]) 
 }
 
 // The first cause of the components of a vector whose record begins at an index and is whole.
+#[tactic(auto, unfolding(refusal::specs::First::first))]
 fn check_components(bytes: &[u8], d: usize, at: usize, lows: &[i32], highs: &[i32]) -> Verdict
     requires { (Table d lows.now highs.now) × (at + record_length vector_kind ≤ length bytes.now) }
     ensures { result ≡ first (own_causes d lows.now highs.now (drop at bytes.now)) }
