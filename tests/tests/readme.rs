@@ -136,8 +136,7 @@ fn no_refusal_has_another_number() {
     let text = read("docs/FORMAT.md");
     let told = section(&text, "Refusals");
     let source = read("crates/refusal/src/lib.rt");
-    let rows =
-        source.lines().filter_map(|line| line.trim().strip_prefix("Refusal::")?.strip_suffix(',')?.split_once(" => "));
+    let rows = source.lines().filter_map(|line| line.trim().strip_suffix(',')?.split_once(" = "));
     let numbers: Vec<String> = rows.map(|(name, number)| format!("`{name}` {number}")).collect();
     assert_eq!(numbers.len(), 22);
     assert_eq!(numbered(told), numbers, "docs/FORMAT.md, and crates/refusal");
@@ -148,9 +147,8 @@ fn no_record_has_another_kind() {
     let text = read("docs/FORMAT.md");
     let told = section(&text, "Files");
     let source = read("crates/records/src/lib.rt");
-    let kinds = source.lines().filter_map(|line| line.strip_prefix("pub const ")?.split_once(": u32 = "));
-    let kinds: Vec<String> =
-        kinds.map(|(name, kind)| format!("{} {}", name.to_lowercase(), kind.trim_end_matches(';'))).collect();
+    let kinds = source.lines().filter_map(|line| line.trim().strip_suffix(',')?.split_once(" = "));
+    let kinds: Vec<String> = kinds.map(|(name, kind)| format!("{} {kind}", name.to_lowercase())).collect();
     assert_eq!(kinds.len(), 7);
     assert_eq!(numbered(told), kinds, "docs/FORMAT.md, and crates/records");
 }

@@ -14,6 +14,7 @@ use lib.ListN.{length, get_or, take, drop}
 use lib.Pow.{pow_mono}
 use lib.Seq.{drop-cons}
 use Rattle.limits.specs.Limits.{max_dimension_bits}
+use Rattle.layout.specs.declared.Layout.{Layout}
 use Rattle.layout.specs.Layout.{bits_of, region_count, first_marks}
 use Rattle.layout.specs.Laws.{fewest_le, bits_le, marks_within, first_next_marks}
 use Rattle.layout.specs.Stretch.{Shape}
@@ -23,6 +24,9 @@ use Rattle.partition.proofs.Power.{shifted}
 use Rattle.codes.specs.Codes.{next_column}
 use Rattle.codes.proofs.Columns.{next_below}
 use Rattle.approximation.specs.Vectors.{regions_from, inside_from}
+
+pub shaped_by : (l : Layout) → Shape l.d l.b
+shaped_by l = record { some = l.some; few = l.few; bits = l.within }
 
 -- ---- How many regions a column's dimension has
 

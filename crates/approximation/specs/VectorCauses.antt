@@ -1,11 +1,10 @@
 -- The causes for which the regions and the codes of vectors are not given (document 01, "When a call says no"), and what holds where they
 -- are. Assumes nothing.
-use Rattle.std.specs.Prelude.{◌≡◌, true, not, ◌&&◌, List, [], ◌∷◌, ◌++◌, ℕ, ◌*◌, eqb, ℤ, length}
+use Rattle.std.specs.Prelude.{◌≡◌, true, not, ◌&&◌, List, [], ◌∷◌, ◌++◌, ℕ, ◌*◌, eqb, ℤ, length, Ok}
 use Rattle.std.proofs.Math.Bool.{and-eq-true_iff}
 use Rattle.std.proofs.Common.{eqb-true}
 use Rattle.std.proofs.lemmas.Bool.{not-false}
 use Rattle.refusal.specs.declared.Refusal.TheVariants.{Count, Length, Component, Mark, Outside}
-use Rattle.refusal.specs.declared.Verdict.TheVariants.{Accepted}
 use Rattle.refusal.specs.First.{Row, ◌⇒◌, first, passed, accepted_behind}
 use Rattle.limits.specs.Limits.{is_vector_count}
 use Rattle.signed.specs.Components.{are_components}
@@ -47,7 +46,7 @@ pub record Rows (d b n vectors regions : ℕ) : Type 0 where
   pub components : vectors ≡ n * d
   pub numbers : regions ≡ n * d
 
-pub rows : (d b n vectors regions : ℕ) → first (row_causes d b n vectors regions) ≡ Accepted → Rows d b n vectors regions
+pub rows : (d b n vectors regions : ℕ) → first (row_causes d b n vectors regions) ≡ Ok tt → Rows d b n vectors regions
 rows d b n vectors regions accepted =
     let components = eqb vectors (n * d) in
     let numbers = eqb regions (n * d) in
@@ -63,8 +62,8 @@ pub record Inside (d b : ℕ) (marks vectors : List ℤ) : Type 0 where
   pub good : good_marks d b marks ≡ true
   pub inside : vectors_inside d b marks vectors ≡ true
 
-pub inside_marks : (d b : ℕ) (vectors marks : List ℤ) → first (shape_causes d b) ≡ Accepted
-    → first (locate_causes d b vectors marks) ≡ Accepted → Inside d b marks vectors
+pub inside_marks : (d b : ℕ) (vectors marks : List ℤ) → first (shape_causes d b) ≡ Ok tt
+    → first (locate_causes d b vectors marks) ≡ Ok tt → Inside d b marks vectors
 inside_marks d b vectors marks shaped accepted =
     let count = eqb (length marks) (first_marks d b d) in
     let exact = passed (not count) Length _ accepted in

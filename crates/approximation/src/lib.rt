@@ -2,23 +2,23 @@
 #![tactic(auto)]
 
 ghost use Rattle.std.specs.Prelude.{◌≡◌, cond, ◌+◌, ◌^◌, ◌≤◌, ◌<◌, ltb, eqb, length, take};
-ghost use Rattle.refusal.specs.declared.Verdict.TheVariants.{Accepted};
 ghost use Rattle.refusal.specs.First.{first, outcome};
 ghost use Rattle.limits.specs.Limits.{max_dimension_bits};
 ghost use Rattle.layout.specs.Layout.{first_marks};
-ghost use Rattle.layout.specs.Stretch.{shape_causes, Shape};
 ghost use Rattle.codes.specs.Codes.{next_column};
 ghost use Rattle.codes.specs.Pack.{size_causes};
 ghost use Rattle.approximation.specs.Vectors.{vector_regions, vectors_inside, vector_codes};
-ghost use Rattle.approximation.specs.VectorCauses.{row_causes, locate_causes, inside_causes, regions_causes, pack_vectors_causes, Inside};
+ghost use Rattle.approximation.specs.VectorCauses.{locate_causes, inside_causes, regions_causes, pack_vectors_causes, Inside};
 
 use codes::{check_sizes, pack};
+use layout::Layout;
 use limits::{MAX_DIMENSIONS, MAX_VECTORS};
-use refusal::{Refusal, Verdict};
+use refusal::Refusal;
 use region::{in_marks, locate};
 
 // The region numbers of n vectors of d components that stand in a row. Refused are numbers of dimensions, bits or vectors out of their
 // limits, buffers of other lengths, components or marks out of range, marks that fall, and a component outside its dimension's marks.
+#[tactic(auto, using(refusal::specs::First::handed_on), unfolding(refusal::specs::First::first))]
 pub fn regions(
     d: usize,
     b: usize,
@@ -26,25 +26,26 @@ pub fn regions(
     vectors: &[i32],
     marks: &[i32],
     regions: &mut [u8],
-) -> Verdict
+) -> Result<(), Refusal>
     ensures value { result ≡ first (regions_causes d b n vectors.now marks.now (length regions.old)) }
     ensures regions_after { regions.new
         ≡ outcome (first (regions_causes d b n vectors.now marks.now (length regions.old)))
         (vector_regions d b marks.now vectors.now) (λ _. regions.old) }
 {
-    match check_rows(d, b, n, vectors.len(), regions.len()) {
-        Verdict::Accepted => match check_located(d, b, vectors, marks) {
-            Verdict::Accepted => {
-                locate_all(d, b, vectors, marks, regions);
-                Verdict::Accepted
-            }
-            Verdict::Refused(cause) => Verdict::Refused(cause),
-        },
-        Verdict::Refused(cause) => Verdict::Refused(cause),
+    let layout = Layout::new(d, b)?;
+    if !limits::is_vector_count(n) {
+        return Err(Refusal::Count);
     }
+    if vectors.len() != n * d || regions.len() != n * d {
+        return Err(Refusal::Length);
+    }
+    check_located(layout, vectors, marks)?;
+    locate_all(layout, vectors, marks, regions);
+    Ok(())
 }
 
 // The codes of n vectors. Refused is what `regions` refuses, with the codes' length in place of the region numbers'.
+#[tactic(auto, using(refusal::specs::First::handed_on), unfolding(refusal::specs::First::first))]
 pub fn pack_vectors(
     d: usize,
     b: usize,
@@ -52,117 +53,82 @@ pub fn pack_vectors(
     vectors: &[i32],
     marks: &[i32],
     codes: &mut [u8],
-) -> Verdict
+) -> Result<(), Refusal>
     ensures value { result ≡ first (pack_vectors_causes d b n vectors.now marks.now (length codes.old)) }
     ensures codes_after { codes.new
         ≡ outcome (first (pack_vectors_causes d b n vectors.now marks.now (length codes.old)))
         (vector_codes d b n marks.now vectors.now) (λ _. codes.old) }
 {
-    match check_sizes(d, b, n, vectors.len(), codes.len()) {
-        Verdict::Accepted => match check_located(d, b, vectors, marks) {
-            Verdict::Accepted => {
-                put_vectors(d, b, n, vectors, marks, codes);
-                Verdict::Accepted
-            }
-            Verdict::Refused(cause) => Verdict::Refused(cause),
-        },
-        Verdict::Refused(cause) => Verdict::Refused(cause),
-    }
+    let layout = Layout::new(d, b)?;
+    check_sizes(d, b, n, vectors.len(), codes.len())?;
+    check_located(layout, vectors, marks)?;
+    put_vectors(layout, n, vectors, marks, codes);
+    Ok(())
 }
 
 // Whether vectors, however many, lie inside the marks. Refused are numbers of dimensions or bits out of their limits, marks of another
 // length, components or marks out of range, marks that fall, and a component outside its dimension's marks.
-pub fn check_vectors(d: usize, b: usize, vectors: &[i32], marks: &[i32]) -> Verdict
+#[tactic(auto, using(refusal::specs::First::handed_on), unfolding(refusal::specs::First::first))]
+pub fn check_vectors(d: usize, b: usize, vectors: &[i32], marks: &[i32]) -> Result<(), Refusal>
     ensures { result ≡ first (inside_causes d b vectors.now marks.now) }
 {
-    match layout::check_shape(d, b) {
-        Verdict::Accepted => check_located(d, b, vectors, marks),
-        Verdict::Refused(cause) => Verdict::Refused(cause),
-    }
-}
-
-// Whether the numbers of dimensions, bits and vectors are within their limits, and the two buffers rows of d numbers for each vector.
-fn check_rows(d: usize, b: usize, n: usize, vectors: usize, regions: usize) -> Verdict
-    ensures { result ≡ first (row_causes d b n vectors regions) }
-{
-    match layout::check_shape(d, b) {
-        Verdict::Accepted => {
-            if !limits::is_vector_count(n) {
-                return Verdict::Refused(Refusal::Count);
-            }
-            if vectors != n * d {
-                return Verdict::Refused(Refusal::Length);
-            }
-            if regions != n * d {
-                return Verdict::Refused(Refusal::Length);
-            }
-            Verdict::Accepted
-        }
-        Verdict::Refused(cause) => Verdict::Refused(cause),
-    }
+    let layout = Layout::new(d, b)?;
+    check_located(layout, vectors, marks)
 }
 
 // Whether the marks are of the right length, components and marks good, and each component inside its dimension's marks.
-fn check_located(d: usize, b: usize, vectors: &[i32], marks: &[i32]) -> Verdict
-    requires { first (shape_causes d b) ≡ Accepted }
-    ensures { result ≡ first (locate_causes d b vectors.now marks.now) }
+#[tactic(auto, using(refusal::specs::First::handed_on), unfolding(refusal::specs::First::first))]
+fn check_located(layout: Layout, vectors: &[i32], marks: &[i32]) -> Result<(), Refusal>
+    ensures { result ≡ first (locate_causes layout.d layout.b vectors.now marks.now) }
 {
-    if marks.len() != layout::marks_length(d, b) {
-        return Verdict::Refused(Refusal::Length);
+    if marks.len() != layout.marks_length() {
+        return Err(Refusal::Length);
     }
     if !signed::components::are_components(vectors) {
-        return Verdict::Refused(Refusal::Component);
+        return Err(Refusal::Component);
     }
-    match partition::check_marks(d, b, marks) {
-        Verdict::Accepted => {
-            if !vectors_inside(d, b, vectors, marks) {
-                return Verdict::Refused(Refusal::Outside);
-            }
-            Verdict::Accepted
-        }
-        Verdict::Refused(cause) => Verdict::Refused(cause),
+    partition::check_marks(layout.d, layout.b, marks)?;
+    if !vectors_inside(layout, vectors, marks) {
+        return Err(Refusal::Outside);
     }
+    Ok(())
 }
 
 // Whether each component lies inside its dimension's marks.
-fn vectors_inside(d: usize, b: usize, vectors: &[i32], marks: &[i32]) -> bool
-    requires { (Shape d b) × (length marks.now ≡ first_marks d b d) }
-    ensures { result ≡ vectors_inside d b marks.now vectors.now }
+fn vectors_inside(layout: Layout, vectors: &[i32], marks: &[i32]) -> bool
+    requires { length marks.now ≡ first_marks layout.d layout.b layout.d }
+    ensures { result ≡ vectors_inside layout.d layout.b marks.now vectors.now }
 {
-    let fewest = 1usize << (b / d);
-    let more = b % d;
+    let fewest = 1usize << layout.fewest();
+    let more = layout.wider();
     let mut column = 0;
     let mut offset = 0;
-    let mut i = 0;
-    while i < vectors.len() {
+    for z in vectors {
         let end = offset + column_regions(fewest, more, column) + 1;
-        if !in_marks(&marks[offset..end], vectors[i]) {
+        if !in_marks(&marks[offset..end], *z) {
             return false;
         }
-        column = column_behind(d, column);
+        column = column_behind(layout.d, column);
         offset = next_offset(column, end);
-        i += 1;
     }
     true
 }
 
 // The region number of each component, at the front of the buffer.
-fn locate_all(d: usize, b: usize, vectors: &[i32], marks: &[i32], regions: &mut [u8])
-    requires { (Inside d b marks.now vectors.now) × (length vectors.now ≤ length regions.old) }
+fn locate_all(layout: Layout, vectors: &[i32], marks: &[i32], regions: &mut [u8])
+    requires { (Inside layout.d layout.b marks.now vectors.now) × (length vectors.now ≤ length regions.old) }
     ensures { take (length vectors.now) regions.new
-        ≡ vector_regions d b marks.now vectors.now }
+        ≡ vector_regions layout.d layout.b marks.now vectors.now }
 {
-    let fewest = 1usize << (b / d);
-    let more = b % d;
+    let fewest = 1usize << layout.fewest();
+    let more = layout.wider();
     let mut column = 0;
     let mut offset = 0;
-    let mut i = 0;
-    while i < vectors.len() {
+    for (i, z) in vectors.iter().enumerate() {
         let end = offset + column_regions(fewest, more, column) + 1;
-        regions[i] = locate(&marks[offset..end], vectors[i]) as u8;
-        column = column_behind(d, column);
+        regions[i] = locate(&marks[offset..end], *z) as u8;
+        column = column_behind(layout.d, column);
         offset = next_offset(column, end);
-        i += 1;
     }
 }
 
@@ -196,13 +162,13 @@ fn next_offset(column: usize, end: usize) -> usize
 }
 
 // The codes, where nothing refuses: the region numbers are packed.
-fn put_vectors(d: usize, b: usize, n: usize, vectors: &[i32], marks: &[i32], codes: &mut [u8])
-    requires { (first (size_causes d b n (length vectors.now) (length codes.old)) ≡ Accepted)
-        × (Inside d b marks.now vectors.now) }
-    ensures { codes.new ≡ vector_codes d b n marks.now vectors.now }
+fn put_vectors(layout: Layout, n: usize, vectors: &[i32], marks: &[i32], codes: &mut [u8])
+    requires { (first (size_causes layout.d layout.b n (length vectors.now) (length codes.old)) ≡ Ok tt)
+        × (Inside layout.d layout.b marks.now vectors.now) }
+    ensures { codes.new ≡ vector_codes layout.d layout.b n marks.now vectors.now }
 {
     let mut regions = [0u8; MAX_VECTORS * MAX_DIMENSIONS];
     let count = vectors.len();
-    locate_all(d, b, vectors, marks, &mut regions);
-    pack(d, b, n, &regions[..count], codes);
+    locate_all(layout, vectors, marks, &mut regions);
+    pack(layout.d, layout.b, n, &regions[..count], codes).unwrap();
 }

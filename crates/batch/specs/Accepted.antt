@@ -1,12 +1,11 @@
 -- What holds where a batch is not refused whole: each of its queries has the single search's verdict by its own causes alone, and finds its
 -- library ready. Assumes nothing.
-use Rattle.std.specs.Prelude.{◌≡◌, true, List, ℕ, ◌*◌, ◌≤◌, ◌<◌, length, drop}
+use Rattle.std.specs.Prelude.{◌≡◌, true, List, ℕ, ◌*◌, ◌≤◌, ◌<◌, length, drop, Ok, Err}
 use Rattle.std.proofs.Math.Path.{refl}
 use Rattle.std.proofs.Common.{ap, ◌∙◌, arith, leb-true, eqb-true, length-append, length-drop, length-take}
 use Rattle.std.proofs.Math.Bool.{and-eq-true_iff}
 use Rattle.std.proofs.lemmas.Bool.{not-false}
-use Rattle.refusal.specs.declared.Verdict.{Verdict}
-use Rattle.refusal.specs.declared.Verdict.TheVariants.{Accepted, Refused}
+use Rattle.refusal.specs.Refusal.{Verdict}
 use Rattle.refusal.specs.First.{first, passed, accepted_front, accepted_behind}
 use Rattle.limits.specs.Limits.{max_vectors, max_queries, is_vector_count, is_neighbour_count, is_dimension_count, is_bits}
 use Rattle.limits.specs.Tests.{between, neighbours}
@@ -31,7 +30,7 @@ use Rattle.batch.specs.BatchCauses.{lengths_of, exact_batch, shaped_batch_causes
 -- the library is good, and each query has its part
 pub record Batched (batch : Batch) : Type 0 where
   pub few : batch.terms.m ≤ max_queries
-  pub shaped : first (shape_causes batch.terms.d batch.terms.b) ≡ Accepted
+  pub shaped : first (shape_causes batch.terms.d batch.terms.b) ≡ Ok tt
   pub dimensions : is_dimension_count batch.terms.d ≡ true
   pub bits : is_bits batch.terms.d batch.terms.b ≡ true
   pub count : is_vector_count batch.terms.n ≡ true
@@ -52,7 +51,7 @@ pub record Entered (batch : Batch) (answers entries reads : ℕ) : Type 0 where
   pub of_reads : reads ≡ batch.terms.m * batch.terms.n
 
 pub entered : (batch : Batch) (answers entries reads : ℕ)
-    → first (batch_causes batch.terms (lengths_of batch answers entries reads) batch.marks batch.codes) ≡ Accepted
+    → first (batch_causes batch.terms (lengths_of batch answers entries reads) batch.marks batch.codes) ≡ Ok tt
     → Entered batch answers entries reads
 entered batch answers entries reads accepted =
     let t = batch.terms in
@@ -115,7 +114,7 @@ module _ {batch : Batch} (is : Batched batch) (i : ℕ) (below : i < batch.terms
       rw (is.dimensions, is.bits, is.count, is.neighbours, exact, is.marks, is.codes) refl
 
   -- where neither its word nor its components refuse it, it can be read for
-  pub query_ready : first (word_causes batch.terms.d (query_in batch i).word) ≡ Accepted
+  pub query_ready : first (word_causes batch.terms.d (query_in batch i).word) ≡ Ok tt
       → are_components (query_in batch i).components ≡ true
       → Ready (library_in batch) (query_in batch i) batch.terms.k
   query_ready word components =
@@ -149,10 +148,10 @@ pub entries_part : (batch : Batch) (i : ℕ) (part : List Entry) → length part
 entries_part batch i part size = go (verdict_in batch i) refl
   where
     go : (v : Verdict) → verdict_in batch i ≡ v → length (entries_in batch i part) ≡ batch.terms.k
-    go Accepted held =
+    go (Ok _) held =
         rw held (entries_length (searched (library_in batch) (query_in batch i) batch.terms.k).best
         ∙ best_size (library_in batch) (query_in batch i) batch.terms.k (part_room batch) held)
-    go (Refused cause) held = rw held size
+    go (Err cause) held = rw held size
 
 pub reads_part : (batch : Batch) (i : ℕ) (part : List ℕ) → length part ≡ batch.terms.n → length (reads_in batch i part) ≡ batch.terms.n
 reads_part batch i part size = go (verdict_in batch i) refl
@@ -161,7 +160,7 @@ reads_part batch i part size = go (verdict_in batch i) refl
     reading = (searched (library_in batch) (query_in batch i) batch.terms.k).reads
 
     go : (v : Verdict) → verdict_in batch i ≡ v → length (reads_in batch i part) ≡ batch.terms.n
-    go Accepted held =
+    go (Ok _) held =
         rw held (omega (
           arith,
           length-append reading (drop (length reading) part),
@@ -169,4 +168,4 @@ reads_part batch i part size = go (verdict_in batch i) refl
           reads_few (library_in batch) (query_in batch i) batch.terms.k,
           size,
         ))
-    go (Refused cause) held = rw held size
+    go (Err cause) held = rw held size

@@ -1,14 +1,14 @@
 -- A batch of queries (document 02, Slip 5): "up to 64 queries, each with its presence word, and one k". "Otherwise each query has its own
 -- status, read count, entries and read list, equal to what single calls give in turn": so each is said by the single search's definitions,
 -- its buffers being its parts of the lent ones. Assumes nothing.
-use Rattle.std.specs.Prelude.{not, List, [], ◌∷◌, ◌++◌, ℕ, ℤ, get_or}
+use Rattle.std.specs.Prelude.{not, List, [], ◌∷◌, ◌++◌, ℕ, ℤ, get_or, Result}
+use Rattle.refusal.specs.declared.Refusal.{Refusal}
 use Rattle.refusal.specs.declared.Refusal.TheVariants.{Component, Cell}
-use Rattle.refusal.specs.declared.Verdict.{Verdict}
+use Rattle.refusal.specs.Refusal.{Verdict}
 use Rattle.refusal.specs.First.{Row, ◌⇒◌, first, outcome}
 use Rattle.presence.specs.Presence.{word_causes}
 use Rattle.signed.specs.Components.{are_components}
 use Rattle.entries.specs.declared.Entry.{Entry}
-use Rattle.search.specs.declared.Searched.{Searched}
 use Rattle.search.specs.Search.{Index, Query, Room, searched, search_causes, in_own_cells}
 use Rattle.search.specs.Answer.{searched_number, searched_count, search_answer, search_entries, search_reads}
 use Rattle.search.specs.Ready.{room_of}
@@ -57,7 +57,7 @@ abbrev pub verdict_in : Batch → ℕ → Verdict
 verdict_in batch i = first (search_causes (library_in batch) (query_in batch i) batch.terms.k (part_room batch))
 
 -- "an answered query has status 0, a refused one has its number as status, count 0"
-abbrev pub answer_of : Searched → Answer
+abbrev pub answer_of : Result ℕ Refusal → Answer
 answer_of answer = record { status = searched_number answer; count = searched_count answer }
 
 abbrev pub answer_in : Batch → ℕ → Answer

@@ -1,8 +1,7 @@
 -- The theorems of a batch (document 02, Slip 5; demands 2 and 3 of the mission). An answered query is one that the single search does not
 -- refuse (`Answered`), and what it is given is what the single search gives, by definition; so each theorem of the search holds of it.
 -- Assumes nothing.
-use Rattle.std.specs.Prelude.{◌≡◌, ◌≢◌, List, ℕ, ◌+◌, ◌≤◌, ℤ, length}
-use Rattle.refusal.specs.declared.Verdict.TheVariants.{Accepted}
+use Rattle.std.specs.Prelude.{◌≡◌, ◌≢◌, List, ℕ, ◌+◌, ◌≤◌, ℤ, length, Ok}
 use Rattle.order.specs.Members.{◌∈◌}
 use Rattle.selection.specs.Settles.{fixed}
 use Rattle.search.specs.Search.{low_in, high_in, scanned, searched}
@@ -12,7 +11,7 @@ use Rattle.batch.specs.Batch.{Batch, library_in, query_in, part_room, verdict_in
 
 -- the single search does not refuse query i
 abbrev pub Answered : Batch → ℕ → Type 0
-Answered batch i = verdict_in batch i ≡ Accepted
+Answered batch i = verdict_in batch i ≡ Ok tt
 
 module _ (batch : Batch) (i : ℕ) where
   abbrev k : ℕ

@@ -1,11 +1,17 @@
 -- A walk through the regions that a code names, a run of dimensions that have as many bits after the other. Assumes nothing.
 use Rattle.std.proofs.Common.{◌≡◌, ℕ, suc, ◌+◌, ◌-◌, ◌*◌, ◌/◌, ◌%◌, ◌^◌, ◌<◌, ◌≤◌, List, length, sym, le_refl, add-zero, mod-lt, suc-mul, mul-le-mul, zero-mul, add-one, arith, pow_pos}
 use lib.Bits.{bit_and, and_mask}
+use Rattle.limits.specs.Limits.{max_vectors}
+use Rattle.layout.specs.declared.Layout.{Layout}
 use Rattle.layout.specs.Layout.{first_marks}
 use Rattle.layout.specs.Runs.{two_bits, two_marks}
 use Rattle.codes.specs.Bits.{bits_at}
-use Rattle.cells.proofs.Runs.{Sized, regions}
+use Rattle.cells.proofs.Runs.{Sized, sized_shape, regions}
 use Rattle.bounds.specs.BitBuffer.{Waits, Taken}
+
+-- the sizes of code i of a layout
+pub sizes_of : (l : Layout) (i : ℕ) → i < max_vectors → Sized l.d l.b i
+sizes_of l i numbered = sized_shape l.d l.b i (record { some = l.some; few = l.few; bits = l.within }) numbered
 
 -- both runs' bits are there, and their places, of `room` in all
 pub record Runs (d b i codes room : ℕ) : Type 0 where

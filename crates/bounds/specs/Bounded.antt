@@ -1,11 +1,10 @@
 -- The causes for which the bounds of n codes' cells are refused, from a query with its presence word (document 02, Slip 1). Assumes
 -- nothing.
-use Rattle.std.specs.Prelude.{◌≡◌, ℕ, true, not, ◌&&◌, List, [], ◌∷◌, ◌++◌, length, ℤ, ◌==◌, nat_eq}
+use Rattle.std.specs.Prelude.{◌≡◌, ℕ, true, not, ◌&&◌, List, [], ◌∷◌, ◌++◌, length, ℤ, ◌==◌, nat_eq, Ok}
 use Rattle.std.proofs.Math.Bool.{and-eq-true_iff}
 use Rattle.std.proofs.lemmas.Bool.{not-false}
 use Rattle.std.proofs.Common.{eqb-true}
 use Rattle.refusal.specs.declared.Refusal.TheVariants.{Count, Length, Component, Mark, Code}
-use Rattle.refusal.specs.declared.Verdict.TheVariants.{Accepted}
 use Rattle.refusal.specs.First.{Row, ◌⇒◌, first, passed, accepted_front, accepted_behind}
 use Rattle.limits.specs.Limits.{is_vector_count}
 use Rattle.presence.specs.Presence.{word_causes}
@@ -39,7 +38,7 @@ bounds_causes d b n word query marks codes lowers uppers = shape_causes d b ++ s
 
 -- a query, marks that are good, and n codes without a spare bit that is set, of the right lengths
 pub record Bounding (d b n : ℕ) (query marks : List ℤ) (codes : List ℕ) : Type 0 where
-  pub shaped : first (shape_causes d b) ≡ Accepted
+  pub shaped : first (shape_causes d b) ≡ Ok tt
   pub count : is_vector_count n ≡ true
   pub of_query : length query ≡ d
   pub of_marks : length marks ≡ first_marks d b d
@@ -54,7 +53,7 @@ pub record Bounded (d b n : ℕ) (query marks : List ℤ) (codes : List ℕ) (lo
   pub of_uppers : uppers ≡ n
 
 pub bounded : (d b n word : ℕ) (query marks : List ℤ) (codes : List ℕ) (lowers uppers : ℕ)
-    → first (bounds_causes d b n word query marks codes lowers uppers) ≡ Accepted → Bounded d b n query marks codes lowers uppers
+    → first (bounds_causes d b n word query marks codes lowers uppers) ≡ Ok tt → Bounded d b n query marks codes lowers uppers
 bounded d b n word query marks codes lowers uppers accepted =
     let rows = shaped_bounds_causes d b n word query marks codes lowers uppers in
     let given = length query == d && (length marks == first_marks d b d && length codes == code_length b n) in

@@ -1,13 +1,12 @@
 -- The test whether a vector lies in a code's cell, also by runs of dimensions that have as many bits. Assumes nothing.
-use Rattle.std.specs.Prelude.{◌≡◌, ℕ, zero, suc, ◌+◌, ◌-◌, ◌*◌, ◌/◌, ◌%◌, ◌^◌, ◌<◌, ◌≤◌, Bool, true, false, ◌&&◌, List, length, drop, ℤ, pos, ◌==◌, nat_le, nat_lt, slice_index_or, refl}
+use Rattle.std.specs.Prelude.{◌≡◌, ℕ, zero, suc, ◌+◌, ◌-◌, ◌*◌, ◌/◌, ◌%◌, ◌^◌, ◌<◌, ◌≤◌, Bool, true, false, ◌&&◌, List, length, drop, ℤ, pos, ◌==◌, nat_le, nat_lt, slice_index_or, refl, Ok, Err}
 use Rattle.std.proofs.Common.{sym, ◌∙◌, zero-add, le_refl, add-one, eqb-true, eq-eqb, leb-true, le-leb, ltb-true, lt-ltb}
 use Rattle.std.proofs.Math.Bool.{and-true, and_assoc, and-eq-true_iff}
 use Rattle.std.proofs.lemmas.Bool.{false≢true}
 use Rattle.std.proofs.Math.Nat.{add-zero, add-suc}
 use native.Mathlib.Omega.{arith}
 use Rattle.std.proofs.Math.Seq.{get_or-drop}
-use Rattle.refusal.specs.declared.Verdict.{Verdict}
-use Rattle.refusal.specs.declared.Verdict.TheVariants.{Accepted, Refused}
+use Rattle.refusal.specs.Refusal.{Verdict}
 use Rattle.refusal.specs.First.{first, outcome, outcome_accepted}
 use Rattle.limits.specs.Limits.{max_vectors}
 use Rattle.layout.specs.Layout.{first_bits, first_marks, code_length}
@@ -41,7 +40,7 @@ run_inside marks codes w bit start vector (suc t) =
 
 -- what holds of code i where it names a cell
 pub record Cell (d b i marks codes : ℕ) : Type 0 where
-  pub shaped : first (shape_causes d b) ≡ Accepted
+  pub shaped : first (shape_causes d b) ≡ Ok tt
   pub few : i < max_vectors
   pub of_marks : marks ≡ first_marks d b d
   pub there : suc i * b ≤ codes * 8
@@ -54,8 +53,8 @@ named_cell d b i marks codes named = go (first (shape_causes d b)) refl named
     among = nat_lt i max_vectors && (marks == first_marks d b d && nat_le (code_length b (i + 1)) codes)
 
     go : (v : Verdict) → first (shape_causes d b) ≡ v → outcome v among (λ _. false) ≡ true → Cell d b i marks codes
-    go (Refused cause) is holds = absurd (false≢true holds)
-    go Accepted is holds =
+    go (Err cause) is holds = absurd (false≢true holds)
+    go (Ok _) is holds =
         let numbered = (and-eq-true_iff (nat_lt i max_vectors) _).0 holds in
         let lengths = (and-eq-true_iff (marks == first_marks d b d) (nat_le (code_length b (i + 1)) codes)).0 numbered.1 in
         let code : code_length b (i + 1) ≤ codes = leb-true (code_length b (i + 1)) codes lengths.1 in

@@ -1,6 +1,6 @@
 -- All that a call of the bounds leaves. Assumes nothing.
 use Rattle.std.specs.Prelude.{ℕ, List, length, ℤ}
-use Rattle.refusal.specs.declared.Verdict.{Verdict}
+use Rattle.refusal.specs.Refusal.{Verdict}
 use Rattle.refusal.specs.First.{first, outcome}
 use Rattle.presence.specs.Presence.{factors_of}
 use Rattle.distance.specs.Bounds.{weighed_lower, weighed_upper}

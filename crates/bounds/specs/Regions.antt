@@ -1,10 +1,9 @@
 -- The sums of a table's entries over rows of region numbers, and the causes for which they are refused. Assumes nothing.
-use Rattle.std.specs.Prelude.{◌≡◌, ℕ, zero, suc, ◌+◌, ◌*◌, ◌%◌, ◌^◌, not, ◌&&◌, List, [], ◌∷◌, ◌++◌, ◌==◌, nat_eq, slice_index}
+use Rattle.std.specs.Prelude.{◌≡◌, ℕ, zero, suc, ◌+◌, ◌*◌, ◌%◌, ◌^◌, not, ◌&&◌, List, [], ◌∷◌, ◌++◌, ◌==◌, nat_eq, slice_index, Ok}
 use Rattle.std.proofs.Math.Bool.{and-eq-true_iff}
 use Rattle.std.proofs.Common.{eqb-true}
 use Rattle.std.proofs.lemmas.Bool.{not-false}
 use Rattle.refusal.specs.declared.Refusal.TheVariants.{Count, Length}
-use Rattle.refusal.specs.declared.Verdict.TheVariants.{Accepted}
 use Rattle.refusal.specs.First.{Row, ◌⇒◌, first, passed, accepted_front, accepted_behind}
 use Rattle.limits.specs.Limits.{is_vector_count}
 use Rattle.layout.specs.Layout.{first_marks}
@@ -29,8 +28,8 @@ abbrev pub region_sum_causes : ℕ → ℕ → ℕ → ℕ → ℕ → List Row
 region_sum_causes d b table regions n = shape_causes d b ++ row_sum_causes d b table regions n
 
 -- what holds where nothing refuses
-pub regions_summable : (d b table regions n : ℕ) → first (region_sum_causes d b table regions n) ≡ Accepted
-    → (first (shape_causes d b) ≡ Accepted) × (table ≡ first_marks d b d) × (regions ≡ n * d)
+pub regions_summable : (d b table regions n : ℕ) → first (region_sum_causes d b table regions n) ≡ Ok tt
+    → (first (shape_causes d b) ≡ Ok tt) × (table ≡ first_marks d b d) × (regions ≡ n * d)
 regions_summable d b table regions n accepted =
     let rows = row_sum_causes d b table regions n in
     let entries = nat_eq table (first_marks d b d) in

@@ -1,10 +1,9 @@
 -- The causes for which the sums of n codes' entries of a table are refused, and what holds where nothing refuses. Assumes nothing.
-use Rattle.std.specs.Prelude.{◌≡◌, ℕ, ◌*◌, ◌≤◌, not, ◌&&◌, List, [], ◌∷◌, ◌++◌, length, ℤ, ◌==◌, nat_eq}
+use Rattle.std.specs.Prelude.{◌≡◌, ℕ, ◌*◌, ◌≤◌, not, ◌&&◌, List, [], ◌∷◌, ◌++◌, length, ℤ, ◌==◌, nat_eq, Ok}
 use Rattle.std.proofs.Common.{◌∙◌, arith, eqb-true, eq-eqb}
 use Rattle.std.proofs.Math.Bool.{and-eq-true_iff}
 use Rattle.std.proofs.lemmas.Bool.{not-false}
 use Rattle.refusal.specs.declared.Refusal.TheVariants.{Count, Length, Code}
-use Rattle.refusal.specs.declared.Verdict.TheVariants.{Accepted}
 use Rattle.refusal.specs.First.{Row, ◌⇒◌, first, first_append, outcome_accepted, passed, accepted_front, accepted_behind}
 use Rattle.limits.specs.Limits.{max_vectors, is_vector_count}
 use Rattle.limits.specs.Tests.{between}
@@ -25,8 +24,8 @@ counted_causes d b table codes n =
 abbrev pub sum_causes : ℕ → ℕ → ℕ → List ℕ → ℕ → List Row
 sum_causes d b table codes n = shape_causes d b ++ counted_causes d b table codes n
 
-pub summable : (d b table : ℕ) (codes : List ℕ) (n : ℕ) → first (sum_causes d b table codes n) ≡ Accepted
-    → (first (shape_causes d b) ≡ Accepted) × (table ≡ first_marks d b d) × (n ≤ max_vectors) × (n * b ≤ length codes * 8)
+pub summable : (d b table : ℕ) (codes : List ℕ) (n : ℕ) → first (sum_causes d b table codes n) ≡ Ok tt
+    → (first (shape_causes d b) ≡ Ok tt) × (table ≡ first_marks d b d) × (n ≤ max_vectors) × (n * b ≤ length codes * 8)
 summable d b table codes n accepted =
     let rows = counted_causes d b table codes n in
     let marks = nat_eq table (first_marks d b d) in
@@ -43,7 +42,7 @@ summable d b table codes n accepted =
 -- nothing refuses where the bounds are asked for with what they take
 pub sums_accepted : {d b n : ℕ} {query marks : List ℤ} {codes : List ℕ} → Bounding d b n query marks codes → (table : ℕ)
     → table ≡ length marks
-    → first (sum_causes d b table codes n) ≡ Accepted
+    → first (sum_causes d b table codes n) ≡ Ok tt
 unfolding first
 sums_accepted {d} {b} {n} {codes = codes} is table same =
     first_append (shape_causes d b) (counted_causes d b table codes n)

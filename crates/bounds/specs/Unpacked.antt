@@ -1,8 +1,7 @@
 -- The sums over the region numbers that are unpacked from codes are the codes' bounds. Assumes nothing.
-use Rattle.std.specs.Prelude.{◌≡◌, ℕ, zero, suc, ◌+◌, ◌%◌, ◌^◌, ◌<◌, ◌≤◌, List}
+use Rattle.std.specs.Prelude.{◌≡◌, ℕ, zero, suc, ◌+◌, ◌%◌, ◌^◌, ◌<◌, ◌≤◌, List, Ok}
 use Rattle.std.proofs.Math.Path.{refl, ap}
 use Rattle.std.proofs.Common.{le_refl, arith}
-use Rattle.refusal.specs.declared.Verdict.TheVariants.{Accepted}
 use Rattle.refusal.specs.First.{first}
 use Rattle.layout.specs.Stretch.{shape_causes, shape}
 use Rattle.codes.specs.Codes.{unpacked}
@@ -17,7 +16,7 @@ module _ (d b n : ℕ) (table codes : List ℕ) where
   rows_sum some i zero row within = refl
   rows_sum some i (suc t) row within = rw (rows_sum some i t row (omega arith), code_region_lem d b n some codes i t row within)
 
-  module _ (shaped : first (shape_causes d b) ≡ Accepted) where
+  module _ (shaped : first (shape_causes d b) ≡ Ok tt) where
     -- the sum of row i is the bound of code i
     pub regions_bound : (i : ℕ) → i < n → region_sum d b table (unpacked d b n codes) i ≡ bound_sum d b table codes i
     unfolding region_sum bound_sum

@@ -13,6 +13,7 @@ pub struct BitBuffer {
 }
 
 // The buffer of the bits from a place to the end of its byte.
+#[tactic(auto, using(crate::specs::BitBuffer::begins))]
 pub(crate) fn begin(codes: &[u8], from: usize) -> BitBuffer
     ensures { Waits codes.now from result.bits result.count result.next }
 {
@@ -60,7 +61,7 @@ fn fill(codes: &[u8], buffer: BitBuffer, w: usize) -> BitBuffer
         };
     }
     BitBuffer {
-        bits: buffer.bits % 256 * 256 + codes[next] as usize,
+        bits: buffer.bits % 256 * 256 + usize::from(codes[next]),
         count: count + 8,
         next: next + 1,
     }
@@ -71,7 +72,7 @@ fn four_bytes(codes: &[u8], i: usize) -> usize
     requires { i + 4 ≤ length codes.now }
     ensures { (result ≡ four_bytes codes.now i) × (result < 2 ^ 32) }
 {
-    let two = codes[i] as usize * 256 + codes[i + 1] as usize;
-    let three = two * 256 + codes[i + 2] as usize;
-    three * 256 + codes[i + 3] as usize
+    let two = usize::from(codes[i]) * 256 + usize::from(codes[i + 1]);
+    let three = two * 256 + usize::from(codes[i + 2]);
+    three * 256 + usize::from(codes[i + 3])
 }

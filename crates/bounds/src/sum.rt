@@ -1,10 +1,8 @@
 // The bounds of codes, as sums of a table's entries.
 ghost use Rattle.std.specs.Prelude.{◌≡◌, suc, ◌+◌, ◌*◌, ◌%◌, ◌^◌, ◌<◌, ◌≤◌, length};
-ghost use Rattle.refusal.specs.declared.Verdict.TheVariants.{Accepted};
 ghost use Rattle.refusal.specs.First.{first, outcome};
 ghost use Rattle.limits.specs.Limits.{max_vectors};
 ghost use Rattle.layout.specs.Layout.{first_marks};
-ghost use Rattle.layout.specs.Stretch.{shape_causes};
 ghost use Rattle.table.specs.Table.{bound_sum};
 ghost use Rattle.distance.specs.Values.{values_from};
 ghost use Rattle.bounds.specs.Run.{run_sum};
@@ -13,82 +11,82 @@ ghost use Rattle.bounds.specs.Sums.{counted_causes, sum_causes};
 use crate::bit_buffer::{begin, take};
 use crate::cell::exact_lengths;
 use codes::bits::bits_at;
-use refusal::{Refusal, Verdict};
+use layout::Layout;
+use refusal::Refusal;
 
 // The bounds of n codes, by a query's table. Refused are numbers of dimensions, bits or codes out of their limits, other lengths, and a
 // spare bit that is set.
-pub fn sum_bounds(d: usize, b: usize, table: &[u64], codes: &[u8], bounds: &mut [u64]) -> Verdict
+#[tactic(auto, using(refusal::specs::First::handed_on), unfolding(refusal::specs::First::first))]
+pub fn sum_bounds(
+    d: usize,
+    b: usize,
+    table: &[u64],
+    codes: &[u8],
+    bounds: &mut [u64],
+) -> Result<(), Refusal>
     ensures value { result ≡ first (sum_causes d b (length table.now) codes.now (length bounds.old)) }
     ensures bounds_after { bounds.new
         ≡ outcome (first (sum_causes d b (length table.now) codes.now (length bounds.old)))
         (values_from (bound_sum d b table.now codes.now) 0 (length bounds.old))
         (λ _. bounds.old) }
 {
-    let verdict = check_sums(d, b, table.len(), codes, bounds.len());
-    match verdict {
-        Verdict::Accepted => {
-            sum_all(d, b, table, codes, bounds);
-            Verdict::Accepted
-        }
-        Verdict::Refused(cause) => Verdict::Refused(cause),
-    }
+    let layout = Layout::new(d, b)?;
+    check_sums(layout, table.len(), codes, bounds.len())?;
+    sum_all(layout, table, codes, bounds);
+    Ok(())
 }
 
-// Whether there are such bounds, by the table's length.
-fn check_sums(d: usize, b: usize, table: usize, codes: &[u8], n: usize) -> Verdict
-    ensures { result ≡ first (sum_causes d b table codes.now n) }
-{
-    match layout::check_shape(d, b) {
-        Verdict::Accepted => check_counted(d, b, table, codes, n),
-        Verdict::Refused(cause) => Verdict::Refused(cause),
-    }
-}
-
-fn check_counted(d: usize, b: usize, table: usize, codes: &[u8], n: usize) -> Verdict
-    requires { first (shape_causes d b) ≡ Accepted }
-    ensures { result ≡ first (counted_causes d b table codes.now n) }
+// Whether there are such bounds, by the table's length, where d and b are within their limits.
+#[tactic(auto, unfolding(refusal::specs::First::first))]
+fn check_sums(layout: Layout, table: usize, codes: &[u8], n: usize) -> Result<(), Refusal>
+    ensures { result ≡ first (counted_causes layout.d layout.b table codes.now n) }
 {
     if !limits::is_vector_count(n) {
-        return Verdict::Refused(Refusal::Count);
+        return Err(Refusal::Count);
     }
-    if !exact_lengths(d, b, n, d, table, codes.len()) {
-        return Verdict::Refused(Refusal::Length);
+    if !exact_lengths(layout, n, layout.d, table, codes.len()) {
+        return Err(Refusal::Length);
     }
-    if bits_at(codes, n * b, 8) != 0 {
-        return Verdict::Refused(Refusal::Code);
+    if bits_at(codes, n * layout.b, 8) != 0 {
+        return Err(Refusal::Code);
     }
-    Verdict::Accepted
+    Ok(())
 }
 
 // The bounds of as many codes as there is room for, by a table of the right length.
-pub(crate) fn sum_all(d: usize, b: usize, table: &[u64], codes: &[u8], bounds: &mut [u64])
-    requires { (first (shape_causes d b) ≡ Accepted) × (length table.now ≡ first_marks d b d) × (length bounds.old ≤ max_vectors)
-        × (length bounds.old * b ≤ length codes.now * 8) }
+pub(crate) fn sum_all(layout: Layout, table: &[u64], codes: &[u8], bounds: &mut [u64])
+    requires { (length table.now ≡ first_marks layout.d layout.b layout.d) × (length bounds.old ≤ max_vectors)
+        × (length bounds.old * layout.b ≤ length codes.now * 8) }
     ensures { bounds.new
-        ≡ values_from (bound_sum d b table.now codes.now) 0 (length bounds.old) }
+        ≡ values_from (bound_sum layout.d layout.b table.now codes.now) 0 (length bounds.old) }
 {
-    let mut i = 0;
-    while i < bounds.len() {
-        bounds[i] = code_bound(d, b, table, codes, i);
-        i += 1;
+    for (i, bound) in bounds.iter_mut().enumerate() {
+        *bound = code_bound(layout, table, codes, i);
     }
 }
 
 // The bound of code i: the sum of the entries of the regions that it names, those of the dimensions with one bit more, and those of the
 // others.
-fn code_bound(d: usize, b: usize, table: &[u64], codes: &[u8], i: usize) -> u64
-    requires { (first (shape_causes d b) ≡ Accepted) × (length table.now ≡ first_marks d b d) × (i < max_vectors)
-        × (suc i * b ≤ length codes.now * 8) }
-    ensures { result ≡ bound_sum d b table.now codes.now i }
+fn code_bound(layout: Layout, table: &[u64], codes: &[u8], i: usize) -> u64
+    requires { (length table.now ≡ first_marks layout.d layout.b layout.d) × (i < max_vectors)
+        × (suc i * layout.b ≤ length codes.now * 8) }
+    ensures { result ≡ bound_sum layout.d layout.b table.now codes.now i }
 {
-    let fewest = b / d;
-    let more = b % d;
+    let fewest = layout.fewest();
+    let more = layout.wider();
     let wide = fewest + 1;
-    let bit = i * b;
+    let bit = i * layout.b;
     let start = more * ((1usize << wide) + 1);
     let sum = sum_run(table, codes, wide, bit, 0, more);
-    let rest = sum_run(table, codes, fewest, bit + more * wide, start, d - more);
-    std::num::wrapping_add_u64(sum, rest)
+    let rest = sum_run(
+        table,
+        codes,
+        fewest,
+        bit + more * wide,
+        start,
+        layout.d - more,
+    );
+    sum.wrapping_add(rest)
 }
 
 // The sum of the entries of so many dimensions of w bits, whose regions' numbers begin at a bit of the codes, and whose entries at a
@@ -112,14 +110,12 @@ fn sum_run(
     let mask = regions - 1;
     let mut buffer = begin(codes, first_bit);
     let mut start = first_start;
-    let mut sum = 0;
-    let mut t = 0;
-    while t < count {
+    let mut sum = 0u64;
+    for _t in 0..count {
         buffer = take(codes, buffer, w);
         let region = (buffer.bits >> buffer.count) & mask;
-        sum = std::num::wrapping_add_u64(sum, table[start + region]);
+        sum = sum.wrapping_add(table[start + region]);
         start += regions + 1;
-        t += 1;
     }
     sum
 }

@@ -1,12 +1,10 @@
 -- Document 01's cases P1 to P12, P10 as document 02, Slip 2, has it, as one table under one statement. Assumes nothing.
-use Rattle.std.specs.Prelude.{◌≡◌, refl, List, [], ◌∷◌, ℕ, ℤ, pos, negsuc, length, Float}
+use Rattle.std.specs.Prelude.{◌≡◌, refl, List, [], ◌∷◌, ℕ, ℤ, pos, negsuc, length, Float, Ok}
 use Rattle.std.specs.Float.{binary32}
 use Rattle.std.specs.Float.Ieee.{of_bits, odd, of_fields, is_nan}
 use Rattle.refusal.specs.First.{first}
-use Rattle.refusal.specs.declared.Verdict.TheVariants.{Accepted}
 use Rattle.reading.specs.declared.Reading.{Reading}
 use Rattle.reading.specs.declared.Reading.TheVariants.{Fresh, Held}
-use Rattle.reading.specs.declared.Intake.TheVariants.{Component}
 use Rattle.reading.specs.Component.{rounded}
 use Rattle.reading.specs.Intake.{value_intake, intake_of, intake_number}
 use Rattle.presence.specs.Presence.{factor_at, factors_from, factors_of, present_count}
@@ -51,16 +49,16 @@ pub data Case : Type 0 where
 
 -- a case holds: the call that it speaks of is not refused where it gives something, and gives what document 01 says
 abbrev pub Holds : Case → Type 0
-Holds (gives reading component) = intake_of reading ≡ Component component
+Holds (gives reading component) = intake_of reading ≡ Ok component
 Holds (refuses reading number) = intake_number (intake_of reading) ≡ number
 Holds (codes l) =
-    (first (pack_vectors_causes l.d l.b l.n l.vectors l.marks (length l.codes)) ≡ Accepted)
+    (first (pack_vectors_causes l.d l.b l.n l.vectors l.marks (length l.codes)) ≡ Ok tt)
     × (vector_codes l.d l.b l.n l.marks l.vectors ≡ l.codes)
 Holds (makes l marks) =
-    (first (make_causes l.d l.b l.n l.vectors (length marks)) ≡ Accepted) × (made_marks l.d l.b l.n l.vectors ≡ marks)
+    (first (make_causes l.d l.b l.n l.vectors (length marks)) ≡ Ok tt) × (made_marks l.d l.b l.n l.vectors ≡ marks)
 Holds (made_formerly l marks) = former_marks l.d l.b l.n l.vectors ≡ marks
 Holds (finds l query k entries reads) =
-    (first (search_causes l (full_query l query) k (room_of k l.n)) ≡ Accepted)
+    (first (search_causes l (full_query l query) k (room_of k l.n)) ≡ Ok tt)
     × (searched l (full_query l query) k ≡ record { best = entries; reads = reads })
 
 abbrev pub All : List Case → Type 0

@@ -1,9 +1,8 @@
 -- Cases for document 02, which spells out P10 alone: how many dimensions have to be present, a search with one absent, a library remade, a
 -- vector added and one removed. What the theorems about Slips 2 and 3 ask of a library holds of a library here. Assumes nothing.
-use Rattle.std.specs.Prelude.{◌≡◌, refl, List, [], ◌∷◌, ℕ, ℤ, pos, negsuc}
+use Rattle.std.specs.Prelude.{◌≡◌, refl, List, [], ◌∷◌, ℕ, ℤ, pos, negsuc, Ok}
 use Rattle.std.proofs.Common.{lit<}
-use Rattle.refusal.specs.declared.Verdict.TheVariants.{Accepted}
-use Rattle.refusal.specs.Refusal.{verdict_number}
+use Rattle.refusal.specs.Refusal.{status_of}
 use Rattle.refusal.specs.First.{first}
 use Rattle.presence.specs.Presence.{factor_at, factors_from, factors_of, present_count}
 use Rattle.signed.specs.Keys.{key_of}
@@ -52,10 +51,10 @@ pub data FurtherCase : Type 0 where
 abbrev pub FurtherHolds : FurtherCase → Type 0
 FurtherHolds (plain c) = Holds c
 FurtherHolds (finds_present l query k entries reads) =
-    (first (search_causes l query k (room_of k l.n)) ≡ Accepted) × (searched l query k ≡ record { best = entries; reads = reads })
-FurtherHolds (turns_away l query k number) = verdict_number (first (search_causes l query k (room_of k l.n))) ≡ number
-FurtherHolds (grows l vector setting new) = (first (add_causes l vector (lengths_of new)) ≡ Accepted) × (added l vector setting ≡ new)
-FurtherHolds (shrinks l i left) = (first (remove_causes l i (lengths_of left)) ≡ Accepted) × (removed l i ≡ left)
+    (first (search_causes l query k (room_of k l.n)) ≡ Ok tt) × (searched l query k ≡ record { best = entries; reads = reads })
+FurtherHolds (turns_away l query k number) = status_of (first (search_causes l query k (room_of k l.n))) ≡ number
+FurtherHolds (grows l vector setting new) = (first (add_causes l vector (lengths_of new)) ≡ Ok tt) × (added l vector setting ≡ new)
+FurtherHolds (shrinks l i left) = (first (remove_causes l i (lengths_of left)) ≡ Ok tt) × (removed l i ≡ left)
 
 abbrev pub AllFurther : List FurtherCase → Type 0
 AllFurther [] = Unit {0}

@@ -1,11 +1,10 @@
 -- A code's cell, region by region and by the marks buffer's own places. Assumes nothing.
-use Rattle.std.specs.Prelude.{◌≡◌, Bool, true, ◌&&◌, List, ℤ, pos, length, drop, get_or}
+use Rattle.std.specs.Prelude.{◌≡◌, Bool, true, ◌&&◌, List, ℤ, pos, length, drop, get_or, Ok}
 use Rattle.std.proofs.Math.Path.{refl, ap₂}
 use Rattle.std.proofs.Common.{ap, ◌∙◌, arith, length-drop, length-take-le, get_or-take, get_or-drop}
 use Prim.Native.Nat.{ℕ, zero, suc, ◌+◌, ◌*◌, ◌≤◌, ◌<◌}
 use Rattle.std.proofs.Math.Nat.{zero-add}
 use Rattle.std.specs.Int.Signed.{le_z, lt_z}
-use Rattle.refusal.specs.declared.Verdict.TheVariants.{Accepted}
 use Rattle.refusal.specs.First.{first}
 use Rattle.limits.specs.Limits.{max_vectors}
 use Rattle.limits.specs.Tests.{All, all_each}
@@ -41,7 +40,7 @@ cell_region {d} {b} {marks} {codes} {i} {vector} cell t among =
 
 -- what is known where only the codes are left to test
 pub record Named (d b n : ℕ) (codes : List ℕ) : Type 0 where
-  pub shaped : first (shape_causes d b) ≡ Accepted
+  pub shaped : first (shape_causes d b) ≡ Ok tt
   pub few : n ≤ max_vectors
   pub bytes : length codes ≡ code_length b n
 

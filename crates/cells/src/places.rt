@@ -1,25 +1,31 @@
 // Where the lower marks of the regions that a code names stand in the marks buffer.
 ghost use Rattle.std.specs.Prelude.{◌≡◌, ◌++◌, ◌-◌, ◌^◌, ◌≤◌, ◌<◌, length, take};
-ghost use Rattle.refusal.specs.declared.Verdict.TheVariants.{Accepted};
-ghost use Rattle.refusal.specs.First.{first};
 ghost use Rattle.limits.specs.Limits.{max_dimensions, max_vectors};
-ghost use Rattle.layout.specs.Stretch.{shape_causes};
 ghost use Rattle.cells.specs.Places.{run_places, mark_places};
 
 use codes::bits::bits_at;
+use layout::Layout;
 
 // Code i's, one for each dimension, at the front of the buffer: first of the dimensions with one bit more, then of the others.
-pub(crate) fn mark_places(d: usize, b: usize, codes: &[u8], i: usize, places: &mut [usize])
-    requires { (first (shape_causes d b) ≡ Accepted) × (i < max_vectors) × (d ≤ length places.old) }
-    ensures { take d places.new ≡ mark_places d b codes.now i }
+pub(crate) fn mark_places(layout: Layout, codes: &[u8], i: usize, places: &mut [usize])
+    requires { (i < max_vectors) × (layout.d ≤ length places.old) }
+    ensures { take layout.d places.new ≡ mark_places layout.d layout.b codes.now i }
 {
-    let fewest = b / d;
-    let more = b % d;
+    let fewest = layout.fewest();
+    let more = layout.wider();
     let wide = fewest + 1;
-    let bit = i * b;
+    let bit = i * layout.b;
     let start = more * ((1usize << wide) + 1);
     place_run(codes, wide, bit, 0, 0, more, places);
-    place_run(codes, fewest, bit + more * wide, start, more, d, places);
+    place_run(
+        codes,
+        fewest,
+        bit + more * wide,
+        start,
+        more,
+        layout.d,
+        places,
+    );
 }
 
 // Those of the dimensions from `first` to `end`, of w bits each: `bit` is where a region's number begins in the codes, and `start` where
@@ -40,11 +46,9 @@ fn place_run(
 {
     let mut bit = first_bit;
     let mut start = first_start;
-    let mut t = first;
-    while t < end {
-        places[t] = start + bits_at(codes, bit, w);
+    for place in &mut places[first..end] {
+        *place = start + bits_at(codes, bit, w);
         bit += w;
         start += (1usize << w) + 1;
-        t += 1;
     }
 }

@@ -6,9 +6,14 @@ use native.Mathlib.Omega.{arith}
 use borrow.Author.Tests.{eqb-false}
 use lib.Dec.{eqb}
 use Rattle.limits.specs.Limits.{max_dimension_bits}
+use Rattle.layout.specs.declared.Layout.{Layout}
 use Rattle.layout.specs.Laws.{fewest_le}
 use Rattle.layout.specs.Stretch.{Shape}
 use Rattle.codes.specs.Codes.{next_column}
+
+-- what a layout is
+pub shape_of : (l : Layout) → Shape l.d l.b
+shape_of l = record { some = l.some; few = l.few; bits = l.within }
 
 pub fewest : {d b : ℕ} → Shape d b → b / d ≤ max_dimension_bits
 fewest {d} {b} shaped = fewest_le max_dimension_bits d b shaped.bits

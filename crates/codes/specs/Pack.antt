@@ -1,10 +1,9 @@
 -- The causes for which packing and unpacking say no (document 01, "When a call says no"). Assumes nothing.
-use Rattle.std.specs.Prelude.{◌≡◌, not, ◌&&◌, List, [], ◌∷◌, ◌++◌, ℕ, ◌*◌, ◌≤◌, eqb, length}
+use Rattle.std.specs.Prelude.{◌≡◌, not, ◌&&◌, List, [], ◌∷◌, ◌++◌, ℕ, ◌*◌, ◌≤◌, eqb, length, Ok}
 use Rattle.std.proofs.Math.Bool.{and-eq-true_iff}
 use Rattle.std.proofs.Common.{mul-le-mul, eqb-true}
 use Rattle.std.proofs.lemmas.Bool.{not-false}
 use Rattle.refusal.specs.declared.Refusal.TheVariants.{Count, Length, Code}
-use Rattle.refusal.specs.declared.Verdict.TheVariants.{Accepted}
 use Rattle.refusal.specs.First.{Row, ◌⇒◌, first, passed, accepted_front, accepted_behind}
 use Rattle.limits.specs.Limits.{max_dimensions, max_vectors, is_vector_count}
 use Rattle.limits.specs.Tests.{between}
@@ -37,7 +36,7 @@ pub record Sizes (d b n regions codes : ℕ) : Type 0 where
   pub rows : regions ≡ n * d
   pub bytes : codes ≡ code_length b n
 
-pub sizes : (d b n regions codes : ℕ) → first (size_causes d b n regions codes) ≡ Accepted → Sizes d b n regions codes
+pub sizes : (d b n regions codes : ℕ) → first (size_causes d b n regions codes) ≡ Ok tt → Sizes d b n regions codes
 sizes d b n regions codes accepted =
     let rows = eqb regions (n * d) in
     let bytes = eqb codes (code_length b n) in

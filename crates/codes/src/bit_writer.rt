@@ -44,15 +44,13 @@ pub(crate) fn put(numbers: &[u8], w: usize, writer: BitWriter, bytes: &mut [u8])
     let mut next = writer.next;
     let mut byte = writer.byte;
     let mut free = writer.free;
-    let mut i = 0;
-    while i < numbers.len() {
-        let x = numbers[i] as usize;
+    for number in numbers {
+        let x = *number as usize;
         let first = place(x, width, byte, free);
         let count = first.count;
         if count < free {
             byte = first.byte;
             free -= count;
-            i += 1;
         } else {
             bytes[next] = first.byte as u8;
             next += 1;
@@ -60,7 +58,6 @@ pub(crate) fn put(numbers: &[u8], w: usize, writer: BitWriter, bytes: &mut [u8])
             let second = place(low(x, left), left, 0, 8);
             byte = second.byte;
             free = 8 - second.count;
-            i += 1;
         }
     }
     BitWriter { next, byte, free }

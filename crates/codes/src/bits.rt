@@ -27,10 +27,7 @@ fn two_bytes(bytes: &[u8], i: usize) -> usize
 pub fn byte_at(bytes: &[u8], i: usize) -> usize
     ensures { result ≡ get_or bytes.now i 0 }
 {
-    if i < bytes.len() {
-        return bytes[i] as usize;
-    }
-    0
+    bytes.get(i).map_or(0, |byte| usize::from(*byte))
 }
 
 // The low w bits of a number.

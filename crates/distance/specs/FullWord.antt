@@ -1,8 +1,7 @@
 -- The full word gives each dimension the factor 1, and is never refused (document 02, Slip 1). Assumes nothing.
-use Rattle.std.specs.Prelude.{◌≡◌, ℕ, ◌≤◌, List, ◌++◌}
+use Rattle.std.specs.Prelude.{◌≡◌, ℕ, ◌≤◌, List, ◌++◌, Err}
 use Rattle.std.proofs.Common.{sym, ap, ◌∙◌, arith}
-use Rattle.refusal.specs.declared.Verdict.{Verdict}
-use Rattle.refusal.specs.declared.Verdict.TheVariants.{Refused}
+use Rattle.refusal.specs.Refusal.{Verdict}
 use Rattle.refusal.specs.First.{Row, first, outcome, first_append, outcome_accepted}
 use Rattle.limits.specs.Limits.{max_dimensions}
 use Rattle.presence.specs.Presence.{factors_of, full_word, word_causes}
@@ -19,5 +18,5 @@ module _ (d : ℕ) (few : d ≤ max_dimensions) where
       let none : first (word_causes d (full_word d) ++ after) ≡ first after =
       first_append (word_causes d (full_word d)) after ∙ outcome_accepted _ _ (full_passes d few) in
       first_append before (word_causes d (full_word d) ++ after)
-      ∙ ap (λ (v : Verdict). outcome (first before) v Refused) none
+      ∙ ap (λ (v : Verdict). outcome (first before) v Err) none
       ∙ sym (first_append before after)

@@ -1,12 +1,11 @@
 -- The causes for which a distance is refused, and what an answer stands for. Assumes nothing.
-use Rattle.std.specs.Prelude.{ℕ, not, ◌&&◌, List, [], ◌∷◌, length, ℤ, ◌==◌}
+use Rattle.std.specs.Prelude.{ℕ, not, ◌&&◌, List, [], ◌∷◌, length, ℤ, ◌==◌, Ok, Err, Result}
+use Rattle.refusal.specs.declared.Refusal.{Refusal}
 use Rattle.refusal.specs.declared.Refusal.TheVariants.{Dimension, Length, Component}
 use Rattle.refusal.specs.Refusal.{number_of}
 use Rattle.refusal.specs.First.{Row, ◌⇒◌}
 use Rattle.limits.specs.Limits.{is_dimension_count}
 use Rattle.signed.specs.Components.{are_components}
-use Rattle.distance.specs.declared.Distance.{Distance}
-use Rattle.distance.specs.declared.Distance.TheVariants.{Squared, Refused}
 
 -- the query has d components: 1, 5, 6
 abbrev pub distance_causes : List ℤ → List ℤ → List Row
@@ -17,6 +16,6 @@ distance_causes query vector =
     ∷ []
 
 -- document 01's number of an answer, 0 where there is a distance
-abbrev pub distance_number : Distance → ℕ
-distance_number (Squared sum) = 0
-distance_number (Refused cause) = number_of cause
+abbrev pub distance_number : Result ℕ Refusal → ℕ
+distance_number (Ok sum) = 0
+distance_number (Err cause) = number_of cause

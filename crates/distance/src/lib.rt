@@ -10,46 +10,36 @@ ghost use Rattle.distance.specs.Measured.{distance_causes};
 
 use limits::MAX_DIMENSIONS;
 use refusal::Refusal;
-
-// The answer where a distance is asked for.
-#[derive(Drop)]
-pub enum Distance {
-    Squared(u64),
-    Refused(Refusal),
-}
+use signed::components::are_components;
 
 // The distance of a vector from a query, of as many components as the query has.
-pub fn measure(query: &[i32], vector: &[i32]) -> Distance
+#[tactic(auto, unfolding(refusal::specs::First::first))]
+pub fn measure(query: &[i32], vector: &[i32]) -> Result<u64, Refusal>
     ensures { result ≡ outcome (first (distance_causes query.now vector.now))
-        (Distance.Squared (distance_of (length query.now) query.now vector.now)) Distance.Refused }
+        (Ok (distance_of (length query.now) query.now vector.now)) Err }
 {
     let d = query.len();
     if !limits::is_dimension_count(d) {
-        return Distance::Refused(Refusal::Dimension);
+        return Err(Refusal::Dimension);
     }
     if vector.len() != d {
-        return Distance::Refused(Refusal::Length);
+        return Err(Refusal::Length);
     }
-    if !signed::components::are_components(query) {
-        return Distance::Refused(Refusal::Component);
-    }
-    if !signed::components::are_components(vector) {
-        return Distance::Refused(Refusal::Component);
+    if !are_components(query) || !are_components(vector) {
+        return Err(Refusal::Component);
     }
     let factors = [1u32; MAX_DIMENSIONS];
-    Distance::Squared(weighed_distance(&factors, query, vector))
+    Ok(weighed_distance(&factors, query, vector))
 }
 
 // The distance of a vector from a query over dimensions with these factors, in 64 bits: exact for components and for factors up to 255
 // (specs/Small.antt). It is 0 where the two are not equally long or have more components than any query.
+#[tactic(auto, unfolding(crate::specs::Distance::measured_of))]
 pub fn weighed_distance(factors: &[u32; MAX_DIMENSIONS], query: &[i32], vector: &[i32]) -> u64
     ensures { result ≡ measured_of factors.now query.now vector.now }
 {
     let d = query.len();
-    if vector.len() != d {
-        return 0;
-    }
-    if MAX_DIMENSIONS < d {
+    if vector.len() != d || MAX_DIMENSIONS < d {
         return 0;
     }
     let mut products = [0u32; MAX_DIMENSIONS];
@@ -65,10 +55,8 @@ fn multiply(factors: &[u32; MAX_DIMENSIONS], query: &[i32], vector: &[i32], prod
     ensures { products.new
         ≡ values_from (product_at factors.now query.now vector.now) 0 (length products.old) }
 {
-    let mut t = 0;
-    while t < products.len() {
-        products[t] = step::product(factors[t], query[t], vector[t]);
-        t += 1;
+    for (t, product) in products.iter_mut().enumerate() {
+        *product = step::product(factors[t], query[t], vector[t]);
     }
 }
 
@@ -76,12 +64,10 @@ fn multiply(factors: &[u32; MAX_DIMENSIONS], query: &[i32], vector: &[i32], prod
 fn sum_squares(numbers: &[u32]) -> u64
     ensures { result ≡ first_squares numbers.now (length numbers.now) % 2 ^ 64 }
 {
-    let mut sum = 0;
-    let mut t = 0;
-    while t < numbers.len() {
-        let number = numbers[t] as u64;
-        sum = std::num::wrapping_add_u64(sum, number * number);
-        t += 1;
+    let mut sum = 0u64;
+    for number in numbers {
+        let number = u64::from(*number);
+        sum = sum.wrapping_add(number * number);
     }
     sum
 }

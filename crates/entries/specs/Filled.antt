@@ -1,8 +1,9 @@
 -- Lent entries that are written over from an array, from a place on: all that are meant where they fit, and none where they do not. Assumes
 -- nothing.
 use Rattle.std.specs.Prelude.{◌≡◌, refl, Bool, true, false, ◌&&◌, cond, List, ◌++◌, ℕ, zero, suc, ◌+◌, ◌≤◌, ◌<◌, leb, length, get_or, set, take, drop}
-use Rattle.std.proofs.Common.{sym, ap, ◌∙◌, append_assoc, add-one, arith, leb-true, le-leb, length-set, length-append, take_at, drop_at}
+use Rattle.std.proofs.Common.{sym, ap, ◌∙◌, append_assoc, add-one, arith, leb-true, le-leb, length-set, length-append, length-take-le, take_at, drop_at}
 use Rattle.std.proofs.lemmas.Bool.{lt-leb}
+use Rattle.std.proofs.lemmas.List.{drop-drop}
 use Rattle.std.proofs.lemmas.List.Edits.{sets, sets-eq}
 use Rattle.limits.specs.Limits.{max_neighbours}
 use Rattle.entries.specs.declared.Entry.{Entry}
@@ -84,6 +85,20 @@ filled_sets array entries start zero within = refl
 filled_sets array entries start (suc i) within =
     ap (λ (l : List Entry). set l (start + i) (get_or array i blank)) (filled_sets array entries start i (omega arith))
     ∙ sym (sets_next entries array start i within)
+
+-- so they are a part that is replaced
+pub filled_part : (array entries : List Entry) (start count : ℕ) → count ≤ length array → start + count ≤ length entries
+    → filled array entries start count ≡ take start entries ++ (take count array ++ drop count (drop start entries))
+filled_part array entries start count held within =
+    let size = length-take-le count array held in
+    rw (
+      filled_sets array entries start count held,
+      sets-eq (take count array) entries start (omega (arith, size)),
+      size,
+      append_assoc,
+      drop-drop,
+    )
+    refl
 
 -- from the array that holds them, over a part that is as long
 pub filled_within : (es front part rest : List Entry) → length part ≡ length es → length es ≤ max_neighbours

@@ -10,26 +10,7 @@ pub fn fill(entries: &mut [Entry], start: usize, array: [Entry; MAX_NEIGHBOURS],
     ensures { entries.new
         ≡ filled array entries.old start (fitting (length entries.old) start count) }
 {
-    let fits = fitting_count(entries.len(), start, count);
-    let mut i = 0;
-    while i < fits {
-        entries[start + i] = array[i];
-        i += 1;
+    if count <= MAX_NEIGHBOURS && start <= entries.len() && count <= entries.len() - start {
+        entries[start..start + count].copy_from_slice(&array[..count]);
     }
-}
-
-// How many are written where there is room for so many entries: all or none.
-fn fitting_count(room: usize, start: usize, count: usize) -> usize
-    ensures { result ≡ fitting room start count }
-{
-    if MAX_NEIGHBOURS < count {
-        return 0;
-    }
-    if room < start {
-        return 0;
-    }
-    if room - start < count {
-        return 0;
-    }
-    count
 }

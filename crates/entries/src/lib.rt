@@ -3,8 +3,7 @@
 
 pub mod fill;
 
-ghost use Rattle.std.specs.Prelude.{◌≡◌, [], min, length};
-ghost use Rattle.limits.specs.Limits.{max_neighbours};
+ghost use Rattle.std.specs.Prelude.{◌≡◌};
 ghost use Rattle.order.specs.Pairs.{pairs_of};
 ghost use Rattle.entries.specs.Entries.{entries_of, in_array};
 
@@ -22,41 +21,16 @@ pub struct Entry {
 pub fn entries_of(keys: &[u64], numbers: &[u32]) -> [Entry; MAX_NEIGHBOURS]
     ensures { result ≡ in_array (entries_of (pairs_of keys.now numbers.now)) }
 {
-    let count = entry_count(keys.len(), numbers.len());
-    let mut entries = no_entries();
-    let mut i = 0;
-    while i < count {
+    let count = keys.len().min(numbers.len()).min(MAX_NEIGHBOURS);
+    let mut entries = [Entry {
+        number: 0,
+        distance: 0,
+    }; MAX_NEIGHBOURS];
+    for i in 0..count {
         entries[i] = Entry {
             number: numbers[i],
             distance: keys[i],
         };
-        i += 1;
     }
     entries
-}
-
-// Blank entries alone.
-pub fn no_entries() -> [Entry; MAX_NEIGHBOURS]
-    ensures { result ≡ in_array [] }
-{
-    [Entry {
-        number: 0,
-        distance: 0,
-    }; MAX_NEIGHBOURS]
-}
-
-// How many entries that is.
-fn entry_count(keys: usize, numbers: usize) -> usize
-    ensures { result ≡ min (min keys numbers) max_neighbours }
-{
-    if numbers < keys {
-        return smaller(numbers, MAX_NEIGHBOURS);
-    }
-    smaller(keys, MAX_NEIGHBOURS)
-}
-
-fn smaller(a: usize, b: usize) -> usize
-    ensures { result ≡ min a b }
-{
-    if a < b { a } else { b }
 }

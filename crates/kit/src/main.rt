@@ -38,6 +38,5 @@ fn print(input: &[u8], n: usize, output: &mut [u8]) -> usize
     requires { (length input.now ≡ suc longest_match) × (n ≤ suc longest_match) × (length output.old ≡ text_room) }
     ensures { PrintsRead (take n input.now) output.old output.new result }
 {
-    let printed = matching::run(&input[..n], output);
-    printed.length
+    matching::run(&input[..n], output).unwrap()
 }

@@ -1,10 +1,9 @@
 -- Where a dimension's marks stand in the marks buffer, and how many bits it has; 0 where the numbers are refused. Assumes nothing.
-use Rattle.std.specs.Prelude.{◌≡◌, false, not, ◌&&◌, cond, List, [], ◌∷◌, ℕ, zero, suc, ◌+◌, ◌-◌, ◌*◌, ◌^◌, ◌≤◌, ◌<◌, leb}
+use Rattle.std.specs.Prelude.{◌≡◌, false, not, ◌&&◌, cond, List, [], ◌∷◌, ℕ, zero, suc, ◌+◌, ◌-◌, ◌*◌, ◌^◌, ◌≤◌, ◌<◌, leb, Ok}
 use Rattle.std.proofs.Common.{ap, ◌∙◌, le_trans, mul-le-mul, mul-le-mul_left, zero-mul, arith, leb-true, le-leb}
 use Rattle.std.proofs.Math.Path.{subst⁻¹}
 use Rattle.std.proofs.lemmas.Bool.{not-false}
 use Rattle.refusal.specs.declared.Refusal.TheVariants.{Dimension, Bits}
-use Rattle.refusal.specs.declared.Verdict.TheVariants.{Accepted}
 use Rattle.refusal.specs.First.{Row, ◌⇒◌, first, outcome, outcome_accepted, first_next, passed}
 use Rattle.limits.specs.Limits.{max_dimensions, max_dimension_bits, max_vectors, is_dimension_count, is_bits, is_vector_count}
 use Rattle.limits.specs.Tests.{between}
@@ -41,7 +40,7 @@ pub record Shape (d b : ℕ) : Type 0 where
   pub few : d ≤ max_dimensions
   pub bits : b ≤ max_dimension_bits * d
 
-pub shape : (d b : ℕ) → first (shape_causes d b) ≡ Accepted → Shape d b
+pub shape : (d b : ℕ) → first (shape_causes d b) ≡ Ok tt → Shape d b
 shape d b accepted =
     let count = passed (not (is_dimension_count d)) Dimension ((not (is_bits d b) ⇒ Bits) ∷ []) accepted in
     let within = passed (not (is_bits d b)) Bits [] count.rest in
@@ -65,7 +64,7 @@ pub record Numbered (d b j : ℕ) : Type 0 where
   pub within : before < d
   pub shaped : Shape d b
 
-pub numbered : (d b j : ℕ) → first (dimension_causes d b j) ≡ Accepted → Numbered d b j
+pub numbered : (d b j : ℕ) → first (dimension_causes d b j) ≡ Ok tt → Numbered d b j
 numbered d b j accepted =
     let number = passed (not (leb 1 j && leb j d)) Dimension (shape_causes d b) accepted in
     let range = between 1 j d (not-false (leb 1 j && leb j d) number.fails) in
@@ -85,7 +84,7 @@ pub record Stretches (d b j : ℕ) (s : Stretch) : Type 0 where
   pub within : first_marks d b j ≤ first_marks d b d
   pub small : first_marks d b d ≤ (2 ^ max_dimension_bits + 1) * max_dimensions
 
-pub stretches : {d b j : ℕ} {s : Stretch} → first (dimension_causes d b j) ≡ Accepted → s ≡ stretch_of d b j → Stretches d b j s
+pub stretches : {d b j : ℕ} {s : Stretch} → first (dimension_causes d b j) ≡ Ok tt → s ≡ stretch_of d b j → Stretches d b j s
 unfolding stretch_of
 stretches {d} {b} {j} {s} accepted is =
     let told = numbered d b j accepted in
@@ -111,12 +110,12 @@ stretches {d} {b} {j} {s} accepted is =
           (mul-le-mul_left (2 ^ max_dimension_bits + 1) shape.few);
     }
 
-pub marks_length_is : (d b : ℕ) → first (shape_causes d b) ≡ Accepted → marks_length d b ≡ first_marks d b d
+pub marks_length_is : (d b : ℕ) → first (shape_causes d b) ≡ Ok tt → marks_length d b ≡ first_marks d b d
 unfolding marks_length
 marks_length_is d b accepted = outcome_accepted _ _ accepted
 
 -- no codes have the length 0 too
-pub codes_length_is : (d b n : ℕ) → first (shape_causes d b) ≡ Accepted → n ≤ max_vectors → codes_length d b n ≡ code_length b n
+pub codes_length_is : (d b n : ℕ) → first (shape_causes d b) ≡ Ok tt → n ≤ max_vectors → codes_length d b n ≡ code_length b n
 unfolding codes_length
 codes_length_is d b n accepted few = outcome_accepted _ _ accepted ∙ go n few
   where
@@ -125,7 +124,7 @@ codes_length_is d b n accepted few = outcome_accepted _ _ accepted ∙ go n few
     go (suc n) few = rw (le-leb 1 (suc n) (omega arith), le-leb (suc n) max_vectors few)
 
 -- dimension t + 1 of those that are taken
-pub dimension_accepted : (d b t : ℕ) → first (shape_causes d b) ≡ Accepted → t < d → first (dimension_causes d b (t + 1)) ≡ Accepted
+pub dimension_accepted : (d b t : ℕ) → first (shape_causes d b) ≡ Ok tt → t < d → first (dimension_causes d b (t + 1)) ≡ Ok tt
 dimension_accepted d b t accepted below =
     let in_range : not (leb 1 (t + 1) && leb (t + 1) d) ≡ false =
     rw (le-leb 1 (t + 1) (omega arith), le-leb (t + 1) d (omega arith)) in

@@ -1,10 +1,11 @@
 -- What reading gives: the best where each vector read lies in its cell, and a refusal otherwise. Assumes nothing.
-use Rattle.std.specs.Prelude.{◌≡◌, refl, Bool, true, false, cond, List, [], ◌∷◌, ◌++◌, ℕ, suc, ◌≤◌, ◌<◌, take, get_or}
+use Rattle.std.specs.Prelude.{◌≡◌, refl, Bool, true, false, cond, List, [], ◌∷◌, ◌++◌, ℕ, suc, ◌≤◌, ◌<◌, take, get_or, Ok, Err, Result}
 use Rattle.std.proofs.Common.{sym, ap, ◌∙◌, arith, take_at}
 use Rattle.std.proofs.Math.Bool.{and-eq-true_iff}
 use mathlib.Core.List.Memᴰ
 use Rattle.std.proofs.Math.ListN.{length}
 use Rattle.std.proofs.Math.Seq.{length-take-le}
+use Rattle.refusal.specs.declared.Refusal.{Refusal}
 use Rattle.refusal.specs.declared.Refusal.TheVariants.{Cell}
 use Rattle.order.specs.Pair.{sort, numbers_of, pair_of}
 use Rattle.order.specs.Pairs.{pairs_of, keys_of}
@@ -17,20 +18,23 @@ use Rattle.selection.proofs.Loop.{after_next, reached_next, reached_first}
 use Rattle.selection.proofs.Steps.{next_read}
 use Rattle.best_pairs.specs.Gathered.{Gathers, gathers_sorted}
 use Rattle.best_pairs.specs.Holds.{HoldsBest}
-use Rattle.search.specs.declared.Searched.{Searched}
-use Rattle.search.specs.declared.Searched.TheVariants.{Read, Refused}
 use Rattle.distance.specs.Values.{values_from, values_length}
 use Rattle.search.specs.Ready.{Ready}
-use Rattle.least_reading.specs.Prepared.{Prepared}
+use Rattle.least_reading.specs.declared.reading.Task.{Task}
+use Rattle.least_reading.specs.Prepared.{PreparedFor, library_of, asked_of}
 use Rattle.search.specs.Search.{Index, Query, numbers_in, distance_in, low_in, in_own_cell, in_own_cells, searched}
 
 -- what a reading is lent: the lower bounds, and room for the reading order, for the distances of the best and for their numbers
 pub record Lent (factors : List ℕ) (l : Index) (query : Query) (k : ℕ) (lows order words best : List ℕ) : Type 0 where
-  pub prepared : Prepared factors l query k
+  pub prepared : PreparedFor factors l query k
   pub lows_are : lows ≡ values_from (low_in l query) 0 l.n
   pub order_room : length order ≡ l.n
   pub words_room : length words ≡ l.n
   pub best_room : length best ≡ k
+
+-- the same of a task
+abbrev pub LentTo : Task → List ℕ → List ℕ → List ℕ → List ℕ → Type 0
+LentTo task = Lent task.factors (library_of task) (asked_of task) task.terms.k
 
 pub lows_room : {factors : List ℕ} {l : Index} {query : Query} {k : ℕ} {lows order words best : List ℕ}
     → Lent factors l query k lows order words best
@@ -38,8 +42,8 @@ pub lows_room : {factors : List ℕ} {l : Index} {query : Query} {k : ℕ} {lows
 lows_room {l} {query} lent = ap length lent.lows_are ∙ values_length (low_in l query) 0 l.n
 
 -- the outcome of reading: the answer, the numbers read at the front of `order`, and the keys and numbers of the best
-pub record Reads (l : Index) (query : Query) (k : ℕ) (r : Searched) (order keys numbers : List ℕ) : Type 0 where
-  pub answer : r ≡ cond (in_own_cells l (searched l query k).reads) (Read (length (searched l query k).reads)) (Refused Cell)
+pub record Reads (l : Index) (query : Query) (k : ℕ) (r : Result ℕ Refusal) (order keys numbers : List ℕ) : Type 0 where
+  pub answer : r ≡ cond (in_own_cells l (searched l query k).reads) (Ok (length (searched l query k).reads)) (Err Cell)
   pub reads_are : in_own_cells l (searched l query k).reads ≡ true → take (length (searched l query k).reads) order
       ≡ (searched l query k).reads
   pub keys_are : in_own_cells l (searched l query k).reads ≡ true → keys ≡ keys_of (searched l query k).best
@@ -64,12 +68,12 @@ pub record HasRead (l : Index) (query : Query) (k done : ℕ) (keys numbers : Li
 
 -- a vector outside its cell is all that is told
 pub reads_outside : {l : Index} {query : Query} {k : ℕ} (order keys numbers : List ℕ) → in_own_cells l (searched l query k).reads ≡ false
-    → Reads l query k (Refused Cell) order keys numbers
+    → Reads l query k (Err Cell) order keys numbers
 reads_outside order keys numbers out =
     record { answer = rw out; reads_are = λ none. cc; keys_are = λ none. cc; numbers_are = λ none. cc }
 
 -- the keys lent as the front of a longer list
-pub reads_front : {l : Index} {query : Query} {k : ℕ} {r : Searched} {order keys numbers : List ℕ} (rest : List ℕ)
+pub reads_front : {l : Index} {query : Query} {k : ℕ} {r : Result ℕ Refusal} {order keys numbers : List ℕ} (rest : List ℕ)
     → Reads l query k r order keys numbers → length keys ≡ k → Reads l query k r order (take k (keys ++ rest)) numbers
 reads_front {k = k} {keys = keys} rest reads size = rw (take_at keys rest k size) reads
 
@@ -139,5 +143,5 @@ module _ {l : Index} {query : Query} {k : ℕ} {r : Bool} {keys best : List ℕ}
       }
 
   -- one is not in its cell
-  pub first_outside : r ≡ false → (order keys-then best-then : List ℕ) → Reads l query k (Refused Cell) order keys-then best-then
+  pub first_outside : r ≡ false → (order keys-then best-then : List ℕ) → Reads l query k (Err Cell) order keys-then best-then
   first_outside out order keys-then best-then = reads_outside order keys-then best-then (first_reads.outside out)

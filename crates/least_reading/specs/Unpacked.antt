@@ -1,10 +1,9 @@
 -- Region numbers that are unpacked once for several queries: the sums of a table's entries by them are those by the codes. Assumes nothing.
-use Rattle.std.specs.Prelude.{◌≡◌, refl, true, List, ℕ, ◌*◌, ◌≤◌, length, take}
+use Rattle.std.specs.Prelude.{◌≡◌, refl, true, List, ℕ, ◌*◌, ◌≤◌, length, take, Ok}
 use Rattle.std.proofs.Common.{ap, ◌∙◌, subst, eq-eqb}
 use Rattle.std.proofs.Math.Path.{subst⁻¹}
 use Rattle.std.proofs.Math.Bool.{and-eq-true_iff}
 use Rattle.std.proofs.lemmas.Bool.{not-false}
-use Rattle.refusal.specs.declared.Verdict.TheVariants.{Accepted}
 use Rattle.refusal.specs.First.{first, outcome, first_append, outcome_accepted, passed, accepted_front, accepted_behind}
 use Rattle.limits.specs.Limits.{max_dimensions, max_vectors, is_vector_count}
 use Rattle.layout.specs.Stretch.{shape_causes}
@@ -20,24 +19,24 @@ use Rattle.bounds.specs.Unpacked.{regions_bounds}
 use Rattle.batch.specs.Batch.{Batch}
 use Rattle.batch.specs.Accepted.{Batched}
 
--- the region numbers that n codes name, or no numbers
-pub record Unpacked (d b n : ℕ) (codes regions : List ℕ) : Type 0 where
-  pub are : (length regions ≡ 0 → ⊥) → regions ≡ unpacked d b n codes
+-- the region numbers that n codes name
+abbrev pub Unpacked : ℕ → ℕ → ℕ → List ℕ → List ℕ → Type 0
+Unpacked d b n codes regions = regions ≡ unpacked d b n codes
 
 -- an array that begins with them, where they can be unpacked
 pub record RegionsIn (d b n : ℕ) (codes array : List ℕ) : Type 0 where
-  pub front : first (unpack_causes d b n codes (n * d)) ≡ Accepted → take (n * d) array ≡ unpacked d b n codes
+  pub front : first (unpack_causes d b n codes (n * d)) ≡ Ok tt → take (n * d) array ≡ unpacked d b n codes
 
 -- ---- the sums by them
 
 -- codes that can be summed are as many as vectors may be
-vector_count : (d b n table : ℕ) (codes : List ℕ) → first (sum_causes d b table codes n) ≡ Accepted → is_vector_count n ≡ true
+vector_count : (d b n table : ℕ) (codes : List ℕ) → first (sum_causes d b table codes n) ≡ Ok tt → is_vector_count n ≡ true
 vector_count d b n table codes accepted =
     not-false (is_vector_count n) (passed _ _ _ (accepted_behind (shape_causes d b) (counted_causes d b table codes n) accepted)).fails
 
 -- where codes can be summed, rows of region numbers can
-rows_accepted : (d b n table regions : ℕ) (codes : List ℕ) → first (sum_causes d b table codes n) ≡ Accepted → regions ≡ n * d
-    → first (region_sum_causes d b table regions n) ≡ Accepted
+rows_accepted : (d b n table regions : ℕ) (codes : List ℕ) → first (sum_causes d b table codes n) ≡ Ok tt → regions ≡ n * d
+    → first (region_sum_causes d b table regions n) ≡ Ok tt
 unfolding first
 rows_accepted d b n table regions codes accepted rows =
     let are = summable d b table codes n accepted in
@@ -45,7 +44,7 @@ rows_accepted d b n table regions codes accepted rows =
     ∙ outcome_accepted _ _ are.0
     ∙ rw (vector_count d b n table codes accepted, eq-eqb _ _ are.1, eq-eqb _ _ rows)
 
-pub sums_by_regions : (d b n : ℕ) (table codes regions kept : List ℕ) → first (sum_causes d b (length table) codes n) ≡ Accepted
+pub sums_by_regions : (d b n : ℕ) (table codes regions kept : List ℕ) → first (sum_causes d b (length table) codes n) ≡ Ok tt
     → regions ≡ unpacked d b n codes
     → outcome (first (region_sum_causes d b (length table) (length regions) n)) (values_from (region_sum d b table regions) 0 n) (λ _. kept)
     ≡ values_from (bound_sum d b table codes) 0 n
@@ -68,12 +67,12 @@ unpacked_front d b n count size codes array back kept counts sized shared unpack
       let all : count ≡ n * d = counts are.shaped.few are.few in
       subst (λ (e : ℕ). take e array ≡ unpacked d b n codes) all
       (shared ∙ unpacks
-      ∙ outcome_accepted _ _ (subst⁻¹ (λ (e : ℕ). first (unpack_causes d b n codes e) ≡ Accepted) (sized ∙ all) accepted));
+      ∙ outcome_accepted _ _ (subst⁻¹ (λ (e : ℕ). first (unpack_causes d b n codes e) ≡ Ok tt) (sized ∙ all) accepted));
 }
 
 -- the codes of a batch can be unpacked
 batch_unpacks : {batch : Batch} → Batched batch
-    → let t = batch.terms in first (unpack_causes t.d t.b t.n batch.codes (t.n * t.d)) ≡ Accepted
+    → let t = batch.terms in first (unpack_causes t.d t.b t.n batch.codes (t.n * t.d)) ≡ Ok tt
 unfolding first
 batch_unpacks {batch} is =
     let t = batch.terms in
@@ -84,4 +83,4 @@ batch_unpacks {batch} is =
 pub front_unpacked : {batch : Batch} {array : List ℕ} → Batched batch
     → let t = batch.terms in RegionsIn t.d t.b t.n batch.codes array
     → Unpacked t.d t.b t.n batch.codes (take (t.n * t.d) array)
-front_unpacked is regions = record { are = λ some. regions.front (batch_unpacks is) }
+front_unpacked is regions = regions.front (batch_unpacks is)

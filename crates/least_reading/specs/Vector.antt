@@ -1,5 +1,5 @@
 -- Reading one vector: its distance where it lies in its code's cell, and what that takes. Assumes nothing.
-use Rattle.std.specs.Prelude.{◌≡◌, refl, Bool, true, false, cond, ℕ, suc, ◌*◌, ◌≤◌, ◌<◌, length}
+use Rattle.std.specs.Prelude.{◌≡◌, refl, Bool, true, false, cond, ℕ, suc, ◌*◌, ◌≤◌, ◌<◌, length, Option, Some, None}
 use Rattle.std.proofs.Common.{mul-le-mul_right, arith}
 use Rattle.cells.specs.Cells.{vector_at, InCell}
 use Rattle.distance.specs.Distance.{measured_of}
@@ -8,24 +8,22 @@ use Rattle.distance.specs.CellComponents.{cell_components}
 use Rattle.bounds.specs.Inside.{names_cell, names_cell_lem}
 use Rattle.search.specs.Search.{Index, Query, factors_in, distance_in, in_own_cell}
 use Rattle.search.specs.Ready.{Ready, place}
-use Rattle.least_reading.specs.declared.reading.VectorRead.{VectorRead}
-use Rattle.least_reading.specs.declared.reading.VectorRead.TheVariants.{Distance, Outside}
 
 -- "the search reads a pattern that is not in its code's cell", or its distance
-abbrev pub vector_read : Index → Query → ℕ → VectorRead
-vector_read l query i = cond (in_own_cell l i) (Distance (distance_in l query i)) Outside
+abbrev pub vector_read : Index → Query → ℕ → Option ℕ
+vector_read l query i = cond (in_own_cell l i) (Some (distance_in l query i)) None
 
 -- what the answer tells
 pub record TellsDistance (inside : Bool) (m distance : ℕ) : Type 0 where
   pub in_cell_lem : inside ≡ true
   pub is : distance ≡ m
 
-pub tells_distance : (inside : Bool) (m distance : ℕ) → cond inside (Distance m) Outside ≡ Distance distance
+pub tells_distance : (inside : Bool) (m distance : ℕ) → cond inside (Some m) None ≡ Some distance
     → TellsDistance inside m distance
 tells_distance true m distance e = record { in_cell_lem = refl; is = cc }
 tells_distance false m distance e = record { in_cell_lem = cc; is = cc }
 
-pub tells_outside : (inside : Bool) (m : ℕ) → cond inside (Distance m) Outside ≡ Outside → inside ≡ false
+pub tells_outside : (inside : Bool) (m : ℕ) → cond inside (Some m) None ≡ None → inside ≡ false
 tells_outside true m e = cc
 tells_outside false m e = refl
 

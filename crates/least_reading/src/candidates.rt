@@ -22,7 +22,8 @@ pub(crate) fn select_first(lows: &[u64], first: &mut [u32], least: &mut [u64]) -
 {
     let k = first.len();
     let mut room = [0u64; SELECTED];
-    least::select(lows, first, least, &mut room[..k]);
+    // Nothing refuses: at least as many lows are there as are selected, and the room is as long as the selection.
+    let _ = least::select(lows, first, least, &mut room[..k]);
     least[k - 1]
 }
 
@@ -34,7 +35,8 @@ pub(crate) fn sort_few(keys: &mut [u64], numbers: &mut [u32])
 {
     let k = keys.len();
     let mut room = [0u64; SELECTED];
-    sorting::sort(keys, numbers, &mut room[..k]);
+    // Nothing refuses: the three lengths are equal.
+    let _ = sorting::sort(keys, numbers, &mut room[..k]);
 }
 
 // Ranks the numbers that can still be read once the first k have been, behind these in `order`, and their lows from the front on; how many
@@ -68,7 +70,8 @@ pub(crate) fn rank_candidates(
         lows,
         &mut order[k..],
     );
-    sorting::sort(
+    // Nothing refuses: there are as many lows as numbers, and room for them behind the first k words.
+    let _ = sorting::sort(
         &mut lows[..count],
         &mut order[k..k + count],
         &mut words[k..],
@@ -92,16 +95,12 @@ fn gather(
         (result ≡ length all) × (take result lows.new ≡ map (key_at lows.old) all) × (take result numbers.new ≡ all) }
 {
     let mut count = 0;
-    let mut i = 0;
-    while i < lows.len() {
+    for i in 0..lows.len() {
         let low = lows[i];
         if is_candidate(last, last_number, bound, bound_number, low, i as u32) {
             lows[count] = low;
             numbers[count] = i as u32;
             count += 1;
-            i += 1;
-        } else {
-            i += 1;
         }
     }
     count

@@ -12,23 +12,14 @@ ghost use Rattle.least_reading.specs.Turned.{Tested, own_causes, Turned};
 
 use crate::search_ready;
 use batch::{Answer, BatchLengths, BatchTerms, answer_of, check_batch, check_query};
+use entries::Entry;
 use entries::fill::fill;
-use entries::{Entry, no_entries};
-use limits::{MAX_DIMENSIONS, MAX_NEIGHBOURS, MAX_VECTORS};
-use refusal::Verdict;
-use search::{Found, Searched, Terms, found_count};
+use limits::{MAX_DIMENSIONS, MAX_VECTORS};
+use refusal::Refusal;
+use search::{Found, Terms};
 
 // The most region numbers of a library.
 const MAX_REGIONS: usize = MAX_VECTORS * MAX_DIMENSIONS;
-
-// What a query of a batch leads to: its answer, and how many entries are to fill, from which place on.
-#[derive(Drop)]
-struct Turn {
-    entries: [Entry; MAX_NEIGHBOURS],
-    answer: Answer,
-    start: usize,
-    count: usize,
-}
 
 // The k nearest of n vectors to each of m queries, and the numbers of the vectors that were read for it, in reading order. Each query has its
 // part of the buffers: d components, its presence word, its answer, k entries, a read list of n. A refusal of the batch changes nothing,
@@ -43,7 +34,7 @@ pub fn search_batch(
     answers: &mut [Answer],
     entries: &mut [Entry],
     reads: &mut [u32],
-) -> Verdict
+) -> Result<(), Refusal>
     ensures { let batch = batch_of terms queries.now words.now marks.now codes.now
         vectors.now in
         let lengths = lengths_of batch (length answers.old) (length entries.old) (length reads.old) in
@@ -61,19 +52,15 @@ pub fn search_batch(
         entries: entries.len(),
         reads: reads.len(),
     };
-    let verdict = check_batch(terms, lengths, marks, codes);
-    let end = scan::accepted_count(verdict, terms.m);
+    check_batch(terms, lengths, marks, codes)?;
     let regions = regions_of(terms, codes);
-    let mut i = 0;
-    while i < end {
-        let turn = answer_query(
-            terms, i, queries, words, marks, codes, vectors, regions, reads,
+    for i in 0..terms.m {
+        let answer = answer_query(
+            terms, i, queries, words, marks, codes, vectors, &regions, entries, reads,
         );
-        answers[i] = turn.answer;
-        fill(entries, turn.start, turn.entries, turn.count);
-        i += 1;
+        answers[i] = answer_of(answer);
     }
-    verdict
+    Ok(())
 }
 
 // The region numbers that the codes name, at the front of an array, so that they are unpacked once a batch.
@@ -82,7 +69,8 @@ fn regions_of(terms: BatchTerms, codes: &[u8]) -> [u8; MAX_REGIONS]
 {
     let mut regions = [0u8; MAX_REGIONS];
     let count = region_count(terms.d, terms.n);
-    codes::unpack(terms.d, terms.b, terms.n, codes, &mut regions[..count]);
+    // Where the codes can be unpacked nothing refuses, and elsewhere nothing is said of the array.
+    let _ = codes::unpack(terms.d, terms.b, terms.n, codes, &mut regions[..count]);
     regions
 }
 
@@ -99,7 +87,7 @@ fn region_count(d: usize, n: usize) -> usize
     n * d
 }
 
-// Searches for query i, whose read list is written to its part.
+// Searches for query i, whose entries and read list are written to their parts; how many vectors were read.
 fn answer_query(
     terms: BatchTerms,
     i: usize,
@@ -108,13 +96,15 @@ fn answer_query(
     marks: &[i32],
     codes: &[u8],
     vectors: &[i32],
-    regions: [u8; MAX_REGIONS],
+    regions: &[u8; MAX_REGIONS],
+    entries: &mut [Entry],
     reads: &mut [u32],
-) -> Turn
+) -> Result<usize, Refusal>
     requires { (Batched (batch_of terms queries.now words.now marks.now codes.now vectors.now)) × (i < terms.m)
-        × (length reads.old ≡ terms.m * terms.n) × (RegionsIn terms.d terms.b terms.n codes.now regions) }
+        × (length entries.old ≡ terms.m * terms.k) × (length reads.old ≡ terms.m * terms.n)
+        × (RegionsIn terms.d terms.b terms.n codes.now regions.now) }
     ensures { Turned (batch_of terms queries.now words.now marks.now codes.now
-        vectors.now) i result reads.old reads.new }
+        vectors.now) i result entries.old entries.new reads.old reads.new }
 {
     let d = terms.d;
     let n = terms.n;
@@ -138,15 +128,9 @@ fn answer_query(
         vectors,
         &regions[..count],
         &mut reads[place..place + n],
-    );
-    let entries = found.entries;
-    let answer = found.answer;
-    Turn {
-        entries,
-        answer: answer_of(answer),
-        start: i * k,
-        count: found_count(answer, k),
-    }
+    )?;
+    fill(entries, i * k, found.entries, k);
+    Ok(found.count)
 }
 
 // The search in a library that is tested: what is left to test is the query.
@@ -158,7 +142,7 @@ fn search_tested(
     vectors: &[i32],
     regions: &[u8],
     reads: &mut [u32],
-) -> Found
+) -> Result<Found, Refusal>
     requires { let l = index_of terms marks.now codes.now vectors.now in
         (Tested l (query_of terms query.now) terms.k) × (length reads.old ≡ terms.n)
         × (Unpacked terms.d terms.b terms.n codes.now regions.now) }
@@ -166,11 +150,6 @@ fn search_tested(
         let q = query_of terms query.now in
         Searches (first (own_causes l q terms.k)) l q terms.k result reads.old reads.new }
 {
-    match check_query(terms.d, terms.word, query) {
-        Verdict::Accepted => search_ready(terms, query, marks, codes, vectors, regions, reads),
-        Verdict::Refused(cause) => Found {
-            answer: Searched::Refused(cause),
-            entries: no_entries(),
-        },
-    }
+    check_query(terms.d, terms.word, query)?;
+    search_ready(terms, query, marks, codes, vectors, Some(regions), reads)
 }

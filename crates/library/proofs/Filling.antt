@@ -1,13 +1,12 @@
 -- A list that is filled from the front with elements by their numbers: those so far stand in front of what is kept. Assumes nothing.
 use mathlib.Core.Path.{◌≡◌, refl, sym, ap, ◌∙◌}
 use mathlib.Core.List.{List, [], ◌∷◌, ◌++◌, append_assoc}
-use Prim.Native.Nat.{ℕ, suc, ◌+◌, ◌≤◌, ◌<◌}
-use native.Mathlib.Nat.{add-zero}
+use Prim.Native.Nat.{ℕ, ◌+◌, ◌≤◌, ◌<◌}
 use native.Mathlib.Numerals.{add-one}
 use native.Mathlib.Omega.{arith}
 use lib.IntN.{ℤ}
-use lib.ListN.{length, get_or, take, drop, set, length-append, length-set, take-append-drop}
-use lib.Seq.{take_at, drop_at, drop-drop, drop-cons, set_at, length-take-le}
+use lib.ListN.{length, take, drop, set, length-set}
+use lib.Seq.{take_at, drop_at, drop-drop, take-suc-set}
 use Rattle.library.specs.Each.{each, tabulate}
 use Rattle.library.specs.EachLaws.{each_same, each_add, tabulate_length, tabulate_fills}
 use Rattle.library.specs.Sizes.{EndsAt}
@@ -50,46 +49,11 @@ module _ {A : Type 0} (n : ℕ) (f : ℕ → A) (old : List A) where
             (sym (append_assoc (tabulate k f) (tabulate d (λ t. f (k + t))) (drop (k + d) old)));
       }
 
--- The same from an index on: what stands before it is kept too.
-pub record Placing {A : Type 0} (n : ℕ) (f : ℕ → A) (from : ℕ) (old new : List A) (i : ℕ) : Type 0 where
-  pub few : i ≤ n
-  pub room : length new ≡ length old
-  pub so_far : new ≡ take from old ++ (tabulate i f ++ drop (from + i) old)
-
-module _ {A : Type 0} (n : ℕ) (f : ℕ → A) (from : ℕ) (old : List A) where
-  pub placing_start : Placing n f from old old 0
-  unfolding each
-  placing_start = record { few = omega arith; room = refl; so_far = rw (add-zero from) (sym (take-append-drop from old)) }
-
-  pub placing_next : {new : List A} {x : A} (i : ℕ) → from + n ≤ length old → i < n → x ≡ f i → Placing n f from old new i
-      → Placing n f from old (set new (from + i) x) (i + 1)
-  unfolding each
-  placing_next i enough more is at =
-      let front = take from old ++ tabulate i f in
-      let next : from + (i + 1) ≡ suc (from + i) = omega arith in
-      let long : length front ≡ from + i =
-      rw (length-append (take from old) (tabulate i f), length-take-le from old (omega arith), tabulate_length i f) in
-      record {
-        few = omega arith;
-        room = simp length-set at.room;
-        so_far =
-            rw (
-              is,
-              at.so_far,
-              ← append_assoc (take from old) (tabulate i f) (drop (from + i) old),
-              drop-cons old (from + i) (f i) (omega arith),
-              set_at front (get_or old (from + i) (f i)) (drop (suc (from + i)) old) (f i) (from + i) long,
-              next,
-              add-one i,
-            )
-            (simp append_assoc);
-      }
-
-  pub placing_end : {new : List A} (i : ℕ) → n ≤ i → Placing n f from old new i
-      → new ≡ take from old ++ (tabulate n f ++ drop (from + n) old)
-  placing_end i all at =
-      let same : i ≡ n = omega (arith, at.few) in
-      rw same at at.so_far
+-- One more element, where a list's first elements are read in turn.
+pub read_next : {A : Type 0} {x : A} (f : ℕ → A) (l : List A) (i : ℕ) → i < length l → x ≡ f i → take i l ≡ tabulate i f
+    → take (i + 1) (set l i x) ≡ tabulate (i + 1) f
+unfolding each
+read_next {x = x} f l i more is so_far = rw (add-one, take-suc-set l i x more, so_far, is)
 
 -- The ends of the marks, filled into two lists, a dimension a turn.
 pub record Ending (d b : ℕ) (mark : ℕ → ℤ) (lows₀ highs₀ lows highs : List ℤ) (t : ℕ) : Type 0 where

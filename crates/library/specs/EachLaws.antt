@@ -1,5 +1,5 @@
 -- Laws of lists by number. Assumes nothing.
-use Rattle.std.specs.Prelude.{◌≡◌, ◌⊎◌, Bool, true, false, ◌&&◌, length, get_or, take, drop, set}
+use Rattle.std.specs.Prelude.{◌≡◌, ◌⊎◌, Bool, true, false, ◌&&◌, length, get_or, take, drop, set, Ok, Err}
 use Rattle.std.proofs.Math.Path.{refl, sym}
 use Rattle.std.proofs.Common.{ap, ◌∙◌, inl, inr, zero-mul, mul-one, eq-or-lt_of_le, le_of_suc-le-suc, add-zero, add-suc, arith, length-append, drop_at, take-add, ext_get_or, get_or-drop}
 use Rattle.std.proofs.Math.Bool.{and-eq-true_iff}
@@ -10,7 +10,6 @@ use Rattle.std.proofs.Math.Numerals.{add-one}
 use Rattle.std.proofs.Math.ListN.{get_or-eq_default}
 use Rattle.std.proofs.Math.Seq.{drop-cons, set_at, append_snoc}
 use Rattle.refusal.specs.declared.Refusal.{Refusal}
-use Rattle.refusal.specs.declared.Verdict.TheVariants.{Accepted, Refused}
 use Rattle.refusal.specs.First.{Row, first}
 use Rattle.limits.specs.Tests.{All, all_each, all_fails}
 use Rattle.records.specs.RowLaws.{go_on, stop, Both, both}
@@ -136,12 +135,12 @@ every_more i test so_far holds = rw (add-one, so_far) holds
 
 -- ---- rows
 
-pub each_accepted : (n : ℕ) (f : ℕ → List Row) → ((i : ℕ) → i < n → first (f i) ≡ Accepted) → first (each n f) ≡ Accepted
+pub each_accepted : (n : ℕ) (f : ℕ → List Row) → ((i : ℕ) → i < n → first (f i) ≡ Ok tt) → first (each n f) ≡ Ok tt
 unfolding each first
 each_accepted zero f all = refl
 each_accepted (suc n) f all = go_on (each n f) (f n) (each_accepted n f (λ i h. all i (omega arith))) ∙ all n (omega arith)
 
-pub accepted_at : (n : ℕ) (f : ℕ → List Row) → first (each n f) ≡ Accepted → (i : ℕ) → i < n → first (f i) ≡ Accepted
+pub accepted_at : (n : ℕ) (f : ℕ → List Row) → first (each n f) ≡ Ok tt → (i : ℕ) → i < n → first (f i) ≡ Ok tt
 unfolding each
 accepted_at zero f accepted i h = absurd (omega arith)
 accepted_at (suc n) f accepted i h = go (last_or_below h) (λ all h'. accepted_at n f all i h')
@@ -149,20 +148,20 @@ accepted_at (suc n) f accepted i h = go (last_or_below h) (λ all h'. accepted_a
     of : Both (each n f) (f n)
     of = both (each n f) (f n) accepted
 
-    go : (i ≡ n) ⊎ (i < n) → (first (each n f) ≡ Accepted → i < n → first (f i) ≡ Accepted) → first (f i) ≡ Accepted
+    go : (i ≡ n) ⊎ (i < n) → (first (each n f) ≡ Ok tt → i < n → first (f i) ≡ Ok tt) → first (f i) ≡ Ok tt
     go (inl e) before = rw e of.back
     go (inr l) before = before of.front l
 
-pub each_more : (i : ℕ) (f : ℕ → List Row) → first (each i f) ≡ Accepted → first (f i) ≡ Accepted → first (each (i + 1) f) ≡ Accepted
+pub each_more : (i : ℕ) (f : ℕ → List Row) → first (each i f) ≡ Ok tt → first (f i) ≡ Ok tt → first (each (i + 1) f) ≡ Ok tt
 unfolding each
 each_more i f so_far here = rw add-one (go_on (each i f) (f i) so_far ∙ here)
 
-pub each_stops : (n : ℕ) (f : ℕ → List Row) (i : ℕ) {cause : Refusal} → i < n → first (each i f) ≡ Accepted → first (f i) ≡ Refused cause
-    → first (each n f) ≡ Refused cause
+pub each_stops : (n : ℕ) (f : ℕ → List Row) (i : ℕ) {cause : Refusal} → i < n → first (each i f) ≡ Ok tt → first (f i) ≡ Err cause
+    → first (each n f) ≡ Err cause
 unfolding each
 each_stops zero f i h so_far here = absurd (omega arith)
 each_stops (suc n) f i {cause} h so_far here = go (last_or_below h) (λ h'. each_stops n f i h' so_far here)
   where
-    go : (i ≡ n) ⊎ (i < n) → (i < n → first (each n f) ≡ Refused cause) → first (each n f ++ f n) ≡ Refused cause
+    go : (i ≡ n) ⊎ (i < n) → (i < n → first (each n f) ≡ Err cause) → first (each n f ++ f n) ≡ Err cause
     go (inl e) before = go_on (each n f) (f n) (rw e at so_far) ∙ rw (← e) here
     go (inr l) before = stop (each n f) (f n) (before l)

@@ -1,16 +1,15 @@
 -- The sizes of a library whose counts are within the limits, and the places of its records as numbers. Assumes nothing.
-use Rattle.std.specs.Prelude.{◌≡◌, refl, not, [], ◌∷◌, ℕ, suc, ◌+◌, ◌-◌, ◌*◌, ◌^◌, ◌≤◌, ◌<◌}
+use Rattle.std.specs.Prelude.{◌≡◌, refl, not, [], ◌∷◌, ℕ, suc, ◌+◌, ◌-◌, ◌*◌, ◌^◌, ◌≤◌, ◌<◌, Ok}
 use Rattle.std.proofs.Common.{suc-mul, mul-le-mul_left, mul-le-mul_right, le_trans, add-one, arith}
 use Rattle.std.proofs.lemmas.Bool.{not-false}
 use Rattle.refusal.specs.declared.Refusal.TheVariants.{Count}
-use Rattle.refusal.specs.declared.Verdict.TheVariants.{Accepted}
 use Rattle.refusal.specs.First.{◌⇒◌, first, outcome_accepted, passed}
-use Rattle.limits.specs.Limits.{max_dimension_bits, max_vectors, is_vector_count}
+use Rattle.limits.specs.Limits.{max_dimensions, max_dimension_bits, max_vectors, is_vector_count}
 use Rattle.limits.specs.Tests.{between}
-use Rattle.layout.specs.declared.Stretch.{Stretch}
+use Rattle.layout.specs.declared.Layout.{Layout}
 use Rattle.layout.specs.Layout.{bits_of, first_marks}
-use Rattle.layout.specs.Laws.{marks_le}
-use Rattle.layout.specs.Stretch.{Shape, shape_causes, stretch_of, marks_length, Stretches, stretches, dimension_accepted}
+use Rattle.layout.specs.Laws.{bits_le, marks_le, marks_within}
+use Rattle.layout.specs.Stretch.{Shape, shape_causes, marks_length}
 use Rattle.records.specs.Records.{vector_kind, formats, widths_among, widths_of, sum, record_length}
 use Rattle.records.specs.RowLaws.{both}
 use Rattle.library.specs.Library.{mark_total, mark_place, vector_place, library_length}
@@ -18,10 +17,10 @@ use Rattle.library.specs.Tests.{counts_causes}
 
 -- d dimensions with b bits in all, and no more than so many vectors
 pub record Small (d b n : ℕ) : Type 0 where
-  pub shape_passes : first (shape_causes d b) ≡ Accepted
+  pub shape_passes : first (shape_causes d b) ≡ Ok tt
   pub few : n ≤ max_vectors
 
-pub small : (d b n : ℕ) → first (counts_causes d b n) ≡ Accepted → Small d b n
+pub small : (d b n : ℕ) → first (counts_causes d b n) ≡ Ok tt → Small d b n
 small d b n accepted =
     let rows = both (shape_causes d b) ((not (is_vector_count n) ⇒ Count) ∷ []) accepted in
     let counted = not-false (is_vector_count n) (passed _ Count [] rows.back).fails in
@@ -50,7 +49,11 @@ vector_length = refl
 pub marks_few : (d b : ℕ) → Shape d b → mark_total d b ≤ 2080
 marks_few d b is = le_trans (marks_le max_dimension_bits d b d is.some is.bits) (mul-le-mul_left (2 ^ max_dimension_bits + 1) is.few)
 
-pub marks_length_is : (d b : ℕ) → first (shape_causes d b) ≡ Accepted → marks_length d b ≡ mark_total d b
+-- of a layout that is within its limits
+pub layout_marks : (d b : ℕ) → 1 ≤ d → d ≤ max_dimensions → b ≤ max_dimension_bits * d → first_marks d b d ≤ 2080
+layout_marks d b some few within = marks_few d b (record { some = some; few = few; bits = within })
+
+pub marks_length_is : (d b : ℕ) → first (shape_causes d b) ≡ Ok tt → marks_length d b ≡ mark_total d b
 unfolding marks_length
 marks_length_is d b accepted = outcome_accepted _ _ accepted
 
@@ -61,25 +64,23 @@ pub record EndsAt (d b t first last : ℕ) : Type 0 where
   pub within : last < mark_total d b
   pub small : mark_total d b ≤ 2080
 
-stretch_ends : {d b t : ℕ} {s : Stretch} → t < d → Stretches d b (t + 1) s → EndsAt d b t s.offset (s.offset + 2 ^ s.bits)
-stretch_ends {d} {b} {t} {s} among is =
-    let before : t + 1 - 1 ≡ t = omega arith in
-    let offset : s.offset ≡ first_marks d b t = rw before at is.offset_is in
-    let bits : s.bits ≡ bits_of d b (suc t) = rw add-one at is.bits_are in
-    record {
-      first_is = offset;
-      last_is = rw (offset, bits);
-      within = omega (arith, is.end, is.within);
-      small = is.small;
-    }
+-- they are those of the stretch of its dimension: the last stands as many behind the first as there are regions
+module _ (l : Layout) (t : ℕ) {bits : ℕ} (among : t < l.d) (bits_are : bits ≡ bits_of l.d l.b (t + 1)) where
+  pub stretch_bits : bits ≤ max_dimension_bits
+  stretch_bits = rw (bits_are, add-one t) (bits_le max_dimension_bits l.d l.b t l.some l.within)
 
--- they are those of its stretch, where the shape passes: the last stands as many behind the first as there are regions
-module _ {s : Stretch} (d b t : ℕ) (passes : first (shape_causes d b) ≡ Accepted) (among : t < d) (is : s ≡ stretch_of d b (t + 1)) where
-  pub stretch_bits : s.bits ≤ max_dimension_bits
-  stretch_bits = (stretches (dimension_accepted d b t passes among) is).few_bits
-
-  pub ends_at : {regions : ℕ} → regions ≡ 2 ^ s.bits → EndsAt d b t s.offset (s.offset + regions)
-  ends_at are = rw are (stretch_ends among (stretches (dimension_accepted d b t passes among) is))
+  pub ends_at : {offset regions : ℕ} → offset ≡ first_marks l.d l.b (t + 1 - 1) → regions ≡ 2 ^ bits
+      → EndsAt l.d l.b t offset (offset + regions)
+  unfolding first_marks
+  ends_at offset_is regions_are =
+      let before : t + 1 - 1 ≡ t = omega arith in
+      let room = marks_within l.d l.b l.d t among in
+      record {
+        first_is = rw before at offset_is;
+        last_is = rw (offset_is, before, regions_are, bits_are, add-one t);
+        within = rw (offset_is, before, regions_are, bits_are, add-one t) (omega (arith, room));
+        small = layout_marks l.d l.b l.some l.few l.within;
+      }
 
 -- a vector's components are among those of n vectors
 pub row_within : {i n : ℕ} (d : ℕ) → i < n → i * d + d ≤ n * d

@@ -62,5 +62,5 @@ pub fn is_neighbour_count(n: usize, k: usize) -> bool
 pub fn is_between(low: usize, x: usize, high: usize) -> bool
     ensures { result ≡ leb low x && leb x high }
 {
-    low <= x && x <= high
+    (low..=high).contains(&x)
 }

@@ -2,7 +2,7 @@
 use Rattle.std.specs.Prelude.{◌≡◌, not, List, [], ◌∷◌, ℕ, eqb, ℤ, pos, get_or, drop}
 use Rattle.std.proofs.Common.{◌∙◌}
 use Rattle.refusal.specs.declared.Refusal.TheVariants.{Component, Outside}
-use Rattle.refusal.specs.declared.Verdict.{Verdict}
+use Rattle.refusal.specs.Refusal.{Verdict}
 use Rattle.refusal.specs.First.{Row, ◌⇒◌, first}
 use Rattle.records.specs.Records.{vector_kind, kind_of}
 use Rattle.records.specs.RecordLaws.{kind_at}
@@ -13,6 +13,10 @@ use Rattle.library.specs.Library.{mark_total, vector_place, mark_at, stored_at, 
 use Rattle.library.specs.Ends.{between, EndMarks, inside_between}
 use Rattle.loading.specs.Load.{record_causes, zero_beyond, vectors_causes}
 use Rattle.loading.specs.Heads.{HeadOf, marks_are}
+
+-- the causes of the record that bytes begin with, in a place that is for one kind, but for the body's own
+abbrev pub kind_causes : ℕ → List ℕ → List Row
+kind_causes kind bytes = frame_causes (eqb (kind_of bytes) kind) bytes
 
 -- the causes of the vector whose record bytes begin with, by the ends of the marks; and those of its components alone
 abbrev pub own_causes : ℕ → List ℤ → List ℤ → List ℕ → List Row

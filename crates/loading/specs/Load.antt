@@ -1,9 +1,9 @@
 -- Loading a library (document 01, "Library file" and "When a call says no"). Assumes nothing.
-use Rattle.std.specs.Prelude.{Bool, not, ◌&&◌, ◌||◌, List, [], ◌∷◌, ◌++◌, ℕ, suc, ◌+◌, ◌-◌, ◌*◌, ◌^◌, eqb, ltb, ℤ, drop, length}
+use Rattle.std.specs.Prelude.{Bool, not, ◌&&◌, ◌||◌, List, [], ◌∷◌, ◌++◌, ℕ, suc, ◌+◌, ◌-◌, ◌*◌, ◌^◌, eqb, ltb, ℤ, drop, length, Result, Ok, Err}
 use Rattle.std.specs.Int.Signed.{lt_z}
+use Rattle.refusal.specs.declared.Refusal.{Refusal}
 use Rattle.refusal.specs.declared.Refusal.TheVariants.{Length, Component, Mark, Outside}
-use Rattle.refusal.specs.declared.Verdict.{Verdict}
-use Rattle.refusal.specs.declared.Verdict.TheVariants.{Accepted, Refused}
+use Rattle.refusal.specs.Refusal.{Verdict}
 use Rattle.refusal.specs.First.{Row, ◌⇒◌, outcome}
 use Rattle.limits.specs.Limits.{max_dimensions, max_dimension_bits, max_vectors, is_mark}
 use Rattle.layout.specs.Layout.{mark_count, first_marks}
@@ -75,12 +75,13 @@ load_causes marks settings components bytes =
     (not (eqb marks marks_room && (eqb settings settings_room && eqb components components_room)) ⇒ Length)
     ∷ records_causes (read_library bytes) bytes
 
--- "Loading says how many bytes it used"; refused, the counts are 0
-abbrev pub counts : Verdict → Library → Loaded
-counts verdict l =
-    outcome verdict
-    (record { verdict = Accepted; d = l.d; b = l.b; n = l.n; used = library_length l.d l.b l.n })
-    (λ cause. record { verdict = Refused cause; d = 0; b = 0; n = 0; used = 0 })
+-- "Loading says how many bytes it used"
+abbrev pub loaded : Library → Loaded
+loaded l = record { d = l.d; b = l.b; n = l.n; used = library_length l.d l.b l.n }
+
+-- the counts, or why there are none
+abbrev pub counts : Verdict → Library → Result Loaded Refusal
+counts verdict l = outcome verdict (Ok (loaded l)) Err
 
 -- "fills the front and keeps the rest"; refused, the buffer is as it was
 abbrev pub filled : {A : Type 0} → Verdict → List A → List A → List A

@@ -1,6 +1,6 @@
 -- What holds of a library whose records pass: every record has passed its own causes, all of it is there, its marks are good, its
 -- components in range, and its vectors inside the marks. So writing accepts it. Assumes nothing.
-use Rattle.std.specs.Prelude.{◌≡◌, refl, Bool, true, false, not, ◌&&◌, ◌||◌, ℕ, suc, ◌+◌, ◌-◌, ◌*◌, ◌/◌, ◌%◌, ◌^◌, ◌≤◌, ◌<◌, ltb, eqb, ℤ, pos, negsuc, length, get_or, drop}
+use Rattle.std.specs.Prelude.{◌≡◌, refl, Bool, true, false, not, ◌&&◌, ◌||◌, ℕ, suc, ◌+◌, ◌-◌, ◌*◌, ◌/◌, ◌%◌, ◌^◌, ◌≤◌, ◌<◌, ltb, eqb, ℤ, pos, negsuc, length, get_or, drop, Ok}
 use Rattle.std.proofs.Common.{◌∙◌, suc-mul, mul-le-mul_right, arith}
 use mathlib.Core.List.{List, [], ◌∷◌, ◌++◌}
 use borrow.Author.Tests.{ltb-true, ltb-false, le-leb, lt-ltb, eqb-true, not-false}
@@ -10,7 +10,6 @@ use Rattle.std.proofs.Math.ListN.{length-drop}
 use Rattle.std.specs.Int.{w16}
 use mir.Val.{to_z, sel}
 use Rattle.refusal.specs.declared.Refusal.TheVariants.{Count, Component, Mark, Outside}
-use Rattle.refusal.specs.declared.Verdict.TheVariants.{Accepted}
 use Rattle.refusal.specs.First.{◌⇒◌, first, passed}
 use Rattle.limits.specs.Limits.{is_vector_count, is_mark, is_component}
 use Rattle.limits.specs.Tests.{le_z_not}
@@ -65,12 +64,12 @@ bits_component x = go (ltb x (2 ^ 15)) refl
 
 -- what each record has passed
 pub record Passes (bytes : List ℕ) (l : Library) : Type 0 where
-  pub head : first (head_causes l bytes) ≡ Accepted
-  pub mark : (t i : ℕ) → t < l.d → i < mark_count l.d l.b (suc t) → first (mark_causes bytes (first_marks l.d l.b t) i) ≡ Accepted
-  pub vector : (i : ℕ) → i < l.n → first (vector_causes l bytes i) ≡ Accepted
-  pub end : first (end_causes l bytes) ≡ Accepted
+  pub head : first (head_causes l bytes) ≡ Ok tt
+  pub mark : (t i : ℕ) → t < l.d → i < mark_count l.d l.b (suc t) → first (mark_causes bytes (first_marks l.d l.b t) i) ≡ Ok tt
+  pub vector : (i : ℕ) → i < l.n → first (vector_causes l bytes i) ≡ Ok tt
+  pub end : first (end_causes l bytes) ≡ Ok tt
 
-pub passes : (bytes : List ℕ) (l : Library) → first (records_causes l bytes) ≡ Accepted → Passes bytes l
+pub passes : (bytes : List ℕ) (l : Library) → first (records_causes l bytes) ≡ Ok tt → Passes bytes l
 passes bytes l accepted =
     let all = both (head_causes l bytes ++ marks_causes l bytes ++ vectors_causes l bytes) (end_causes l bytes) accepted in
     let some = both (head_causes l bytes ++ marks_causes l bytes) (vectors_causes l bytes) all.front in
@@ -82,7 +81,7 @@ passes bytes l accepted =
       end = all.back;
     }
 
-module _ (bytes : List ℕ) (accepted : first (records_causes (read_library bytes) bytes) ≡ Accepted) where
+module _ (bytes : List ℕ) (accepted : first (records_causes (read_library bytes) bytes) ≡ Ok tt) where
   abbrev l : Library
   l = read_library bytes
 
@@ -91,10 +90,10 @@ module _ (bytes : List ℕ) (accepted : first (records_causes (read_library byte
 
   -- ---- the head
 
-  own_head : first (shape_causes l.d l.b ++ ((not (is_vector_count l.n) ⇒ Count) ∷ [])) ≡ Accepted
+  own_head : first (shape_causes l.d l.b ++ ((not (is_vector_count l.n) ⇒ Count) ∷ [])) ≡ Ok tt
   own_head = (both (frame_causes (eqb (kind_of bytes) head_kind) bytes) _ (passes bytes l accepted).head).back
 
-  pub loaded_shape : first (shape_causes l.d l.b) ≡ Accepted
+  pub loaded_shape : first (shape_causes l.d l.b) ≡ Ok tt
   loaded_shape = (both (shape_causes l.d l.b) ((not (is_vector_count l.n) ⇒ Count) ∷ []) own_head).front
 
   pub loaded_count : is_vector_count l.n ≡ true

@@ -13,10 +13,8 @@ pub(crate) fn fill_marks(bytes: &[u8], m: usize, marks: &mut [i32])
     requires { (m < 2 ^ 32) × (m ≤ length marks.old) }
     ensures { marks.new ≡ tabulate m (mark_at bytes.now) ++ drop m marks.old }
 {
-    let mut i = 0;
-    while i < m {
-        marks[i] = mark_at(bytes, i);
-        i += 1;
+    for (i, mark) in marks[..m].iter_mut().enumerate() {
+        *mark = mark_at(bytes, i);
     }
 }
 
@@ -25,10 +23,8 @@ pub(crate) fn fill_settings(bytes: &[u8], m: usize, n: usize, settings: &mut [u3
     requires { (m < 2 ^ 32) × (n < 2 ^ 32) × (n ≤ length settings.old) }
     ensures { settings.new ≡ tabulate n (settings_at m bytes.now) ++ drop n settings.old }
 {
-    let mut i = 0;
-    while i < n {
-        settings[i] = records::u32_at(bytes, vector_place(m as u32, i as u32) + 1);
-        i += 1;
+    for (i, setting) in settings[..n].iter_mut().enumerate() {
+        *setting = records::u32_at(bytes, vector_place(m as u32, i as u32) + 1);
     }
 }
 
@@ -39,8 +35,7 @@ pub(crate) fn fill_components(bytes: &[u8], m: usize, d: usize, n: usize, compon
     ensures { components.new
         ≡ tabulate (n * d) (λ k. component_at m bytes.now (k / d) (k % d)) ++ drop (n * d) components.old }
 {
-    let mut i = 0;
-    while i < n {
+    for i in 0..n {
         fill_vector(
             bytes,
             vector_place(m as u32, i as u32),
@@ -48,7 +43,6 @@ pub(crate) fn fill_components(bytes: &[u8], m: usize, d: usize, n: usize, compon
             i * d,
             components,
         );
-        i += 1;
     }
 }
 
@@ -59,9 +53,7 @@ fn fill_vector(bytes: &[u8], at: usize, d: usize, from: usize, components: &mut 
         ≡ take from components.old
         ++ (tabulate d (stored_at (drop at bytes.now)) ++ drop (from + d) components.old) }
 {
-    let mut t = 0;
-    while t < d {
-        components[from + t] = component_at(bytes, at, t);
-        t += 1;
+    for (t, component) in components[from..from + d].iter_mut().enumerate() {
+        *component = component_at(bytes, at, t);
     }
 }

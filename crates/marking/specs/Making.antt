@@ -1,10 +1,9 @@
 -- The causes for which marks are not made, and what holds where they are made. Assumes nothing.
-use Rattle.std.specs.Prelude.{◌≡◌, true, false, not, ◌&&◌, List, [], ◌∷◌, ℕ, ◌+◌, ◌*◌, ◌^◌, ◌≤◌, ◌<◌, eqb, ℤ, length}
+use Rattle.std.specs.Prelude.{◌≡◌, true, false, not, ◌&&◌, List, [], ◌∷◌, ℕ, ◌+◌, ◌*◌, ◌^◌, ◌≤◌, ◌<◌, eqb, ℤ, length, Ok}
 use Rattle.std.proofs.Math.Bool.{and-eq-true_iff}
 use Rattle.std.proofs.lemmas.Bool.{not-false}
 use Rattle.std.proofs.Common.{eqb-true}
 use Rattle.refusal.specs.declared.Refusal.TheVariants.{Dimension, Bits, Count, Length, Component}
-use Rattle.refusal.specs.declared.Verdict.TheVariants.{Accepted}
 use Rattle.refusal.specs.First.{Row, ◌⇒◌, first, passed}
 use Rattle.limits.specs.Limits.{max_dimensions, max_dimension_bits, max_vectors, is_dimension_count, is_bits, is_vector_count}
 use Rattle.limits.specs.Tests.{Between, between}
@@ -25,17 +24,17 @@ make_causes d b n vectors room =
 -- ---- what holds where nothing is refused
 
 pub record Given (d b n : ℕ) (vectors : List ℤ) (room : ℕ) : Type 0 where
-  pub shaped : first (shape_causes d b) ≡ Accepted
+  pub shaped : first (shape_causes d b) ≡ Ok tt
   pub count : Between 1 n max_vectors
   pub full : length vectors ≡ n * d
   pub exact : room ≡ first_marks d b d
   pub components : are_components vectors ≡ true
 
-pub shape_accepted : (d b : ℕ) → not (is_dimension_count d) ≡ false → not (is_bits d b) ≡ false → first (shape_causes d b) ≡ Accepted
+pub shape_accepted : (d b : ℕ) → not (is_dimension_count d) ≡ false → not (is_bits d b) ≡ false → first (shape_causes d b) ≡ Ok tt
 unfolding first
 shape_accepted d b dimensions bits = rw (dimensions, bits)
 
-pub given : (d b n : ℕ) (vectors : List ℤ) (room : ℕ) → first (make_causes d b n vectors room) ≡ Accepted → Given d b n vectors room
+pub given : (d b n : ℕ) (vectors : List ℤ) (room : ℕ) → first (make_causes d b n vectors room) ≡ Ok tt → Given d b n vectors room
 given d b n vectors room accepted =
     let dimensions = passed (not (is_dimension_count d)) Dimension _ accepted in
     let bits = passed (not (is_bits d b)) Bits _ dimensions.rest in

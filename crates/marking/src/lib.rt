@@ -3,86 +3,70 @@
 
 ghost use Rattle.std.specs.Prelude.{◌≡◌, map, ◌++◌, ◌+◌, ◌^◌, ◌≤◌, length, drop};
 ghost use Rattle.refusal.specs.First.{first, outcome};
-ghost use Rattle.refusal.specs.declared.Verdict.TheVariants.{Accepted};
 ghost use Rattle.signed.specs.Keys.{key_of};
 ghost use Rattle.marking.specs.Made.{column, in_order, mark_at, scale_ends, made_dimension, made_marks};
 ghost use Rattle.marking.specs.Making.{make_causes, ColumnOf, MarksOf, Shares};
 ghost use Rattle.marking.specs.KeysInOrder.{whole_of, ComponentKey, ComponentKeys};
 
+use layout::Layout;
 use limits::{GREATEST_MARK, LEAST_MARK, MAX_VECTORS};
-use refusal::{Refusal, Verdict};
+use refusal::Refusal;
 
 // The marks of d dimensions, with b bits in all, made from n vectors of d components that stand in a row.
-pub fn make_marks(d: usize, b: usize, n: usize, vectors: &[i32], marks: &mut [i32]) -> Verdict
+#[tactic(auto, using(refusal::specs::First::handed_on), unfolding(refusal::specs::First::first))]
+pub fn make_marks(
+    d: usize,
+    b: usize,
+    n: usize,
+    vectors: &[i32],
+    marks: &mut [i32],
+) -> Result<(), Refusal>
     ensures value { result ≡ first (make_causes d b n vectors.now (length marks.old)) }
     ensures marks_after { marks.new
         ≡ outcome (first (make_causes d b n vectors.now (length marks.old)))
         (made_marks d b n vectors.now) (λ _. marks.old) }
 {
-    let verdict = check_making(d, b, n, vectors, marks.len());
-    match verdict {
-        Verdict::Accepted => {
-            make_ready(d, b, n, vectors, marks);
-            Verdict::Accepted
-        }
-        Verdict::Refused(cause) => Verdict::Refused(cause),
-    }
-}
-
-// Whether marks can be made, for a marks buffer of this length.
-fn check_making(d: usize, b: usize, n: usize, vectors: &[i32], room: usize) -> Verdict
-    ensures { result ≡ first (make_causes d b n vectors.now room) }
-{
-    if !limits::is_dimension_count(d) {
-        return Verdict::Refused(Refusal::Dimension);
-    }
-    if !limits::is_bits(d, b) {
-        return Verdict::Refused(Refusal::Bits);
-    }
+    let layout = Layout::new(d, b)?;
     if !limits::is_vector_count(n) {
-        return Verdict::Refused(Refusal::Count);
+        return Err(Refusal::Count);
     }
-    if vectors.len() != n * d {
-        return Verdict::Refused(Refusal::Length);
-    }
-    if room != layout::marks_length(d, b) {
-        return Verdict::Refused(Refusal::Length);
+    if vectors.len() != n * d || marks.len() != layout.marks_length() {
+        return Err(Refusal::Length);
     }
     if !signed::components::are_components(vectors) {
-        return Verdict::Refused(Refusal::Component);
+        return Err(Refusal::Component);
     }
-    Verdict::Accepted
+    make_ready(layout, n, vectors, marks);
+    Ok(())
 }
 
 // The marks, where nothing refuses, with arrays for the most vectors of a library.
-fn make_ready(d: usize, b: usize, n: usize, vectors: &[i32], marks: &mut [i32])
-    requires { first (make_causes d b n vectors.now (length marks.old)) ≡ Accepted }
-    ensures { marks.new ≡ made_marks d b n vectors.now }
+fn make_ready(layout: Layout, n: usize, vectors: &[i32], marks: &mut [i32])
+    requires { first (make_causes layout.d layout.b n vectors.now (length marks.old)) ≡ Ok tt }
+    ensures { marks.new ≡ made_marks layout.d layout.b n vectors.now }
 {
     let mut keys = [0u64; MAX_VECTORS];
     let mut spare = [0u64; MAX_VECTORS];
-    make_dimensions(d, b, vectors, &mut keys[..n], &mut spare, marks);
+    make_dimensions(layout, vectors, &mut keys[..n], &mut spare, marks);
 }
 
 // The marks, with room for the keys of a dimension and for their sort: each dimension's are written into its own stretch of the buffer.
 fn make_dimensions(
-    d: usize,
-    b: usize,
+    layout: Layout,
     vectors: &[i32],
     keys: &mut [u64],
     spare: &mut [u64],
     marks: &mut [i32],
 )
-    requires marks_value { first (make_causes d b (length keys.old) vectors.now (length marks.old)) ≡ Accepted }
+    requires marks_value { first (make_causes layout.d layout.b (length keys.old) vectors.now (length marks.old)) ≡ Ok tt }
     requires keys_in_bounds { length keys.old ≤ length spare.old }
-    ensures { marks.new ≡ made_marks d b (length keys.old) vectors.now }
+    ensures { marks.new ≡ made_marks layout.d layout.b (length keys.old) vectors.now }
 {
-    let mut t = 0;
-    while t < d {
-        let stretch = layout::stretch_of(d, b, t + 1);
+    for t in 0..layout.d {
+        let stretch = layout.stretch(t + 1);
         let offset = stretch.offset;
         make_dimension(
-            d,
+            layout.d,
             t,
             stretch.bits,
             vectors,
@@ -90,7 +74,6 @@ fn make_dimensions(
             spare,
             &mut marks[offset..],
         );
-        t += 1;
     }
 }
 
@@ -110,7 +93,7 @@ fn make_dimension(
         ++ drop (2 ^ w + 1) part.old }
 {
     column_keys(d, t, vectors, keys);
-    order::sort(keys, spare);
+    order::sort(keys, spare).unwrap();
     write_marks(w, keys, part);
 }
 
@@ -119,10 +102,8 @@ fn column_keys(d: usize, t: usize, vectors: &[i32], keys: &mut [u64])
     requires { ColumnOf d (length keys.old) t }
     ensures { keys.new ≡ map key_of (column d (length keys.old) vectors.now t) }
 {
-    let mut i = 0;
-    while i < keys.len() {
-        keys[i] = signed::key_at(vectors, i * d + t);
-        i += 1;
+    for (i, key) in keys.iter_mut().enumerate() {
+        *key = signed::key_at(vectors, i * d + t);
     }
 }
 
@@ -133,10 +114,8 @@ fn write_marks(w: usize, keys: &[u64], part: &mut [i32])
         ≡ made_dimension (length keys.now) w (map whole_of keys.now) ++ drop (2 ^ w + 1) part.old }
 {
     let regions = 1usize << w;
-    let mut i = 0;
-    while i <= regions {
-        part[i] = mark(w, keys, i);
-        i += 1;
+    for (i, out) in part[..=regions].iter_mut().enumerate() {
+        *out = mark(w, keys, i);
     }
 }
 

@@ -1,6 +1,6 @@
 // Codes, for C. Each gives 0, or the refusal's number; a refused call leaves a buffer as it was.
 ghost use Rattle.std.specs.Prelude.{◌≡◌, length};
-ghost use Rattle.refusal.specs.Refusal.{verdict_number};
+ghost use Rattle.refusal.specs.Refusal.{status_of};
 ghost use Rattle.refusal.specs.First.{first, outcome};
 ghost use Rattle.codes.specs.Codes.{packed, unpacked};
 ghost use Rattle.codes.specs.Pack.{pack_causes, unpack_causes};
@@ -18,10 +18,10 @@ pub extern "C" fn matcher_pack(
     codes: &mut [u8],
 ) -> u32
     ensures { let v = first (pack_causes d b n regions.now (length codes.old)) in
-        (result ≡ verdict_number v)
+        (result ≡ status_of v)
         × (codes.new ≡ outcome v (packed d b n regions.now) (λ _. codes.old)) }
 {
-    codes::pack(d, b, n, regions, codes).number()
+    refusal::status(codes::pack(d, b, n, regions, codes))
 }
 
 // n rows of region numbers read off codes of b bits.
@@ -34,10 +34,10 @@ pub extern "C" fn matcher_unpack(
     regions: &mut [u8],
 ) -> u32
     ensures { let v = first (unpack_causes d b n codes.now (length regions.old)) in
-        (result ≡ verdict_number v)
+        (result ≡ status_of v)
         × (regions.new ≡ outcome v (unpacked d b n codes.now) (λ _. regions.old)) }
 {
-    codes::unpack(d, b, n, codes, regions).number()
+    refusal::status(codes::unpack(d, b, n, codes, regions))
 }
 
 // Whether no code names an empty region and no spare bit is set, for codes and marks of the right lengths.
@@ -49,9 +49,9 @@ pub extern "C" fn matcher_check_codes(
     marks: &[i32],
     codes: &[u8],
 ) -> u32
-    ensures { result ≡ verdict_number (first (code_causes d b n marks.now codes.now)) }
+    ensures { result ≡ status_of (first (code_causes d b n marks.now codes.now)) }
 {
-    cells::check_codes(d, b, n, marks, codes).number()
+    refusal::status(cells::check_codes(d, b, n, marks, codes))
 }
 
 // The regions of n vectors under the marks.
@@ -65,10 +65,10 @@ pub extern "C" fn matcher_regions(
     regions: &mut [u8],
 ) -> u32
     ensures { let v = first (regions_causes d b n vectors.now marks.now (length regions.old)) in
-        (result ≡ verdict_number v)
+        (result ≡ status_of v)
         × (regions.new ≡ outcome v (vector_regions d b marks.now vectors.now) (λ _. regions.old)) }
 {
-    approximation::regions(d, b, n, vectors, marks, regions).number()
+    refusal::status(approximation::regions(d, b, n, vectors, marks, regions))
 }
 
 // The codes of n vectors under the marks.
@@ -82,8 +82,8 @@ pub extern "C" fn matcher_pack_vectors(
     codes: &mut [u8],
 ) -> u32
     ensures { let v = first (pack_vectors_causes d b n vectors.now marks.now (length codes.old)) in
-        (result ≡ verdict_number v)
+        (result ≡ status_of v)
         × (codes.new ≡ outcome v (vector_codes d b n marks.now vectors.now) (λ _. codes.old)) }
 {
-    approximation::pack_vectors(d, b, n, vectors, marks, codes).number()
+    refusal::status(approximation::pack_vectors(d, b, n, vectors, marks, codes))
 }

@@ -1,6 +1,6 @@
 // Distances, for C. Each gives 0, or the refusal's number; a refused call leaves what it was to write as it was.
 ghost use Rattle.std.specs.Prelude.{◌≡◌, length};
-ghost use Rattle.refusal.specs.Refusal.{verdict_number};
+ghost use Rattle.refusal.specs.Refusal.{status_of};
 ghost use Rattle.refusal.specs.First.{first, outcome};
 ghost use Rattle.presence.specs.Presence.{factors_of};
 ghost use Rattle.distance.specs.Distance.{distance_of};
@@ -14,7 +14,7 @@ ghost use Rattle.bounds.specs.Bounded.{bounds_causes};
 pub extern "C" fn matcher_distance(query: &[i32], vector: &[i32], distance: &mut u64) -> u32
     ensures { let v = first (distance_causes query.now vector.now) in
         let between = distance_of (length query.now) query.now vector.now in
-        (result ≡ verdict_number v) × (distance.new ≡ outcome v between (λ _. distance.old)) }
+        (result ≡ status_of v) × (distance.new ≡ outcome v between (λ _. distance.old)) }
 {
     c_answers::put_distance(distance::measure(query, vector), distance)
 }
@@ -36,9 +36,9 @@ pub extern "C" fn matcher_bounds(
         (length lowers.old) (length uppers.old)) in
         let lower = weighed_lower d b marks.now codes.now (factors_of word) query.now in
         let upper = weighed_upper d b marks.now codes.now (factors_of word) query.now in
-        (result ≡ verdict_number v)
+        (result ≡ status_of v)
         × (lowers.new ≡ outcome v (values_from lower 0 n) (λ _. lowers.old))
         × (uppers.new ≡ outcome v (values_from upper 0 n) (λ _. uppers.old)) }
 {
-    bounds::cell::cell_bounds(d, b, n, word, query, marks, codes, lowers, uppers).number()
+    refusal::status(bounds::cell::cell_bounds(d, b, n, word, query, marks, codes, lowers, uppers))
 }

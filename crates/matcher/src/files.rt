@@ -1,7 +1,7 @@
 // The library file and a query from bytes, for C. Each gives 0, or the refusal's number; a refused call leaves the buffers as they were,
 // and its counts are 0.
 ghost use Rattle.std.specs.Prelude.{◌≡◌, length};
-ghost use Rattle.refusal.specs.Refusal.{verdict_number};
+ghost use Rattle.refusal.specs.Refusal.{status_of};
 ghost use Rattle.refusal.specs.First.{first, outcome};
 ghost use Rattle.library.specs.Library.{library_with, library_bytes, library_length, read_library};
 ghost use Rattle.library.specs.Tests.{counts_causes};
@@ -12,11 +12,11 @@ ghost use Rattle.query.specs.Query.{query_causes, components_of, present_query_c
 // How many bytes a library of these counts has.
 #[unsafe(no_mangle)]
 pub extern "C" fn matcher_library_length(d: usize, b: usize, n: usize, length: &mut usize) -> u32
-    ensures value { result ≡ verdict_number (first (counts_causes d b n)) }
+    ensures value { result ≡ status_of (first (counts_causes d b n)) }
     ensures length_after { length.new ≡ outcome (first (counts_causes d b n)) (library_length d b n) (λ _. 0) }
 {
     *length = library::library_length(d, b, n);
-    library::check_counts(d, b, n).number()
+    refusal::status(library::check_counts(d, b, n))
 }
 
 // The bytes of a library, into a buffer of as many.
@@ -32,9 +32,9 @@ pub extern "C" fn matcher_write(
 ) -> u32
     ensures { let l = library_with d b n marks.now settings.now components.now in
         let v = first (write_causes l (length bytes.old)) in
-        (result ≡ verdict_number v) × (bytes.new ≡ outcome v (library_bytes l) (λ _. bytes.old)) }
+        (result ≡ status_of v) × (bytes.new ≡ outcome v (library_bytes l) (λ _. bytes.old)) }
 {
-    writing::write(d, b, n, marks, settings, components, bytes).number()
+    refusal::status(writing::write(d, b, n, marks, settings, components, bytes))
 }
 
 // The library that the bytes begin with, into the fronts of buffers of the largest size; its counts, and how many of the bytes it is.
@@ -52,7 +52,7 @@ pub extern "C" fn matcher_load(
     ensures { let v = first (load_causes (length marks.old) (length settings.old)
         (length components.old) bytes.now) in
         let l = read_library bytes.now in
-        (result ≡ verdict_number v)
+        (result ≡ status_of v)
         × (marks.new ≡ filled v l.marks marks.old)
         × (settings.new ≡ filled v l.settings settings.old)
         × (components.new ≡ filled v l.components components.old)
@@ -68,10 +68,10 @@ pub extern "C" fn matcher_load(
 #[unsafe(no_mangle)]
 pub extern "C" fn matcher_query(d: usize, bytes: &[u8], components: &mut [i32]) -> u32
     ensures { let v = first (query_causes d (length components.old) bytes.now) in
-        (result ≡ verdict_number v)
+        (result ≡ status_of v)
         × (components.new ≡ outcome v (components_of d bytes.now) (λ _. components.old)) }
 {
-    query::query(d, bytes, components).number()
+    refusal::status(query::query(d, bytes, components))
 }
 
 // The components of those of the d readings that are present, 0 where one is absent, into a buffer of d components; and the presence word.
@@ -83,12 +83,11 @@ pub extern "C" fn matcher_query_present(
     word: &mut u32,
 ) -> u32
     ensures { let v = first (present_query_causes d (length components.old) bytes.now) in
-        (result ≡ verdict_number v)
+        (result ≡ status_of v)
         × (components.new ≡ outcome v (components_of d bytes.now) (λ _. components.old))
         × (word.new ≡ outcome v (word_of d bytes.now) (λ _. 0)) }
 {
     let answer = query::query_present(d, bytes, components);
-    *word = answer.word;
-    let verdict = answer.verdict;
-    verdict.number()
+    *word = answer.unwrap_or(0);
+    refusal::status(answer)
 }

@@ -1,6 +1,6 @@
 // Marks and regions, for C. Each gives 0, or the refusal's number; a refused call leaves what it was to write as it was.
 ghost use Rattle.std.specs.Prelude.{◌≡◌, pos, length, get_or};
-ghost use Rattle.refusal.specs.Refusal.{verdict_number};
+ghost use Rattle.refusal.specs.Refusal.{status_of};
 ghost use Rattle.refusal.specs.First.{first, outcome};
 ghost use Rattle.layout.specs.Stretch.{dimension_causes, stretch_of};
 ghost use Rattle.region.specs.Region.{region_of};
@@ -12,8 +12,6 @@ ghost use Rattle.view.specs.View.{value_causes};
 ghost use Rattle.marking.specs.Made.{made_marks};
 ghost use Rattle.marking.specs.Making.{make_causes};
 
-use refusal::Verdict;
-
 // Where dimension j's marks begin in the marks buffer, and how many bits it has.
 #[unsafe(no_mangle)]
 pub extern "C" fn matcher_stretch(
@@ -24,35 +22,35 @@ pub extern "C" fn matcher_stretch(
     bits: &mut usize,
 ) -> u32
     ensures { let v = first (dimension_causes d b j) in
-        (result ≡ verdict_number v)
+        (result ≡ status_of v)
         × (offset.new ≡ outcome v (stretch_of d b j).offset (λ _. offset.old))
         × (bits.new ≡ outcome v (stretch_of d b j).bits (λ _. bits.old)) }
 {
     match layout::check_dimension(d, b, j) {
-        Verdict::Accepted => {
+        Ok(()) => {
             let stretch = layout::stretch_of(d, b, j);
             *offset = stretch.offset;
             *bits = stretch.bits;
             0
         }
-        Verdict::Refused(cause) => cause.number(),
+        Err(cause) => cause.number(),
     }
 }
 
 // Whether the marks are as many as d dimensions with b bits have, in range, and never fall.
 #[unsafe(no_mangle)]
 pub extern "C" fn matcher_check_marks(d: usize, b: usize, marks: &[i32]) -> u32
-    ensures { result ≡ verdict_number (first (marks_causes d b marks.now)) }
+    ensures { result ≡ status_of (first (marks_causes d b marks.now)) }
 {
-    partition::check_marks(d, b, marks).number()
+    refusal::status(partition::check_marks(d, b, marks))
 }
 
 // The same, and whether there is a dimension of this number, from 1.
 #[unsafe(no_mangle)]
 pub extern "C" fn matcher_check_part(d: usize, b: usize, marks: &[i32], j: usize) -> u32
-    ensures { result ≡ verdict_number (first (part_causes d b marks.now j)) }
+    ensures { result ≡ status_of (first (part_causes d b marks.now j)) }
 {
-    partition::check_part(d, b, marks, j).number()
+    refusal::status(partition::check_part(d, b, marks, j))
 }
 
 // How many marks dimension j has, 0 where they are refused.
@@ -83,7 +81,7 @@ pub extern "C" fn matcher_region_of(
 ) -> u32
     ensures { let verdict = first (value_causes d b marks.now j v) in
         let part = dimension_marks d b marks.now j in
-        (result ≡ verdict_number verdict) × (region.new ≡ outcome verdict (region_of part v) (λ _. region.old)) }
+        (result ≡ status_of verdict) × (region.new ≡ outcome verdict (region_of part v) (λ _. region.old)) }
 {
     c_answers::put_region(view::region_of(d, b, marks, j, v), region)
 }
@@ -92,7 +90,7 @@ pub extern "C" fn matcher_region_of(
 #[unsafe(no_mangle)]
 pub extern "C" fn matcher_region(marks: &[i32], regions: usize, v: i32, region: &mut usize) -> u32
     ensures { let verdict = first (region_causes marks.now regions v) in
-        (result ≡ verdict_number verdict)
+        (result ≡ status_of verdict)
         × (region.new ≡ outcome verdict (region_of marks.now v) (λ _. region.old)) }
 {
     c_answers::put_region(region::region(marks, regions, v), region)
@@ -108,8 +106,8 @@ pub extern "C" fn matcher_make_marks(
     marks: &mut [i32],
 ) -> u32
     ensures { let v = first (make_causes d b n vectors.now (length marks.old)) in
-        (result ≡ verdict_number v)
+        (result ≡ status_of v)
         × (marks.new ≡ outcome v (made_marks d b n vectors.now) (λ _. marks.old)) }
 {
-    marking::make_marks(d, b, n, vectors, marks).number()
+    refusal::status(marking::make_marks(d, b, n, vectors, marks))
 }

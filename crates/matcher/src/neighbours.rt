@@ -1,6 +1,6 @@
 // The nearest vectors, for C. Each gives 0, or the refusal's number; a refused call leaves the buffers as they were, and its count is 0.
 ghost use Rattle.std.specs.Prelude.{◌≡◌, length};
-ghost use Rattle.refusal.specs.Refusal.{verdict_number};
+ghost use Rattle.refusal.specs.Refusal.{status_of};
 ghost use Rattle.refusal.specs.First.{first, outcome};
 ghost use Rattle.batch.specs.Batch.{batch_terms, batch_of, batch_answers, batch_entries, batch_reads};
 ghost use Rattle.batch.specs.BatchCauses.{lengths_of, batch_causes};
@@ -27,12 +27,12 @@ pub extern "C" fn matcher_scan(
 ) -> u32
     ensures { let t = scan_terms d n k word in
         let v = first (scan_causes t query.now vectors.now (length entries.old)) in
-        (result ≡ verdict_number v) × (entries.new ≡ scanned_entries v t query.now vectors.now
+        (result ≡ status_of v) × (entries.new ≡ scanned_entries v t query.now vectors.now
         entries.old) }
 {
     let terms = ScanTerms { d, n, k, word };
     let verdict = nearest::scan(terms, query, vectors, entries);
-    verdict.number()
+    refusal::status(verdict)
 }
 
 // The same by the search; also the numbers of the vectors that it reads, in reading order, and their count.
@@ -55,7 +55,7 @@ pub extern "C" fn matcher_search(
         let l = index_of t marks.now codes.now vectors.now in
         let q = query_of t query.now in
         let v = first (search_causes l q k (room_of (length entries.old) (length reads.old))) in
-        (result ≡ verdict_number v)
+        (result ≡ status_of v)
         × (count.new ≡ outcome v (length (searched l q k).reads) (λ _. 0))
         × (entries.new ≡ search_entries v l q k entries.old)
         × (reads.new ≡ search_reads v l q k reads.old) }
@@ -88,7 +88,7 @@ pub extern "C" fn matcher_batch(
         vectors.now in
         let lengths = lengths_of batch (length answers.old) (length entries.old) (length reads.old) in
         let v = first (batch_causes t lengths marks.now codes.now) in
-        (result ≡ verdict_number v)
+        (result ≡ status_of v)
         × (answers.new ≡ batch_answers v batch answers.old)
         × (entries.new ≡ batch_entries v batch entries.old)
         × (reads.new ≡ batch_reads v batch reads.old) }
@@ -97,5 +97,5 @@ pub extern "C" fn matcher_batch(
     let verdict = least_reading::queries::search_batch(
         terms, queries, words, marks, codes, vectors, answers, entries, reads,
     );
-    verdict.number()
+    refusal::status(verdict)
 }

@@ -1,7 +1,7 @@
 // A vector added to a library, or one removed from it, for C. Each gives 0, or the refusal's number; a refused call leaves the buffers as
 // they were.
 ghost use Rattle.std.specs.Prelude.{◌≡◌, length};
-ghost use Rattle.refusal.specs.Refusal.{verdict_number};
+ghost use Rattle.refusal.specs.Refusal.{status_of};
 ghost use Rattle.refusal.specs.First.{first, outcome};
 ghost use Rattle.updating.specs.Updated.{coded_library, added, removed};
 ghost use Rattle.updating.specs.UpdateCauses.{lengths_with, add_causes, remove_causes};
@@ -28,7 +28,7 @@ pub extern "C" fn matcher_add(
         let v = first (add_causes l vector.now (lengths_with (length newvectors.old)
         (length newsettings.old) (length newcodes.old))) in
         let after = added l vector.now setting in
-        (result ≡ verdict_number v)
+        (result ≡ status_of v)
         × (newvectors.new ≡ outcome v after.vectors (λ _. newvectors.old))
         × (newsettings.new ≡ outcome v after.settings (λ _. newsettings.old))
         × (newcodes.new ≡ outcome v after.codes (λ _. newcodes.old)) }
@@ -45,7 +45,7 @@ pub extern "C" fn matcher_add(
         newsettings,
         newcodes,
     );
-    verdict.number()
+    refusal::status(verdict)
 }
 
 // The library without the vector of a number; those behind it move down by one.
@@ -67,7 +67,7 @@ pub extern "C" fn matcher_remove(
         let v = first (remove_causes l number (lengths_with (length newvectors.old)
         (length newsettings.old) (length newcodes.old))) in
         let after = removed l number in
-        (result ≡ verdict_number v)
+        (result ≡ status_of v)
         × (newvectors.new ≡ outcome v after.vectors (λ _. newvectors.old))
         × (newsettings.new ≡ outcome v after.settings (λ _. newsettings.old))
         × (newcodes.new ≡ outcome v after.codes (λ _. newcodes.old)) }
@@ -83,5 +83,5 @@ pub extern "C" fn matcher_remove(
         newsettings,
         newcodes,
     );
-    verdict.number()
+    refusal::status(verdict)
 }

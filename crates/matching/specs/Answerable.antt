@@ -1,11 +1,10 @@
 -- Behind a match whose rows pass nothing else can refuse: packing takes the library, and the search takes it with the codes that packing
 -- gave and the query. Assumes nothing.
-use Rattle.std.specs.Prelude.{◌≡◌, true, not, ◌&&◌, List, [], ◌∷◌, ◌++◌, ℕ, ◌*◌, ◌<◌, leb, length, drop}
+use Rattle.std.specs.Prelude.{◌≡◌, true, not, ◌&&◌, List, [], ◌∷◌, ◌++◌, ℕ, ◌*◌, ◌<◌, leb, length, drop, Ok}
 use Rattle.std.proofs.Math.Path.{refl}
 use Rattle.std.proofs.Common.{ap, ◌∙◌}
 use mathlib.Core.List.Memᴰ
 use borrow.Author.Tests.{not-false, eq-eqb}
-use Rattle.refusal.specs.declared.Verdict.TheVariants.{Accepted}
 use Rattle.refusal.specs.First.{first, outcome_accepted, passed}
 use Rattle.limits.specs.Limits.{is_dimension_count, is_bits}
 use Rattle.presence.specs.Presence.{word_causes}
@@ -43,7 +42,7 @@ cells_own s own (i ∷ is) among =
 
 -- ---- a library whose records pass
 
-module _ (bytes : List ℕ) (accepted : first (library_causes (read_library bytes) bytes) ≡ Accepted) where
+module _ (bytes : List ℕ) (accepted : first (library_causes (read_library bytes) bytes) ≡ Ok tt) where
   abbrev l : Library
   l = read_library bytes
 
@@ -55,7 +54,7 @@ module _ (bytes : List ℕ) (accepted : first (library_causes (read_library byte
       not-false _
       (passed (not (is_bits l.d l.b)) _ _ (passed (not (is_dimension_count l.d)) _ _ (loaded_shape bytes accepted)).rest).fails
 
-  pub packs : first (pack_vectors_causes l.d l.b l.n l.components l.marks (code_length l.b l.n)) ≡ Accepted
+  pub packs : first (pack_vectors_causes l.d l.b l.n l.components l.marks (code_length l.b l.n)) ≡ Ok tt
   unfolding first
   packs =
       rw (
@@ -71,8 +70,8 @@ module _ (bytes : List ℕ) (accepted : first (library_causes (read_library byte
       )
 
   pub searches : (query : Query) (k : ℕ) → length query.components ≡ l.d → are_components query.components ≡ true
-      → first (word_causes l.d query.word) ≡ Accepted → leb 1 k && leb k l.n ≡ true
-      → first (search_causes (searchable l) query k (room_of k l.n)) ≡ Accepted
+      → first (word_causes l.d query.word) ≡ Ok tt → leb 1 k && leb k l.n ≡ true
+      → first (search_causes (searchable l) query k (room_of k l.n)) ≡ Ok tt
   searches query k size components word neighbours =
       let s = searchable l in
       let own = packed_own bytes accepted in
@@ -104,7 +103,7 @@ module _ (bytes : List ℕ) (accepted : first (library_causes (read_library byte
 
 -- A match that is accepted prints k, how many vectors were read, and a line for each entry of the full scan's answer, over the dimensions
 -- that are present.
-pub printed_is_the_scan : (input : List ℕ) → first (match_causes input) ≡ Accepted
+pub printed_is_the_scan : (input : List ℕ) → first (match_causes input) ≡ Ok tt
     → let l = read_library input in
     let rest = behind l input in
     let k = k_of rest in

@@ -1,6 +1,6 @@
 -- No accepted match is longer than 45,928 bytes, and a longer input is refused by what stands in its first 45,929: the program reads no
 -- more. Assumes nothing.
-use Rattle.std.specs.Prelude.{◌≡◌, refl, Bool, not, cond, ◌||◌, ltb, eqb, ℤ, length, take, drop}
+use Rattle.std.specs.Prelude.{◌≡◌, refl, Bool, not, cond, ◌||◌, ltb, eqb, ℤ, length, take, drop, Ok, Err}
 use Rattle.std.proofs.Math.Path.{sym, ap}
 use Rattle.std.proofs.Common.{ap₂, subst, ◌∙◌, arith, eqb-true, lt-ltb, le-ltb, ne_eqb, lit≤, length-append, take_all, to_z}
 use Rattle.std.proofs.Math.Bool.{true, false}
@@ -12,8 +12,7 @@ use Rattle.std.proofs.lemmas.Bool.{not-false}
 use Rattle.std.specs.Int.{w16}
 use Rattle.refusal.specs.declared.Refusal.{Refusal}
 use Rattle.refusal.specs.declared.Refusal.TheVariants.{Kind, Misplaced, Trailing, Count}
-use Rattle.refusal.specs.declared.Verdict.{Verdict}
-use Rattle.refusal.specs.declared.Verdict.TheVariants.{Accepted, Refused}
+use Rattle.refusal.specs.Refusal.{Verdict}
 use Rattle.refusal.specs.First.{Row, ◌⇒◌, first, passed, first_here, outcome_refused, apart}
 use Rattle.limits.specs.Limits.{max_dimensions, max_dimension_bits, max_vectors, kit_vectors, is_vector_count}
 use Rattle.limits.specs.Tests.{between}
@@ -52,19 +51,19 @@ longest_match_lem = refl
 -- both refuse, by the same cause
 pub record BothRefuse (rows more : List Row) : Type 0 where
   pub cause : Refusal
-  pub one : first rows ≡ Refused cause
-  pub other : first more ≡ Refused cause
+  pub one : first rows ≡ Err cause
+  pub other : first more ≡ Err cause
 
 -- rows in front that are the same: they refuse in both, or neither
-in_front : (rows rows' more more' : List Row) → first rows ≡ first rows' → (first rows ≡ Accepted → BothRefuse more more')
+in_front : (rows rows' more more' : List Row) → first rows ≡ first rows' → (first rows ≡ Ok tt → BothRefuse more more')
     → BothRefuse (rows ++ more) (rows' ++ more')
 in_front rows rows' more more' same rest = go (first rows) refl
   where
     go : (v : Verdict) → first rows ≡ v → BothRefuse (rows ++ more) (rows' ++ more')
-    go Accepted e =
+    go (Ok _) e =
         let behind = rest e in
         record { cause = behind.cause; one = go_on rows more e ∙ behind.one; other = go_on rows' more' (sym same ∙ e) ∙ behind.other }
-    go (Refused cause) e = record { cause = cause; one = stop rows more e; other = stop rows' more' (sym same ∙ e) }
+    go (Err cause) e = record { cause = cause; one = stop rows more e; other = stop rows' more' (sym same ∙ e) }
 
 regroup : (head marks vectors end rest : List Row) → head ++ marks ++ vectors ++ end ++ rest ≡ head ++ (marks ++ (vectors ++ (end ++ rest)))
 regroup head marks vectors end rest = simp append_assoc
@@ -114,12 +113,12 @@ same_reading {m} {a} {b} is room =
 module _ (own : Reading → List Row) where
   -- a kind that is no reading's is refused whatever follows
   misplaced : (bytes : List ℕ) → 0 < length bytes → is_reading (kind_of bytes) ≡ false
-      → first (reading_causes own bytes) ≡ Refused (cond (is_kind (kind_of bytes)) Misplaced Kind)
+      → first (reading_causes own bytes) ≡ Err (cond (is_kind (kind_of bytes)) Misplaced Kind)
   unfolding reading_causes
   misplaced bytes some not-reading =
       stop (frame_causes (is_reading (kind_of bytes)) bytes) (own (reading_of bytes)) (go (is_kind (kind_of bytes)) refl)
     where
-      go : (t : Bool) → is_kind (kind_of bytes) ≡ t → first (frame_causes (is_reading (kind_of bytes)) bytes) ≡ Refused (cond t Misplaced Kind)
+      go : (t : Bool) → is_kind (kind_of bytes) ≡ t → first (frame_causes (is_reading (kind_of bytes)) bytes) ≡ Err (cond t Misplaced Kind)
       go true e = unfold first frame_causes in rw (ne_eqb (length bytes) 0 (λ z. omega arith), e, not-reading)
       go false e = unfold first frame_causes in rw (ne_eqb (length bytes) 0 (λ z. omega arith), e)
 
@@ -134,10 +133,10 @@ module _ (own : Reading → List Row) where
           unfold reading_causes in rw
           (same_frame (is_reading (kind_of a)) is (omega (arith, reading_most (kind_of a) e)), kinds, same_reading is room)
       go false e =
-          misplaced a (omega (arith, is.one_has)) e ∙ ap (λ (kind : ℕ). Refused (cond (is_kind kind) Misplaced Kind)) kinds
+          misplaced a (omega (arith, is.one_has)) e ∙ ap (λ (kind : ℕ). Err (cond (is_kind kind) Misplaced Kind)) kinds
           ∙ sym (misplaced b (omega (arith, is.other_has)) (rw kinds at e))
 
-  reading_there : (bytes : List ℕ) → first (reading_causes own bytes) ≡ Accepted → is_reading (kind_of bytes) ≡ true
+  reading_there : (bytes : List ℕ) → first (reading_causes own bytes) ≡ Ok tt → is_reading (kind_of bytes) ≡ true
   unfolding reading_causes
   reading_there bytes accepted =
       (framed (is_reading (kind_of bytes)) bytes
@@ -241,8 +240,8 @@ module _ (a b : List ℕ) (is : Alike (suc longest_match) a b) where
       (rw (same_d, same_b, same_n))
 
   -- behind a head that passes
-  module _ (passes : first (head_causes one a) ≡ Accepted) where
-    own_heads : first (shape_causes one.d one.b ++ ((not (is_vector_count one.n) ⇒ Count) ∷ [])) ≡ Accepted
+  module _ (passes : first (head_causes one a) ≡ Ok tt) where
+    own_heads : first (shape_causes one.d one.b ++ ((not (is_vector_count one.n) ⇒ Count) ∷ [])) ≡ Ok tt
     own_heads = (both (frame_causes (eqb (kind_of a) head_kind) a) _ passes).back
 
     shaped : Shape one.d one.b
@@ -361,7 +360,7 @@ longer_text input long =
     outcome_refused _ refused_text refused.one ∙ sym (outcome_refused _ refused_text refused.other)
 
 -- .. and no accepted input is longer.
-pub accepted_length : (input : List ℕ) → first (match_causes input) ≡ Accepted → length input ≤ longest_match
+pub accepted_length : (input : List ℕ) → first (match_causes input) ≡ Ok tt → length input ≤ longest_match
 accepted_length input accepted = go (dec_lt longest_match (length input))
   where
     go : Dec (longest_match < length input) → length input ≤ longest_match

@@ -1,9 +1,9 @@
 -- A match (document 01, "The program"): "Standard input: a library, k (2 bytes), a query." What comes out is one text, and this is all of
 -- it. Assumes nothing.
-use Rattle.std.specs.Prelude.{not, ◌&&◌, List, [], ◌∷◌, ◌++◌, ℕ, ◌+◌, ◌*◌, leb, ltb, eqb, length, drop}
+use Rattle.std.specs.Prelude.{not, ◌&&◌, List, [], ◌∷◌, ◌++◌, ℕ, ◌+◌, ◌*◌, leb, ltb, eqb, length, drop, Ok, Err, Result}
+use Rattle.refusal.specs.declared.Refusal.{Refusal}
 use Rattle.refusal.specs.declared.Refusal.TheVariants.{Neighbours, Length, Truncated}
-use Rattle.refusal.specs.declared.Verdict.{Verdict}
-use Rattle.refusal.specs.declared.Verdict.TheVariants.{Accepted, Refused}
+use Rattle.refusal.specs.Refusal.{Verdict}
 use Rattle.refusal.specs.First.{Row, ◌⇒◌, first, outcome}
 use Rattle.limits.specs.Limits.{max_neighbours}
 use Rattle.records.specs.Bytes.{from_low_first}
@@ -11,7 +11,6 @@ use Rattle.library.specs.Library.{Library, library_length, read_library}
 use Rattle.loading.specs.Load.{records_causes as library_causes}
 use Rattle.search.specs.Search.{Query}
 use Rattle.query.specs.Query.{present_causes_of, components_of, word_of}
-use Rattle.matching.specs.declared.Printed.{Printed}
 use Rattle.matching.specs.Answer.{refused_text, answer_text}
 
 -- ---- what stands where
@@ -67,6 +66,5 @@ abbrev pub room_causes : ℕ → List Row
 room_causes room = (not (eqb room text_room) ⇒ Length) ∷ []
 
 -- how many bytes the text has; refused, none is written
-abbrev pub printed : Verdict → List ℕ → Printed
-printed verdict text =
-    outcome verdict (record { verdict = Accepted; length = length text }) (λ cause. record { verdict = Refused cause; length = 0 })
+abbrev pub printed : Verdict → List ℕ → Result ℕ Refusal
+printed verdict text = outcome verdict (Ok (length text)) Err

@@ -1,12 +1,11 @@
 -- "The kit program goes over to both and no longer gives 13" (document 02, Slip 1): no input has the number, and none the text. Assumes
 -- nothing.
-use Rattle.std.specs.Prelude.{◌≡◌, refl, ◌≢◌, true, List, ◌++◌, ℕ, zero, suc, drop}
+use Rattle.std.specs.Prelude.{◌≡◌, refl, ◌≢◌, true, List, ◌++◌, ℕ, zero, suc, drop, Ok, Err}
 use Rattle.std.proofs.Common.{ap}
 use Rattle.refusal.specs.declared.Refusal.{Refusal}
 use Rattle.refusal.specs.declared.Refusal.TheVariants.{Stale}
-use Rattle.refusal.specs.declared.Verdict.{Verdict}
-use Rattle.refusal.specs.declared.Verdict.TheVariants.{Accepted, Refused}
-use Rattle.refusal.specs.Refusal.{number_of, verdict_number}
+use Rattle.refusal.specs.Refusal.{Verdict}
+use Rattle.refusal.specs.Refusal.{number_of, status_of}
 use Rattle.refusal.specs.First.{Row, first, outcome}
 use Rattle.refusal.proofs.Never.{lacks, lacks_append, never_number}
 use Rattle.refusal.proofs.Numbers.{one_cause}
@@ -50,22 +49,22 @@ match_lacks input =
     lacks_append Stale (library_causes l input) (k_causes l.n rest ++ present_causes_of l.d (drop k_length rest)) (library_lacks l input)
     (present_causes_lack l.d (drop k_length rest))
 
-pub match_never_13 : (input : List ℕ) → verdict_number (first (match_causes input)) ≢ 13
+pub match_never_13 : (input : List ℕ) → status_of (first (match_causes input)) ≢ 13
 match_never_13 input = never_number Stale (match_causes input) (match_lacks input)
 
 -- ---- the text
 
 -- a refusal's text tells its cause
-pub cause_told : (input : List ℕ) (cause : Refusal) → match_text input ≡ refused_text cause → first (match_causes input) ≡ Refused cause
+pub cause_told : (input : List ℕ) (cause : Refusal) → match_text input ≡ refused_text cause → first (match_causes input) ≡ Err cause
 unfolding match_text match_causes
 cause_told input cause same = go (first (match_causes input)) same
   where
     go : (v : Verdict)
         → let l = read_library input in
         let rest = behind l input in
-        outcome v (answer_text l (read_query l.d (drop k_length rest)) (k_of rest)) refused_text ≡ refused_text cause → v ≡ Refused cause
-    go Accepted same = absurd (line_not_refused _ _ _ _ _ same)
-    go (Refused other) same = ap Refused (one_cause other cause (refused_told (number_of other) (number_of cause) same))
+        outcome v (answer_text l (read_query l.d (drop k_length rest)) (k_of rest)) refused_text ≡ refused_text cause → v ≡ Err cause
+    go (Ok _) same = absurd (line_not_refused _ _ _ _ _ same)
+    go (Err other) same = ap Err (one_cause other cause (refused_told (number_of other) (number_of cause) same))
 
 pub text_never_13 : (input : List ℕ) → match_text input ≢ refused_line 13
-text_never_13 input same = match_never_13 input (ap verdict_number (cause_told input Stale same))
+text_never_13 input same = match_never_13 input (ap status_of (cause_told input Stale same))

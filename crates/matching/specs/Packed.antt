@@ -1,8 +1,7 @@
 -- The codes that packing gives for a library whose records pass are its vectors' own. Assumes nothing.
-use Rattle.std.specs.Prelude.{◌≡◌, true, List, ℕ, suc, ◌*◌, ◌/◌, ◌%◌, ◌<◌}
+use Rattle.std.specs.Prelude.{◌≡◌, true, List, ℕ, suc, ◌*◌, ◌/◌, ◌%◌, ◌<◌, Ok}
 use Rattle.std.proofs.Common.{zero-add, mod-lt, div-lt_iff_lt-mul}
 use Rattle.std.proofs.Math.Nat.{zero-mod}
-use Rattle.refusal.specs.declared.Verdict.TheVariants.{Accepted}
 use Rattle.refusal.specs.First.{first}
 use Rattle.region.specs.Region.{in_marks}
 use Rattle.partition.specs.Marks.{dimension_marks}
@@ -15,7 +14,7 @@ use Rattle.library.specs.Tests.{inside}
 use Rattle.loading.specs.Load.{records_causes as library_causes}
 use Rattle.loading.specs.Loaded.{shaped, components_count, component_at_lem, vector_inside}
 
-module _ (bytes : List ℕ) (accepted : first (library_causes (read_library bytes) bytes) ≡ Accepted) where
+module _ (bytes : List ℕ) (accepted : first (library_causes (read_library bytes) bytes) ≡ Ok tt) where
   abbrev l : Library
   l = read_library bytes
 

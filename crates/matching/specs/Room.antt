@@ -1,5 +1,5 @@
 -- No text is longer than the bound for which the output is lent. Assumes nothing.
-use Rattle.std.specs.Prelude.{◌≡◌, refl, true, ◌&&◌, List, [], ◌∷◌, ℕ, zero, suc, ◌+◌, ◌*◌, ◌^◌, ◌≤◌, ◌<◌, leb, ℤ, pos, negsuc, length, get_or, drop}
+use Rattle.std.specs.Prelude.{◌≡◌, refl, true, ◌&&◌, List, [], ◌∷◌, ℕ, zero, suc, ◌+◌, ◌*◌, ◌^◌, ◌≤◌, ◌<◌, leb, ℤ, pos, negsuc, length, get_or, drop, Ok, Err}
 use Rattle.std.proofs.Math.Bool.{and-eq-true_iff}
 use mathlib.Core.List.Memᴰ
 use Rattle.std.proofs.Common.{suc-mul, mul-le-mul, mul-le-mul_right, le_trans, arith, leb-true, lit<, length-append}
@@ -10,8 +10,7 @@ use Rattle.refusal.specs.declared.Refusal.{Refusal}
 use Rattle.refusal.specs.declared.Refusal.TheVariants.{Dimension, Bits, Count, Neighbours, Length, Component, Mark, Outside, Code, Cell}
 use Rattle.refusal.specs.declared.Refusal.TheVariants.{Kind, Truncated, Stale, NotANumber, OutOfRange, Trailing, Misplaced}
 use Rattle.refusal.specs.declared.Refusal.TheVariants.{TooFewPresent, PresenceBit, Full, NotRemovable, TooManyQueries}
-use Rattle.refusal.specs.declared.Verdict.{Verdict}
-use Rattle.refusal.specs.declared.Verdict.TheVariants.{Accepted, Refused}
+use Rattle.refusal.specs.Refusal.{Verdict}
 use Rattle.refusal.specs.Refusal.{number_of}
 use Rattle.refusal.specs.First.{first, outcome, passed}
 use Rattle.limits.specs.Limits.{max_dimensions, max_vectors, least_component, is_component}
@@ -154,7 +153,7 @@ settings_below bytes are i = go (dec_lt i (read_library bytes).n)
         let l = read_library bytes in
         rw (settings_read bytes, tabulate_past l.n (settings_at (mark_total l.d l.b) bytes) 0 i (omega arith)) (lit< tt)
 
-module _ (bytes : List ℕ) (accepted : first (library_causes (read_library bytes) bytes) ≡ Accepted) (are : AreBytes bytes)
+module _ (bytes : List ℕ) (accepted : first (library_causes (read_library bytes) bytes) ≡ Ok tt) (are : AreBytes bytes)
     (query : Query) (of_query : are_components query.components ≡ true) (k : ℕ) (some : k ≤ (read_library bytes).n) where
   abbrev l : Library
   l = read_library bytes
@@ -200,7 +199,7 @@ text_room_lem input are = go (first (causes_with l input)) refl
     go : (v : Verdict) → first (causes_with l input) ≡ v
         → length (outcome v
         (answer_text l (read_query l.d (drop k_length (behind l input))) (k_of (behind l input))) refused_text) ≤ text_room
-    go Accepted e =
+    go (Ok _) e =
         let library = both (library_causes l input) _ e in
         let rest = both (k_causes l.n (behind l input)) (present_causes_of l.d (drop k_length (behind l input))) library.back in
         let neighbours = passed _ Neighbours [] (passed _ Truncated _ rest.front).rest in
@@ -208,4 +207,4 @@ text_room_lem input are = go (first (causes_with l input)) refl
         answer_room input library.front are (read_query l.d (drop k_length (behind l input)))
         (present_components l.d (drop k_length (behind l input)) rest.back) k
         (between 1 k l.n (not-false (leb 1 k && leb k l.n) neighbours.fails)).below
-    go (Refused cause) e = refused_room cause
+    go (Err cause) e = refused_room cause

@@ -1,13 +1,12 @@
 -- The text of a match by the steps in which it is found: the library, k, the query, the answer. Assumes nothing.
-use Rattle.std.specs.Prelude.{◌≡◌, Bool, true, not, cond, ◌&&◌, List, [], ◌∷◌, ◌++◌, ℕ, ◌*◌, ◌≤◌, ◌<◌, leb, ℤ, length, take, drop}
+use Rattle.std.specs.Prelude.{◌≡◌, Bool, true, not, cond, ◌&&◌, List, [], ◌∷◌, ◌++◌, ℕ, ◌*◌, ◌≤◌, ◌<◌, leb, ℤ, length, take, drop, Ok, Err}
 use Rattle.std.proofs.Math.Path.{refl}
 use Rattle.std.proofs.Common.{sym, ap, ap₂, ◌∙◌, mul-le-mul, arith, ltb-false, lt-ltb, le-ltb, eq-eqb, length-take, take_at}
 use Rattle.std.proofs.Math.Bool.{false}
 use Rattle.std.proofs.lemmas.Bool.{not-false}
 use Rattle.refusal.specs.declared.Refusal.{Refusal}
 use Rattle.refusal.specs.declared.Refusal.TheVariants.{Dimension, Neighbours, Length, Truncated}
-use Rattle.refusal.specs.declared.Verdict.{Verdict}
-use Rattle.refusal.specs.declared.Verdict.TheVariants.{Accepted, Refused}
+use Rattle.refusal.specs.Refusal.{Verdict}
 use Rattle.refusal.specs.First.{◌⇒◌, first, outcome, outcome_refused, first_here, first_next, passed}
 use Rattle.limits.specs.Limits.{max_dimensions, max_vectors, is_dimension_count}
 use Rattle.limits.specs.Tests.{between}
@@ -21,7 +20,7 @@ use Rattle.search.specs.Ready.{room_of}
 use Rattle.records.specs.RowLaws.{go_on, stop}
 use Rattle.loading.specs.declared.Loaded.{Loaded}
 use Rattle.library.specs.Library.{Library, library_with, mark_total, library_length, read_library}
-use Rattle.loading.specs.Load.{marks_room, settings_room, components_room, records_causes as library_causes, load_causes, counts, filled}
+use Rattle.loading.specs.Load.{loaded, marks_room, settings_room, components_room, records_causes as library_causes, load_causes, counts, filled}
 use Rattle.loading.specs.Loaded.{loaded_shape, loaded_count, shaped, marks_count, settings_count, components_count, loaded_within}
 use Rattle.query.specs.Query.{present_query_causes as lentCauses, present_causes_of}
 use Rattle.matching.specs.Answer.{searchable, refused_text, answer_text}
@@ -40,13 +39,13 @@ query_text l k bytes = outcome (first (present_causes_of l.d bytes)) (answer_tex
 
 -- what the library can be asked: packing takes it, the search takes it with any query and any k that pass, and each vector has settings
 pub record Ready (l : Library) : Type 0 where
-  pub of_packing : first (pack_vectors_causes l.d l.b l.n l.components l.marks (code_length l.b l.n)) ≡ Accepted
+  pub of_packing : first (pack_vectors_causes l.d l.b l.n l.components l.marks (code_length l.b l.n)) ≡ Ok tt
   pub of_search : (query : Query) (k : ℕ) → length query.components ≡ l.d → are_components query.components ≡ true
-      → first (word_causes l.d query.word) ≡ Accepted → leb 1 k && leb k l.n ≡ true
-      → first (search_causes (searchable l) query k (room_of k l.n)) ≡ Accepted
+      → first (word_causes l.d query.word) ≡ Ok tt → leb 1 k && leb k l.n ≡ true
+      → first (search_causes (searchable l) query k (room_of k l.n)) ≡ Ok tt
   pub of_settings : length l.settings ≡ l.n
 
-pub ready : (input : List ℕ) → first (library_causes (read_library input) input) ≡ Accepted → Ready (read_library input)
+pub ready : (input : List ℕ) → first (library_causes (read_library input) input) ≡ Ok tt → Ready (read_library input)
 ready input passes = record {
   of_packing =
       packs input passes;
@@ -56,12 +55,12 @@ ready input passes = record {
 
 -- ---- a step that refuses, and one that passes
 
-pub library_refused : (input : List ℕ) {cause : Refusal} → first (library_causes (read_library input) input) ≡ Refused cause
+pub library_refused : (input : List ℕ) {cause : Refusal} → first (library_causes (read_library input) input) ≡ Err cause
     → match_text input ≡ refused_text cause
 unfolding match_text
 library_refused input refused = outcome_refused _ refused_text (stop (library_causes (read_library input) input) _ refused)
 
-pub library_passes : (input : List ℕ) → first (library_causes (read_library input) input) ≡ Accepted
+pub library_passes : (input : List ℕ) → first (library_causes (read_library input) input) ≡ Ok tt
     → match_text input ≡ rest_text (read_library input) (behind (read_library input) input)
 unfolding match_text
 library_passes input passes =
@@ -70,31 +69,31 @@ library_passes input passes =
     ap (λ (v : Verdict). outcome v (answer_text l (read_query l.d (drop k_length rest)) (k_of rest)) refused_text)
     (go_on (library_causes l input) _ passes)
 
-pub k_refused : (l : Library) (rest : List ℕ) {cause : Refusal} → first (k_causes l.n rest) ≡ Refused cause
+pub k_refused : (l : Library) (rest : List ℕ) {cause : Refusal} → first (k_causes l.n rest) ≡ Err cause
     → rest_text l rest ≡ refused_text cause
 k_refused l rest refused = outcome_refused _ refused_text (stop (k_causes l.n rest) _ refused)
 
-pub k_passes : (l : Library) (rest : List ℕ) → first (k_causes l.n rest) ≡ Accepted
+pub k_passes : (l : Library) (rest : List ℕ) → first (k_causes l.n rest) ≡ Ok tt
     → rest_text l rest ≡ query_text l (k_of rest) (drop k_length rest)
 k_passes l rest passes =
     ap (λ (v : Verdict). outcome v (answer_text l (read_query l.d (drop k_length rest)) (k_of rest)) refused_text)
     (go_on (k_causes l.n rest) _ passes)
 
-pub k_among : (n : ℕ) (rest : List ℕ) → first (k_causes n rest) ≡ Accepted → leb 1 (k_of rest) && leb (k_of rest) n ≡ true
+pub k_among : (n : ℕ) (rest : List ℕ) → first (k_causes n rest) ≡ Ok tt → leb 1 (k_of rest) && leb (k_of rest) n ≡ true
 k_among n rest passes = not-false _ (passed _ Neighbours _ (passed _ Truncated _ passes).rest).fails
 
-pub k_truncated : (n : ℕ) (rest : List ℕ) → length rest < k_length → first (k_causes n rest) ≡ Refused Truncated
+pub k_truncated : (n : ℕ) (rest : List ℕ) → length rest < k_length → first (k_causes n rest) ≡ Err Truncated
 k_truncated n rest short = first_here Truncated _ (lt-ltb (length rest) k_length short)
 
 pub k_tested : (n : ℕ) (rest : List ℕ) → k_length ≤ length rest
-    → first (k_causes n rest) ≡ cond (leb 1 (k_of rest) && leb (k_of rest) n) Accepted (Refused Neighbours)
+    → first (k_causes n rest) ≡ cond (leb 1 (k_of rest) && leb (k_of rest) n) (Ok tt) (Err Neighbours)
 k_tested n rest there = first_next Truncated _ (le-ltb (length rest) k_length there) ∙ go (leb 1 (k_of rest) && leb (k_of rest) n)
   where
-    go : (t : Bool) → first ((not t ⇒ Neighbours) ∷ []) ≡ cond t Accepted (Refused Neighbours)
+    go : (t : Bool) → first ((not t ⇒ Neighbours) ∷ []) ≡ cond t (Ok tt) (Err Neighbours)
     go true = unfold first in refl
     go false = unfold first in refl
 
-pub k_there : (n : ℕ) (rest : List ℕ) → first (k_causes n rest) ≡ Accepted → k_length ≤ length rest
+pub k_there : (n : ℕ) (rest : List ℕ) → first (k_causes n rest) ≡ Ok tt → k_length ≤ length rest
 k_there n rest passes = ltb-false (length rest) k_length (passed _ Truncated _ passes).fails
 
 -- ---- the query
@@ -118,7 +117,7 @@ begins_within front buffer begins = omega (arith, sym (length-take (length front
 
 -- what loading leaves of an input whose library passes
 pub record HoldsLibrary (input : List ℕ) (d b n used : ℕ) (marks : List ℤ) (settings : List ℕ) (components : List ℤ) : Type 0 where
-  pub passes : first (library_causes (read_library input) input) ≡ Accepted
+  pub passes : first (library_causes (read_library input) input) ≡ Ok tt
   pub d_is : d ≡ (read_library input).d
   pub b_is : b ≡ (read_library input).b
   pub n_is : n ≡ (read_library input).n
@@ -134,11 +133,31 @@ unfolding load_causes
 load_rows input of_marks of_settings of_components =
     first_next Length _ (rw (eq-eqb _ _ of_marks, eq-eqb _ _ of_settings, eq-eqb _ _ of_components))
 
-pub counts_verdict : (v : Verdict) (l : Library) → (counts v l).verdict ≡ v
-counts_verdict Accepted l = refl
-counts_verdict (Refused cause) l = refl
+-- where loading refuses, the verdict does
+pub counts_refused : {v : Verdict} (l : Library) {cause : Refusal} → counts v l ≡ Err cause → v ≡ Err cause
+counts_refused {v = v} l {cause = cause} is = go v is
+  where
+    go : (w : Verdict) → counts w l ≡ Err cause → w ≡ Err cause
+    go (Ok _) same =
+        let impossible : ◌≡◌ {A = ℕ} 0 1 = cc in
+        absurd (omega arith)
+    go (Err other) same = cc
 
-pub filled_begins : {A : Type 0} (v : Verdict) (new old : List A) → v ≡ Accepted → Begins new (filled v new old)
+-- what was loaded, and that nothing refuses it
+pub record Loads (v : Verdict) (l : Library) (r : Loaded) : Type 0 where
+  pub accepted : v ≡ Ok tt
+  pub is : r ≡ loaded l
+
+pub counts_loaded : {v : Verdict} (l : Library) {r : Loaded} → counts v l ≡ Ok r → Loads v l r
+counts_loaded {v = v} l {r = r} is = go v is
+  where
+    go : (w : Verdict) → counts w l ≡ Ok r → Loads w l r
+    go (Ok _) same = record { accepted = refl; is = cc }
+    go (Err other) same =
+        let impossible : ◌≡◌ {A = ℕ} 0 1 = cc in
+        absurd (omega arith)
+
+pub filled_begins : {A : Type 0} (v : Verdict) (new old : List A) → v ≡ Ok tt → Begins new (filled v new old)
 filled_begins v new old accepted = rw accepted (take_at new (drop (length new) old) (length new) refl)
 
 module _ {input : List ℕ} {d b n used : ℕ} {marks : List ℤ} {settings : List ℕ} {components : List ℤ}
@@ -146,7 +165,7 @@ module _ {input : List ℕ} {d b n used : ℕ} {marks : List ℤ} {settings : Li
   abbrev l : Library
   l = read_library input
 
-  pub held_shape : first (shape_causes d b) ≡ Accepted
+  pub held_shape : first (shape_causes d b) ≡ Ok tt
   held_shape = rw (is.d_is, is.b_is) (loaded_shape input is.passes)
 
   pub held_few : n * d ≤ components_room
@@ -188,25 +207,22 @@ module _ {input : List ℕ} {d b n used : ℕ} {marks : List ℤ} {settings : Li
 
 module _ (input : List ℕ) {room-marks room-settings room-components : ℕ} (of_marks : room-marks ≡ marks_room)
     (of_settings : room-settings ≡ settings_room)
-    (of_components : room-components ≡ components_room) {r : Loaded}
-    (is : r ≡ counts (first (load_causes room-marks room-settings room-components input)) (read_library input)) where
+    (of_components : room-components ≡ components_room) where
   abbrev v : Verdict
   v = first (load_causes room-marks room-settings room-components input)
 
-  verdict_is : r.verdict ≡ v
-  verdict_is = ap (λ (loaded : Loaded). loaded.verdict) is ∙ counts_verdict v (read_library input)
+  pub loaded_refused : {cause : Refusal} → counts v (read_library input) ≡ Err cause → match_text input ≡ refused_text cause
+  loaded_refused refused = library_refused input (sym (load_rows input of_marks of_settings of_components) ∙ counts_refused (read_library input) refused)
 
-  pub loaded_refused : {cause : Refusal} → r.verdict ≡ Refused cause → match_text input ≡ refused_text cause
-  loaded_refused refused = library_refused input (sym (load_rows input of_marks of_settings of_components) ∙ sym verdict_is ∙ refused)
-
-  pub loaded_holds : r.verdict ≡ Accepted
+  pub loaded_holds : {r : Loaded} → counts v (read_library input) ≡ Ok r
       → {marks : List ℤ} {settings : List ℕ} {components : List ℤ} (marks₀ : List ℤ) (settings₀ : List ℕ) (components₀ : List ℤ)
       → marks ≡ filled v (read_library input).marks marks₀ → settings ≡ filled v (read_library input).settings settings₀
       → components ≡ filled v (read_library input).components components₀
       → HoldsLibrary input r.d r.b r.n r.used marks settings components
-  loaded_holds accepted marks₀ settings₀ components₀ marks_are settings-are components_are =
-      let passes = sym verdict_is ∙ accepted in
-      let same = is ∙ ap (λ (v : Verdict). counts v (read_library input)) passes in
+  loaded_holds given marks₀ settings₀ components₀ marks_are settings-are components_are =
+      let told = counts_loaded (read_library input) given in
+      let passes = told.accepted in
+      let same = told.is in
       record {
         passes = sym (load_rows input of_marks of_settings of_components) ∙ passes;
         d_is = ap (λ (loaded : Loaded). loaded.d) same;

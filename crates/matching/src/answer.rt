@@ -1,6 +1,5 @@
 // The answer of a match: the nearest vectors of a loaded library, as text.
 ghost use Rattle.std.specs.Prelude.{◌≡◌, ◌≤◌, length};
-ghost use Rattle.refusal.specs.declared.Verdict.TheVariants.{Accepted};
 ghost use Rattle.refusal.specs.First.{first};
 ghost use Rattle.codes.specs.Codes.{code_length};
 ghost use Rattle.approximation.specs.VectorCauses.{pack_vectors_causes};
@@ -13,7 +12,7 @@ ghost use Rattle.matching.specs.Answer.{searchable, answer_lines, answer_text};
 use crate::lines::put_answer;
 use least_reading::nearest_by_bounds;
 use limits::{KIT_VECTORS, MAX_DIMENSION_BITS, MAX_DIMENSIONS};
-use search::{Terms, read_count};
+use search::Terms;
 
 // The most bytes that codes have.
 const CODES_ROOM: usize = KIT_VECTORS * MAX_DIMENSION_BITS * MAX_DIMENSIONS / 8;
@@ -28,9 +27,9 @@ pub(crate) fn answer(
     text: &mut [u8],
 ) -> usize
     requires n_value { first (pack_vectors_causes terms.d terms.b terms.n components.now marks.now (code_length terms.b terms.n))
-        ≡ Accepted }
+        ≡ Ok tt }
     requires n_value_2 { let l = library_with terms.d terms.b terms.n marks.now settings.now components.now in
-        first (search_causes (searchable l) (query_of terms query.now) terms.k (room_of terms.k terms.n)) ≡ Accepted }
+        first (search_causes (searchable l) (query_of terms query.now) terms.k (room_of terms.k terms.n)) ≡ Ok tt }
     requires settings_len { length settings.now ≡ terms.n }
     requires k_in_bounds { let l = library_with terms.d terms.b terms.n marks.now settings.now components.now in
         length (answer_text l (query_of terms query.now) terms.k) ≤ length text.old }
@@ -40,7 +39,7 @@ pub(crate) fn answer(
 {
     let size = layout::codes_length(terms.d, terms.b, terms.n);
     let mut codes = [0u8; CODES_ROOM];
-    approximation::pack_vectors(
+    let _ = approximation::pack_vectors(
         terms.d,
         terms.b,
         terms.n,
@@ -70,7 +69,7 @@ fn answer_coded(
     text: &mut [u8],
 ) -> usize
     requires n_value { first (search_causes (index_of terms marks.now codes.now components.now) (query_of terms query.now) terms.k
-        (room_of terms.k terms.n)) ≡ Accepted }
+        (room_of terms.k terms.n)) ≡ Ok tt }
     requires settings_len { length settings.now ≡ terms.n }
     requires k_in_bounds { length (answer_lines settings.now terms.k
         (searched (index_of terms marks.now codes.now components.now) (query_of terms query.now) terms.k)) ≤ length text.old }
@@ -82,8 +81,14 @@ fn answer_coded(
     let n = terms.n;
     let k = terms.k;
     let mut reads = [0u32; KIT_VECTORS];
-    let found = nearest_by_bounds(terms, query, marks, codes, components, k, &mut reads[..n]);
-    let answer = found.answer;
-    let entries = found.entries;
-    put_answer(k, read_count(answer), settings, entries, text)
+    let found = nearest_by_bounds(
+        terms,
+        query,
+        marks,
+        codes,
+        components,
+        k,
+        &mut reads[..n],
+    ).unwrap();
+    put_answer(k, found.count, settings, found.entries, text)
 }

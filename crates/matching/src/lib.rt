@@ -15,8 +15,8 @@ ghost use Rattle.matching.specs.Steps.{HoldsLibrary};
 use crate::lines::put_refusal;
 use crate::parts::match_rest;
 use limits::MAX_NEIGHBOURS;
-use loading::{COMPONENTS_ROOM, MARKS_ROOM, SETTINGS_ROOM, load};
-use refusal::{Refusal, Verdict};
+use loading::{COMPONENTS_ROOM, Loaded, MARKS_ROOM, SETTINGS_ROOM, load};
+use refusal::Refusal;
 
 // How many bytes k has.
 pub const K_LENGTH: usize = 2;
@@ -25,33 +25,20 @@ pub const K_LENGTH: usize = 2;
 // each at its most digits with the byte behind it. No text needs all of it.
 pub const TEXT_ROOM: usize = (4 + 4) + MAX_NEIGHBOURS * (4 + 11 + 13);
 
-// What a match answers: nothing refuses the output, or the cause that does, and how many bytes the text has.
-#[derive(Drop)]
-pub struct Printed {
-    pub verdict: Verdict,
-    pub length: usize,
-}
-
-// The text of a match is written into the front of the output.
-pub fn run(input: &[u8], output: &mut [u8]) -> Printed
+// The text of a match is written into the front of the output; the answer is how many bytes it has.
+pub fn run(input: &[u8], output: &mut [u8]) -> Result<usize, Refusal>
     ensures value { result ≡ printed (first (room_causes (length output.old))) (match_text input.now) }
     ensures output_after { output.new
         ≡ filled (first (room_causes (length output.old))) (match_text input.now) output.old }
 {
     if output.len() != TEXT_ROOM {
-        return Printed {
-            verdict: Verdict::Refused(Refusal::Length),
-            length: 0,
-        };
+        return Err(Refusal::Length);
     }
     let mut marks = [0i32; MARKS_ROOM];
     let mut settings = [0u32; SETTINGS_ROOM];
     let mut components = [0i32; COMPONENTS_ROOM];
     let length = match_input(input, &mut marks, &mut settings, &mut components, output);
-    Printed {
-        verdict: Verdict::Accepted,
-        length,
-    }
+    Ok(length)
 }
 
 // The text of a match, with buffers for its library.
@@ -66,40 +53,29 @@ fn match_input(
     requires input_in_bounds { length (match_text input.now) ≤ length text.old }
     ensures { Puts (match_text input.now) 0 text.old text.new result }
 {
-    let loaded = load(input, marks, settings, components);
-    let verdict = loaded.verdict;
-    match verdict {
-        Verdict::Accepted => match_loaded(
-            input,
-            loaded.d,
-            loaded.b,
-            loaded.n,
-            loaded.used,
-            marks,
-            settings,
-            components,
-            text,
-        ),
-        Verdict::Refused(cause) => put_refusal(cause, text),
+    match load(input, marks, settings, components) {
+        Ok(loaded) => match_loaded(input, loaded, marks, settings, components, text),
+        Err(cause) => put_refusal(cause, text),
     }
 }
 
 // The text of a match whose library passes; the library stands in the fronts of its buffers.
 fn match_loaded(
     input: &[u8],
-    d: usize,
-    b: usize,
-    n: usize,
-    used: usize,
+    loaded: Loaded,
     marks: &[i32],
     settings: &[u32],
     components: &[i32],
     text: &mut [u8],
 ) -> usize
-    requires holds_library { HoldsLibrary input.now d b n used marks.now settings.now components.now }
+    requires holds_library { HoldsLibrary input.now loaded.d loaded.b loaded.n loaded.used marks.now settings.now components.now }
     requires input_in_bounds { length (match_text input.now) ≤ length text.old }
     ensures { Puts (match_text input.now) 0 text.old text.new result }
 {
+    let d = loaded.d;
+    let b = loaded.b;
+    let n = loaded.n;
+    let used = loaded.used;
     let m = layout::marks_length(d, b);
     let count = n * d;
     match_rest(

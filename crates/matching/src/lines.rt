@@ -39,19 +39,16 @@ fn put_entries(
     ensures { Puts (entry_lines settings.now (pairs_in (take k entries))) at text.old text.new result }
 {
     let mut next = at;
-    let mut i = 0;
-    while i < k {
-        let entry = entries[i];
+    for entry in &entries[..k] {
         let number = entry.number as usize;
         let vector_settings = settings[number];
         let length = put_three(
-            entry.number as u64,
-            vector_settings as u64,
+            u64::from(entry.number),
+            u64::from(vector_settings),
             entry.distance,
             &mut text[next..],
         );
         next += length;
-        i += 1;
     }
     next
 }
@@ -60,5 +57,5 @@ fn put_entries(
 pub(crate) fn put_refusal(cause: Refusal, text: &mut [u8]) -> usize
     ensures { Puts (refused_text cause) 0 text.old text.new result }
 {
-    put_refused(cause.number() as u64, text)
+    put_refused(u64::from(cause.number()), text)
 }

@@ -10,7 +10,7 @@ use crate::K_LENGTH;
 use crate::answer::answer;
 use crate::lines::put_refusal;
 use limits::MAX_DIMENSIONS;
-use refusal::{Refusal, Verdict};
+use refusal::Refusal;
 use search::Terms;
 
 // The text of a match whose library passes, from what stands behind the library.
@@ -30,7 +30,7 @@ pub(crate) fn match_rest(
         rest.now) 0 text.old text.new result }
 {
     match check_k(rest, n) {
-        Verdict::Accepted => {
+        Ok(()) => {
             let k = records::u16_at(rest, 0) as usize;
             match_query(
                 &rest[K_LENGTH..],
@@ -44,21 +44,21 @@ pub(crate) fn match_rest(
                 text,
             )
         }
-        Verdict::Refused(cause) => put_refusal(cause, text),
+        Err(cause) => put_refusal(cause, text),
     }
 }
 
 // Whether k is there, and is from 1 to n.
-fn check_k(rest: &[u8], n: usize) -> Verdict
+fn check_k(rest: &[u8], n: usize) -> Result<(), Refusal>
     ensures { result ≡ first (k_causes n rest.now) }
 {
     if rest.len() < K_LENGTH {
-        return Verdict::Refused(Refusal::Truncated);
+        return Err(Refusal::Truncated);
     }
     if !limits::is_neighbour_count(n, records::u16_at(rest, 0) as usize) {
-        return Verdict::Refused(Refusal::Neighbours);
+        return Err(Refusal::Neighbours);
     }
-    Verdict::Accepted
+    Ok(())
 }
 
 // The text of a match whose library and k pass, from the query's bytes.
@@ -79,11 +79,8 @@ fn match_query(
         bytes.now) 0 text.old text.new result }
 {
     let mut query = [0i32; MAX_DIMENSIONS];
-    let taken = query::query_present(d, bytes, &mut query[..d]);
-    let word = taken.word;
-    let verdict = taken.verdict;
-    match verdict {
-        Verdict::Accepted => answer(
+    match query::query_present(d, bytes, &mut query[..d]) {
+        Ok(word) => answer(
             Terms { d, b, n, k, word },
             &query[..d],
             marks,
@@ -91,6 +88,6 @@ fn match_query(
             components,
             text,
         ),
-        Verdict::Refused(cause) => put_refusal(cause, text),
+        Err(cause) => put_refusal(cause, text),
     }
 }

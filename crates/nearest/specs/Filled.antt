@@ -1,10 +1,7 @@
--- Lent entries that are filled from an array: those of the answer where nothing refuses, and as they were where something does. Assumes
--- nothing.
-use Rattle.std.specs.Prelude.{◌≡◌, refl, List, [], ℕ, ◌≤◌, ℤ, length}
+-- Lent entries that are filled from an array, with all entries of an answer. Assumes nothing.
+use Rattle.std.specs.Prelude.{◌≡◌, List, [], ℕ, ◌≤◌, ℤ, length, Ok}
 use Rattle.std.proofs.Common.{sym, ◌∙◌, append-nil, arith}
-use Rattle.refusal.specs.declared.Verdict.{Verdict}
-use Rattle.refusal.specs.declared.Verdict.TheVariants.{Accepted, Refused}
-use Rattle.refusal.specs.First.{first, outcome}
+use Rattle.refusal.specs.First.{first}
 use Rattle.limits.specs.Limits.{max_neighbours}
 use Rattle.presence.specs.Presence.{factors_of}
 use Rattle.order.specs.Pair.{count_from}
@@ -13,11 +10,10 @@ use Rattle.selection.proofs.Scan.{scan_length}
 use Rattle.entries.specs.declared.Entry.{Entry}
 use Rattle.entries.specs.Entries.{entries_of, in_array}
 use Rattle.entries.specs.EntryLaws.{entries_length}
-use Rattle.entries.specs.Filled.{filled, fitting, filled_none, filled_within, fitting_fits, fitting_none}
+use Rattle.entries.specs.Filled.{filled, fitting, filled_within, fitting_fits}
 use Rattle.scan.specs.declared.ScanTerms.{ScanTerms}
 use Rattle.scan.specs.Scanning.{distances_of, scan_answer, scan_causes}
 use Rattle.scan.specs.Scanned.{scannable}
-use Rattle.search.specs.Answer.{found_count, search_answer}
 use Rattle.search.specs.Search.{Index, Query, searched}
 use Rattle.search.specs.Ready.{room_of}
 use Rattle.search.specs.Accepted.{Accepts, passes, lengths_told, best_few, best_size}
@@ -29,25 +25,21 @@ filled_all es entries room few =
     let within = filled_within es [] entries [] room few in
     rw (append-nil entries, append-nil es) at within
 
--- ---- the outcome of a verdict
-
 -- as many entries as an answer has are lent, and fit into the array
 pub record Fits (es : List Entry) (k entries : ℕ) : Type 0 where
   pub size : length es ≡ k
   pub room : entries ≡ k
   pub few : k ≤ max_neighbours
 
-pub outcome_filled : (v : Verdict) (k : ℕ) (es entries : List Entry) → (v ≡ Accepted → Fits es k (length entries))
-    → filled (in_array (outcome v es (λ _. []))) entries 0 (fitting (length entries) 0 (outcome v k (λ _. 0))) ≡ outcome v es (λ _. entries)
-outcome_filled Accepted k es entries fits =
-    let is = fits refl in
-    let all = filled_all es entries (is.room ∙ sym is.size) (omega (arith, is.size, is.few)) in
-    rw (fitting_fits (length entries) 0 k is.few (omega (arith, is.room)), ← is.size) all
-outcome_filled (Refused cause) k es entries fits = rw (fitting_none (length entries) 0) (filled_none (in_array []) entries 0)
+pub fits_filled : {es : List Entry} {k : ℕ} (entries : List Entry) → Fits es k (length entries)
+    → filled (in_array es) entries 0 (fitting (length entries) 0 k) ≡ es
+fits_filled {es} {k} entries fits =
+    let all = filled_all es entries (fits.room ∙ sym fits.size) (omega (arith, fits.size, fits.few)) in
+    rw (fitting_fits (length entries) 0 k fits.few (omega (arith, fits.room)), ← fits.size) all
 
 -- ---- the scan and the search
 
-pub scan_fits : (t : ScanTerms) (query vectors : List ℤ) (entries : ℕ) → first (scan_causes t query vectors entries) ≡ Accepted
+pub scan_fits : (t : ScanTerms) (query vectors : List ℤ) (entries : ℕ) → first (scan_causes t query vectors entries) ≡ Ok tt
     → Fits (entries_of (scan_answer t query vectors)) t.k entries
 scan_fits t query vectors entries accepted =
     let is = scannable t query vectors entries accepted in
@@ -67,8 +59,3 @@ search_fits l query k entries reads held =
       room = (lengths_told l query k room (passes l query k room held).lengths).of_entries;
       few = best_few l query k room held;
     }
-
--- the answer of a verdict on a search leaves as many to fill as the verdict
-pub found_outcome : (v : Verdict) (l : Index) (query : Query) (k : ℕ) → found_count (search_answer v l query k) k ≡ outcome v k (λ _. 0)
-found_outcome Accepted l query k = refl
-found_outcome (Refused cause) l query k = refl

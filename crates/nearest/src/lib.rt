@@ -9,20 +9,24 @@ ghost use Rattle.search.specs.Answer.{search_answer, search_entries, search_read
 ghost use Rattle.search.specs.Ready.{index_of, query_of, room_of};
 
 use entries::Entry;
-use refusal::Verdict;
+use entries::fill::fill;
+use refusal::Refusal;
 use scan::ScanTerms;
-use search::{Searched, Terms};
+use search::Terms;
 
 // The k of n vectors that are nearest to a query of d components, nearest first, ties by lower number. The vectors stand in a row.
-pub fn scan(terms: ScanTerms, query: &[i32], vectors: &[i32], entries: &mut [Entry]) -> Verdict
+pub fn scan(
+    terms: ScanTerms,
+    query: &[i32],
+    vectors: &[i32],
+    entries: &mut [Entry],
+) -> Result<(), Refusal>
     ensures { let v = first (scan_causes terms query.now vectors.now (length entries.old)) in
         (result ≡ v) × (entries.new ≡ scanned_entries v terms query.now vectors.now entries.old) }
 {
-    let scanned = scan::nearest_by_scan(terms, query, vectors, entries.len());
-    let verdict = scanned.verdict;
-    let count = scan::accepted_count(verdict, terms.k);
-    entries::fill::fill(entries, 0, scanned.entries, count);
-    verdict
+    let found = scan::nearest_by_scan(terms, query, vectors, entries.len())?;
+    fill(entries, 0, found, terms.k);
+    Ok(())
 }
 
 // The same by the search, and the numbers of the vectors that were read, in reading order; the answer is how many those are. What is not
@@ -35,7 +39,7 @@ pub fn search(
     vectors: &[i32],
     entries: &mut [Entry],
     reads: &mut [u32],
-) -> Searched
+) -> Result<usize, Refusal>
     ensures { let l = index_of terms marks.now codes.now vectors.now in
         let q = query_of terms query.now in
         let v = first (search_causes l q terms.k (room_of (length entries.old) (length reads.old))) in
@@ -51,9 +55,7 @@ pub fn search(
         vectors,
         entries.len(),
         reads,
-    );
-    let answer = found.answer;
-    let count = search::found_count(answer, terms.k);
-    entries::fill::fill(entries, 0, found.entries, count);
-    answer
+    )?;
+    fill(entries, 0, found.entries, terms.k);
+    Ok(found.count)
 }

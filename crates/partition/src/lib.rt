@@ -1,49 +1,48 @@
 // The marks buffer: the test of its marks, and each dimension's part of it.
 #![tactic(auto)]
 
-ghost use Rattle.std.specs.Prelude.{◌≡◌, ◌-◌, length};
-ghost use Rattle.refusal.specs.declared.Verdict.TheVariants.{Accepted};
+ghost use Rattle.std.specs.Prelude.{◌≡◌, ◌-◌, ◌≤◌, length};
 ghost use Rattle.refusal.specs.First.{first};
 ghost use Rattle.layout.specs.Layout.{first_marks};
-ghost use Rattle.layout.specs.Stretch.{shape_causes, dimension_causes};
 ghost use Rattle.partition.specs.Marks.{dimension_marks, good_marks};
 ghost use Rattle.partition.specs.MarksCauses.{shaped_causes, marks_causes, part_causes};
 ghost use Rattle.partition.specs.Parts.{seen_marks, fits_at, marks_at};
 
+use layout::Layout;
 use limits::MAX_DIMENSION_BITS;
-use refusal::{Refusal, Verdict};
+use refusal::Refusal;
 use region::good_dimension;
 
 // Whether the marks are as many as d dimensions with b bits have, in range, and never fall.
-pub fn check_marks(d: usize, b: usize, marks: &[i32]) -> Verdict
+#[tactic(auto, using(refusal::specs::First::handed_on), unfolding(refusal::specs::First::first))]
+pub fn check_marks(d: usize, b: usize, marks: &[i32]) -> Result<(), Refusal>
     ensures { result ≡ first (marks_causes d b marks.now) }
 {
-    match layout::check_shape(d, b) {
-        Verdict::Accepted => check_shaped(d, b, marks),
-        Verdict::Refused(cause) => Verdict::Refused(cause),
-    }
+    let layout = Layout::new(d, b)?;
+    check_shaped(layout, marks)
 }
 
-// Whether the marks are as many as d dimensions with b bits have, in range, and never fall, where d and b are within their limits.
-fn check_shaped(d: usize, b: usize, marks: &[i32]) -> Verdict
-    requires { first (shape_causes d b) ≡ Accepted }
-    ensures { result ≡ first (shaped_causes d b marks.now) }
+// The same where d and b are within their limits.
+#[tactic(auto, unfolding(refusal::specs::First::first))]
+fn check_shaped(layout: Layout, marks: &[i32]) -> Result<(), Refusal>
+    ensures { result ≡ first (shaped_causes layout.d layout.b marks.now) }
 {
-    if marks.len() != layout::marks_length(d, b) {
-        return Verdict::Refused(Refusal::Length);
+    if marks.len() != layout.marks_length() {
+        return Err(Refusal::Length);
     }
-    if !good_marks(d, b, marks) {
-        return Verdict::Refused(Refusal::Mark);
+    if !good_marks(layout, marks) {
+        return Err(Refusal::Mark);
     }
-    Verdict::Accepted
+    Ok(())
 }
 
 // Why dimension j's part of the marks buffer is not handed back, or that it is.
-pub fn check_part(d: usize, b: usize, marks: &[i32], j: usize) -> Verdict
+#[tactic(auto, unfolding(refusal::specs::First::first))]
+pub fn check_part(d: usize, b: usize, marks: &[i32], j: usize) -> Result<(), Refusal>
     ensures { result ≡ first (part_causes d b marks.now j) }
 {
     if !limits::is_between(1, j, d) {
-        return Verdict::Refused(Refusal::Dimension);
+        return Err(Refusal::Dimension);
     }
     check_marks(d, b, marks)
 }
@@ -53,32 +52,26 @@ pub fn checked_part<'a>(d: usize, b: usize, marks: &'a [i32], j: usize) -> &'a [
     ensures { result.now ≡ seen_marks d b marks.now j }
 {
     match check_part(d, b, marks, j) {
-        Verdict::Accepted => part(d, b, marks, j),
-        Verdict::Refused(_) => &marks[0..0],
+        Ok(()) => part(Layout { d, b }, marks, j),
+        Err(_) => &marks[0..0],
     }
 }
 
 // Whether each dimension's marks are in range and never fall.
-fn good_marks(d: usize, b: usize, marks: &[i32]) -> bool
-    requires { (first (shape_causes d b) ≡ Accepted) × (length marks.now ≡ first_marks d b d) }
-    ensures { result ≡ good_marks d b marks.now }
+fn good_marks(layout: Layout, marks: &[i32]) -> bool
+    requires { length marks.now ≡ first_marks layout.d layout.b layout.d }
+    ensures { result ≡ good_marks layout.d layout.b marks.now }
 {
-    let mut j = 0;
-    while j < d {
-        if !good_dimension(part(d, b, marks, j + 1)) {
-            return false;
-        }
-        j += 1;
-    }
-    true
+    (0..layout.d).all(|j| good_dimension(part(layout, marks, j + 1)))
 }
 
 // Dimension j's part of the marks buffer, from 1.
-fn part<'a>(d: usize, b: usize, marks: &'a [i32], j: usize) -> &'a [i32]
-    requires { (first (dimension_causes d b j) ≡ Accepted) × (length marks.now ≡ first_marks d b d) }
-    ensures { result.now ≡ dimension_marks d b marks.now j }
+fn part(layout: Layout, marks: &[i32], j: usize) -> &[i32]
+    requires dimension { (1 ≤ j) × (j ≤ layout.d) }
+    requires length { length marks.now ≡ first_marks layout.d layout.b layout.d }
+    ensures { result.now ≡ dimension_marks layout.d layout.b marks.now j }
 {
-    let stretch = layout::stretch_of(d, b, j);
+    let stretch = layout.stretch(j);
     part_at(marks, stretch.offset, stretch.bits)
 }
 
@@ -112,9 +105,5 @@ fn fits_at(length: usize, offset: usize, bits: usize) -> bool
 pub fn regions_between(part: &[i32]) -> usize
     ensures { result ≡ length part.now - 1 }
 {
-    let count = part.len();
-    if count == 0 {
-        return 0;
-    }
-    count - 1
+    part.len().saturating_sub(1)
 }

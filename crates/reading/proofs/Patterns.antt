@@ -1,4 +1,5 @@
 -- The intake of the value that a pattern stands for, by the pattern's fields. Assumes nothing.
+use Rattle.std.specs.Prelude.{Err}
 use mathlib.Core.Path.{◌≡◌, refl, sym, ap, ◌∙◌}
 use mathlib.Core.Bool.{Bool, true, false, not, ◌&&◌}
 use Prim.Native.Nat.{ℕ, zero, suc, ◌+◌, ◌-◌, ◌*◌, ◌/◌, ◌%◌, ◌^◌, ◌≤◌, ◌<◌, compare}
@@ -14,7 +15,6 @@ use lib.Ieee.Exact.{HasValue, odd_sign}
 use lib.Ieee.Nearest.{closest, closest_same, nearest-ge}
 use Rattle.refusal.specs.declared.Refusal.TheVariants.{NotANumber, OutOfRange}
 use Rattle.refusal.specs.First.{first}
-use Rattle.reading.specs.declared.Intake.TheVariants.{Refused}
 use Rattle.reading.specs.Component.{unit, signed}
 use Rattle.reading.specs.Intake.{value_intake}
 use Rattle.reading.specs.Fields.{significand, scale, ranged, Magnitude}
@@ -31,7 +31,7 @@ nan_only (fin s m x) e = cc
 pub nan_pattern : (b : ℕ) → nan_bits binary32 b ≡ true → of_bits binary32 b ≡ nan
 nan_pattern b e = nan_only (of_bits binary32 b) (sym (nan_bits_is binary32 b) ∙ e)
 
-pub nan_intake : value_intake nan ≡ Refused NotANumber
+pub nan_intake : value_intake nan ≡ Err NotANumber
 unfolding value_intake first is_nan
 nan_intake = refl
 
@@ -55,7 +55,7 @@ pattern_intake b m s h sign magnitude =
 
 -- ---- a pattern with an exponent field that is too large
 
-out_of_range : (s : Bool) (n : ℕ) → 65536 ≤ n → ranged (signed s n) ≡ Refused OutOfRange
+out_of_range : (s : Bool) (n : ℕ) → 65536 ≤ n → ranged (signed s n) ≡ Err OutOfRange
 out_of_range false n h = above_range (pos n) (lt-ltb 32767 n (omega arith))
 out_of_range true zero h = absurd (omega arith)
 out_of_range true (suc n) h = below_range (neg_ℤ (pos (suc n))) (lt-ltb 32767 n (omega arith))
@@ -70,20 +70,20 @@ large (suc x) t h =
     let whole : 65536 ≤ q * 2 ^ x * unit / 2 ^ 149 = (le-div_iff_mul-le (pow_pos 149)).1 (mul-le-mul_right unit size) in
     le_trans whole (nearest-ge (q * 2 ^ x * unit / 2 ^ 149) (compare (q * 2 ^ x * unit % 2 ^ 149 * 2) (2 ^ 149)))
 
-infinite : (s : Bool) → value_intake (of_fields binary32 s 255 0) ≡ Refused OutOfRange
+infinite : (s : Bool) → value_intake (of_fields binary32 s 255 0) ≡ Err OutOfRange
 unfolding value_intake first is_nan of_fields
 infinite s = refl
 
-far_fields : (s : Bool) (x t : ℕ) → 134 < x → x < 256 → eqb x 255 && not (eqb t 0) ≡ false → value_intake (of_fields binary32 s x t) ≡ Refused OutOfRange
+far_fields : (s : Bool) (x t : ℕ) → 134 < x → x < 256 → eqb x 255 && not (eqb t 0) ≡ false → value_intake (of_fields binary32 s x t) ≡ Err OutOfRange
 far_fields s x t far in_field no_nan = go (eqb x 255) refl
   where
-    go : (special : Bool) → eqb x 255 ≡ special → value_intake (of_fields binary32 s x t) ≡ Refused OutOfRange
+    go : (special : Bool) → eqb x 255 ≡ special → value_intake (of_fields binary32 s x t) ≡ Err OutOfRange
     go true e = rw (eqb-true x 255 e, eqb-true t 0 (not-false (eqb t 0) (rw e at no_nan))) (infinite s)
     go false e =
         fields_intake s x t (omega (arith, eqb-false x 255 e))
         ∙ out_of_range s (closest (significand x t * 2 ^ scale x * unit) (2 ^ 149)) (large x t far)
 
-pub far_intake : (b : ℕ) → nan_bits binary32 b ≡ false → 134 < b % 2 ^ 31 / 2 ^ 23 → value_intake (of_bits binary32 b) ≡ Refused OutOfRange
+pub far_intake : (b : ℕ) → nan_bits binary32 b ≡ false → 134 < b % 2 ^ 31 / 2 ^ 23 → value_intake (of_bits binary32 b) ≡ Err OutOfRange
 unfolding of_bits nan_bits
 far_intake b no_nan far = far_fields (leb (2 ^ 31) b) (b % 2 ^ 31 / 2 ^ 23) (b % 2 ^ 23) far (omega arith) no_nan
 

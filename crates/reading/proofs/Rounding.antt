@@ -1,10 +1,10 @@
--- The nearest whole number of a fraction, by how twice the remainder compares with the divisor. Assumes nothing.
+-- The nearest whole number of a fraction that is below a half. Assumes nothing.
 use mathlib.Core.Path.{◌≡◌, refl, ◌∙◌}
 use mathlib.Core.Bool.{true, false}
-use Prim.Native.Nat.{ℕ, suc, ◌+◌, ◌*◌, ◌/◌, ◌%◌, ◌<◌, compare, Ordering}
+use Prim.Native.Nat.{ℕ, ◌*◌, ◌/◌, ◌%◌, ◌<◌, compare, Ordering}
 use native.Mathlib.Nat.{div-eq_of_lt, mod-eq_of_lt}
 use native.Mathlib.Omega.{arith}
-use borrow.Author.Tests.{le-leb, lt-leb, eq-eqb, ne_eqb}
+use borrow.Author.Tests.{le-leb, ne_eqb}
 use lib.Dec.{is_le, compare_is_eq}
 use lib.Ieee.Nearest.{closest}
 
@@ -13,24 +13,8 @@ ordering_lt Ordering.lt le ne = refl
 ordering_lt Ordering.eq le ne = cc
 ordering_lt Ordering.gt le ne = cc
 
-ordering_eq : (o : Ordering) → compare_is_eq o ≡ true → o ≡ Ordering.eq
-ordering_eq Ordering.lt e = cc
-ordering_eq Ordering.eq e = refl
-ordering_eq Ordering.gt e = cc
-
-ordering_gt : (o : Ordering) → is_le o ≡ false → o ≡ Ordering.gt
-ordering_gt Ordering.lt e = cc
-ordering_gt Ordering.eq e = cc
-ordering_gt Ordering.gt e = refl
-
-pub closest_down : (a b : ℕ) → a % b * 2 < b → closest a b ≡ a / b
+closest_down : (a b : ℕ) → a % b * 2 < b → closest a b ≡ a / b
 closest_down a b h = rw (ordering_lt (compare (a % b * 2) b) (le-leb (a % b * 2) b (omega arith)) (ne_eqb (a % b * 2) b (λ e. omega arith)))
-
-pub closest_tie : (a b : ℕ) → a % b * 2 ≡ b → closest a b ≡ a / b + a / b % 2
-closest_tie a b h = rw (ordering_eq (compare (a % b * 2) b) (eq-eqb (a % b * 2) b h))
-
-pub closest_up : (a b : ℕ) → b < a % b * 2 → closest a b ≡ suc (a / b)
-closest_up a b h = rw (ordering_gt (compare (a % b * 2) b) (lt-leb (a % b * 2) b h))
 
 -- below a half there is none
 pub closest_none : (a b : ℕ) → a * 2 < b → closest a b ≡ 0

@@ -18,21 +18,6 @@ pub enum Reading {
     Lost,
 }
 
-// What the intake of a reading answers.
-#[derive(Drop)]
-pub enum Intake {
-    Component(i32),
-    Refused(Refusal),
-}
-
-// What the second intake of a reading answers.
-#[derive(Drop)]
-pub enum Presence {
-    Present(i32),
-    Absent,
-    Refused(Refusal),
-}
-
 impl Reading {
     // Components to a whole: the component unit is 1/256.
     pub const UNIT: u64 = 256;
@@ -54,30 +39,27 @@ impl Reading {
     }
 
     // The reading's component, or why it has none.
-    pub fn intake(self) -> Intake
+    pub fn intake(self) -> Result<i32, Refusal>
         ensures { result ≡ intake_of self }
     {
-        match self.presence() {
-            Presence::Present(z) => Intake::Component(z),
-            Presence::Absent => Intake::Refused(Refusal::Stale),
-            Presence::Refused(cause) => Intake::Refused(cause),
-        }
+        self.presence()?.ok_or(Refusal::Stale)
     }
 
     // The reading's component, or that it is absent, or why it is refused.
-    pub fn presence(self) -> Presence
+    #[tactic(auto, unfolding(crate::specs::Intake::presence_of))]
+    pub fn presence(self) -> Result<Option<i32>, Refusal>
         ensures { result ≡ presence_of self }
     {
         match self {
             Reading::Fresh(x) => value::presence(x),
             Reading::Held(x, age) => {
                 if Reading::AGE_LIMIT < age {
-                    Presence::Absent
+                    Ok(None)
                 } else {
                     value::presence(x)
                 }
             }
-            Reading::Lost => Presence::Absent,
+            Reading::Lost => Ok(None),
         }
     }
 }

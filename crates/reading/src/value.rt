@@ -6,7 +6,7 @@ ghost use Rattle.reading.specs.Component.{unit};
 ghost use Rattle.reading.specs.Intake.{value_intake, presence_of};
 ghost use Rattle.reading.specs.Fields.{significand, scale, ranged, Magnitude};
 
-use crate::{Intake, Presence, Reading};
+use crate::Reading;
 use limits::{GREATEST_COMPONENT, LEAST_COMPONENT};
 use refusal::Refusal;
 
@@ -44,18 +44,16 @@ pub fn of_bits(bits: u32) -> f32
 }
 
 // The component of a value that is not too old, as present.
-pub fn presence(x: f32) -> Presence
+pub fn presence(x: f32) -> Result<Option<i32>, Refusal>
     ensures { result ≡ presence_of (Reading.Fresh x) }
 {
-    match component(x) {
-        Intake::Component(z) => Presence::Present(z),
-        Intake::Refused(cause) => Presence::Refused(cause),
-    }
+    Ok(Some(component(x)?))
 }
 
 // The component of a value. The language gives the bits of a value only once it is known to be no NaN, so the two comparisons with 0 alone
-// decide whether it is one: a NaN is neither at most 0 nor at least 0. Were they lost, a NaN would be refused as out of range.
-pub fn component(x: f32) -> Intake
+// decide whether it is one: a NaN is neither at most 0 nor at least 0. Were they lost, a NaN would be refused as out of range. They stand
+// apart, since the compiler makes one comparison of a value with itself of the two in one condition.
+pub fn component(x: f32) -> Result<i32, Refusal>
     ensures { result ≡ value_intake x }
 {
     if x <= 0.0 {
@@ -64,20 +62,20 @@ pub fn component(x: f32) -> Intake
     if 0.0 <= x {
         return component_of_bits(f32::to_bits(x));
     }
-    Intake::Refused(Refusal::NotANumber)
+    Err(Refusal::NotANumber)
 }
 
 // The component of the value that a pattern stands for. The contract covers every pattern, so a NaN's is tested for here too; behind the
 // comparisons of `component` that test never holds, and a compiler may leave it out.
-fn component_of_bits(bits: u32) -> Intake
+fn component_of_bits(bits: u32) -> Result<i32, Refusal>
     ensures { result ≡ value_intake (of_bits binary32 bits) }
 {
     if is_nan(bits) {
-        return Intake::Refused(Refusal::NotANumber);
+        return Err(Refusal::NotANumber);
     }
     let field = bits % SIGN / LEADING;
     if GREATEST_FIELD < field {
-        return Intake::Refused(Refusal::OutOfRange);
+        return Err(Refusal::OutOfRange);
     }
     let m = magnitude(field, bits % LEADING) as i32;
     if bits < SIGN {
@@ -95,7 +93,7 @@ fn magnitude(field: u32, fraction: u32) -> u32
     if field < LEAST_FIELD {
         return 0;
     }
-    let significand = (LEADING + fraction) as u64;
+    let significand = u64::from(LEADING + fraction);
     nearest((significand * Reading::UNIT) << (field - LEAST_FIELD))
 }
 
@@ -116,14 +114,12 @@ fn nearest(parts: u64) -> u32
 }
 
 // A whole number as a component.
-fn in_range(z: i32) -> Intake
+#[tactic(auto, unfolding(crate::specs::Fields::ranged))]
+fn in_range(z: i32) -> Result<i32, Refusal>
     ensures { result ≡ ranged z }
 {
-    if z < LEAST_COMPONENT {
-        return Intake::Refused(Refusal::OutOfRange);
+    if !(LEAST_COMPONENT..=GREATEST_COMPONENT).contains(&z) {
+        return Err(Refusal::OutOfRange);
     }
-    if GREATEST_COMPONENT < z {
-        return Intake::Refused(Refusal::OutOfRange);
-    }
-    Intake::Component(z)
+    Ok(z)
 }

@@ -1,6 +1,7 @@
 -- Laws of numbers as bytes: each direction undoes the other. Assumes nothing.
 use Rattle.std.specs.Prelude.{◌≡◌, refl, List, [], ◌∷◌, ◌++◌, ℕ, zero, suc, ◌+◌, ◌*◌, ◌/◌, ◌%◌, ◌^◌, ◌≤◌, ◌<◌, length, get_or, take, drop}
-use Rattle.std.proofs.Common.{ap, add-zero, pow-suc, div-lt_iff_lt-mul, arith, lit<, get_or-drop, drop-drop}
+use Rattle.std.proofs.Common.{ap, ◌∙◌, add-zero, pow-suc, div-lt_iff_lt-mul, arith, lit<, get_or-drop, drop-drop}
+use Rattle.std.proofs.Math.ListN.{drop_of_length-le}
 use Rattle.records.specs.Bytes.{low_first, from_low_first, AreBytes}
 
 pub low_length : (w x : ℕ) → length (low_first w x) ≡ w
@@ -47,8 +48,17 @@ unfolding from_low_first
 from_none zero = refl
 from_none (suc w) = rw (from_none w)
 
+pub from_past : (w : ℕ) (bytes : List ℕ) (at : ℕ) → length bytes ≤ at → from_low_first w (drop at bytes) ≡ 0
+from_past w bytes at past = ap (from_low_first w) (drop_of_length-le bytes past) ∙ from_none w
+
 -- two bytes by their indices
 pub two_bytes : (bytes : List ℕ) (at : ℕ) → from_low_first 2 (drop at bytes) ≡ get_or bytes at 0 + 256 * get_or bytes (at + 1) 0
 unfolding from_low_first
 two_bytes bytes at =
     rw (drop-drop 1 at bytes, get_or-drop at bytes 0 0, get_or-drop (at + 1) bytes 0 0, add-zero at, add-zero (at + 1)) (omega arith)
+
+-- four bytes by their halves
+pub two_halves : (bytes : List ℕ) (at : ℕ)
+    → from_low_first 4 (drop at bytes) ≡ from_low_first 2 (drop at bytes) + 65536 * from_low_first 2 (drop (at + 2) bytes)
+unfolding from_low_first
+two_halves bytes at = rw (← drop-drop 2 at bytes, drop-drop 1 1 (drop at bytes)) (omega arith)

@@ -1,9 +1,8 @@
 -- The causes that every record can have, whatever its kind (document 01, "When a call says no"). Assumes nothing.
-use Rattle.std.specs.Prelude.{◌≡◌, Bool, true, not, List, [], ◌∷◌, ◌++◌, ℕ, ◌≤◌, eqb, ltb, length}
+use Rattle.std.specs.Prelude.{◌≡◌, Bool, true, not, List, [], ◌∷◌, ◌++◌, ℕ, ◌≤◌, eqb, ltb, length, Ok}
 use Rattle.std.proofs.Common.{arith, ltb-false, le-ltb, ne_eqb, length-append}
 use Rattle.std.proofs.lemmas.Bool.{not-false}
 use Rattle.refusal.specs.declared.Refusal.TheVariants.{Kind, Truncated, Misplaced}
-use Rattle.refusal.specs.declared.Verdict.TheVariants.{Accepted}
 use Rattle.refusal.specs.First.{Row, ◌⇒◌, first, passed}
 use Rattle.records.specs.Records.{is_kind, record_length, record_bytes, kind_of}
 use Rattle.records.specs.RecordLaws.{record_length_lem}
@@ -26,7 +25,7 @@ pub record Framed (placed : Bool) (bytes : List ℕ) : Type 0 where
   pub there : placed ≡ true
   pub whole : record_length (kind_of bytes) ≤ length bytes
 
-pub frame_passes : {placed : Bool} {bytes : List ℕ} → Framed placed bytes → first (frame_causes placed bytes) ≡ Accepted
+pub frame_passes : {placed : Bool} {bytes : List ℕ} → Framed placed bytes → first (frame_causes placed bytes) ≡ Ok tt
 unfolding first frame_causes record_length
 frame_passes {placed} {bytes} is =
     rw (
@@ -36,7 +35,7 @@ frame_passes {placed} {bytes} is =
       le-ltb (length bytes) (record_length (kind_of bytes)) is.whole,
     )
 
-pub framed : (placed : Bool) (bytes : List ℕ) → first (frame_causes placed bytes) ≡ Accepted → Framed placed bytes
+pub framed : (placed : Bool) (bytes : List ℕ) → first (frame_causes placed bytes) ≡ Ok tt → Framed placed bytes
 unfolding frame_causes
 framed placed bytes accepted =
     let some = passed _ Truncated _ accepted in

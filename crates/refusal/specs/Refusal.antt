@@ -1,10 +1,8 @@
 -- The numbers of document 01's table "When a call says no", and of document 02's causes: one for each, 0 where there is none. Assumes
 -- nothing.
-use Rattle.std.specs.Prelude.{ℕ}
+use Rattle.std.specs.Prelude.{ℕ, Result, Ok, Err}
 use Rattle.refusal.specs.declared.Refusal.{Refusal}
 use Rattle.refusal.specs.declared.Refusal.TheVariants.{Dimension, Bits, Count, Neighbours, Length, Component, Mark, Outside, Code, Cell, Kind, Truncated, Stale, NotANumber, OutOfRange, Trailing, Misplaced, TooFewPresent, PresenceBit, Full, NotRemovable, TooManyQueries}
-use Rattle.refusal.specs.declared.Verdict.{Verdict}
-use Rattle.refusal.specs.declared.Verdict.TheVariants.{Accepted, Refused}
 
 abbrev pub number_of : Refusal → ℕ
 -- d not 1 to 32, or a dimension number not 1 to d
@@ -52,6 +50,11 @@ number_of NotRemovable = 21
 -- more than 64 queries (Slip 5)
 number_of TooManyQueries = 22
 
-abbrev pub verdict_number : Verdict → ℕ
-verdict_number Accepted = 0
-verdict_number (Refused cause) = number_of cause
+-- what a call's tests come to: nothing speaks against it, or the first cause that does
+abbrev pub Verdict : Type 0
+Verdict = Result (Unit {0}) Refusal
+
+-- the number that an answer has for C: 0, or that of its cause
+abbrev pub status_of : {A : Type 0} → Result A Refusal → ℕ
+status_of (Ok answer) = 0
+status_of (Err cause) = number_of cause

@@ -1,10 +1,9 @@
 -- The lookup of a value's region: the causes for which it is refused, and what its answers stand for. Assumes nothing.
-use Rattle.std.specs.Prelude.{not, List, [], ◌∷◌, ℕ, ◌+◌, eqb, ℤ, length}
+use Rattle.std.specs.Prelude.{not, List, [], ◌∷◌, ℕ, ◌+◌, eqb, ℤ, length, Ok, Err, Result}
+use Rattle.refusal.specs.declared.Refusal.{Refusal}
 use Rattle.refusal.specs.declared.Refusal.TheVariants.{Bits, Length, Mark, Outside}
 use Rattle.refusal.specs.Refusal.{number_of}
 use Rattle.refusal.specs.First.{Row, ◌⇒◌, first, outcome}
-use Rattle.region.specs.declared.Lookup.{Lookup}
-use Rattle.region.specs.declared.Lookup.TheVariants.{Region, Refused}
 use Rattle.region.specs.Dimension.{good_dimension}
 use Rattle.region.specs.Region.{region_of, in_marks}
 use Rattle.region.specs.RegionCount.{is_region_count}
@@ -19,10 +18,10 @@ region_causes marks regions v =
     ∷ []
 
 -- The answer is the region of v in these marks, or the first cause.
-abbrev pub looked_up : List ℤ → ℕ → ℤ → Lookup
-looked_up marks regions v = outcome (first (region_causes marks regions v)) (Region (region_of marks v)) Refused
+abbrev pub looked_up : List ℤ → ℕ → ℤ → Result ℕ Refusal
+looked_up marks regions v = outcome (first (region_causes marks regions v)) (Ok (region_of marks v)) Err
 
 -- Document 01 gives an answer its number, 0 where there is a region.
-abbrev pub lookup_number : Lookup → ℕ
-lookup_number (Region r) = 0
-lookup_number (Refused cause) = number_of cause
+abbrev pub lookup_number : Result ℕ Refusal → ℕ
+lookup_number (Ok r) = 0
+lookup_number (Err cause) = number_of cause

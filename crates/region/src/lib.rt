@@ -12,30 +12,24 @@ ghost use Rattle.region.specs.Lookup.{looked_up};
 use limits::{GREATEST_MARK, LEAST_MARK, MAX_DIMENSION_BITS};
 use refusal::Refusal;
 
-// What the lookup of a value's region answers.
-#[derive(Drop)]
-pub enum Lookup {
-    Region(usize),
-    Refused(Refusal),
-}
-
 // The region of a value in one dimension's marks, of which there is one more than regions.
-pub fn region(marks: &[i32], regions: usize, v: i32) -> Lookup
+#[tactic(auto, using(crate::specs::Halving::halved_is), unfolding(refusal::specs::First::first))]
+pub fn region(marks: &[i32], regions: usize, v: i32) -> Result<usize, Refusal>
     ensures { result ≡ looked_up marks.now regions v }
 {
     if !is_region_count(regions) {
-        return Lookup::Refused(Refusal::Bits);
+        return Err(Refusal::Bits);
     }
     if marks.len() != regions + 1 {
-        return Lookup::Refused(Refusal::Length);
+        return Err(Refusal::Length);
     }
     if !good_dimension(marks) {
-        return Lookup::Refused(Refusal::Mark);
+        return Err(Refusal::Mark);
     }
     if !in_marks(marks, v) {
-        return Lookup::Refused(Refusal::Outside);
+        return Err(Refusal::Outside);
     }
-    Lookup::Region(locate(marks, v))
+    Ok(locate(marks, v))
 }
 
 // The region by halving the stretch of marks, which are not tested: where they never fall and the value lies inside them, it is the value's
@@ -85,14 +79,7 @@ pub fn in_marks(marks: &[i32], v: i32) -> bool
 pub fn good_dimension(marks: &[i32]) -> bool
     ensures { result ≡ good_dimension marks.now }
 {
-    let mut i = 0;
-    while i < marks.len() {
-        if !good_mark(marks, i) {
-            return false;
-        }
-        i += 1;
-    }
-    true
+    (0..marks.len()).all(|i| good_mark(marks, i))
 }
 
 // Whether the mark at an index is in range and not above the one behind it.
@@ -115,21 +102,12 @@ fn good_mark(marks: &[i32], i: usize) -> bool
 pub fn is_mark(z: i32) -> bool
     ensures { result ≡ is_mark z }
 {
-    LEAST_MARK <= z && z <= GREATEST_MARK
+    (LEAST_MARK..=GREATEST_MARK).contains(&z)
 }
 
 // Whether a number of regions is a power of two, of at most MAX_DIMENSION_BITS bits.
 fn is_region_count(regions: usize) -> bool
     ensures { result ≡ is_region_count regions }
 {
-    let mut bits = MAX_DIMENSION_BITS;
-    let mut power: usize = 1 << MAX_DIMENSION_BITS;
-    while 0 < bits {
-        if regions == power {
-            return true;
-        }
-        bits -= 1;
-        power /= 2;
-    }
-    regions == 1
+    regions <= 1 << MAX_DIMENSION_BITS && regions.is_power_of_two()
 }

@@ -1,5 +1,5 @@
 -- A library remade has the codes that it had. Assumes nothing.
-use Rattle.std.specs.Prelude.{◌≡◌, true, not, List, ℤ, pos, length, get_or}
+use Rattle.std.specs.Prelude.{◌≡◌, true, not, List, ℤ, pos, length, get_or, Ok}
 use Rattle.std.proofs.Math.Path.{refl}
 use Rattle.std.proofs.Common.{inl, inr, eq-or-lt_of_le, mod-lt}
 use Rattle.std.proofs.Math.Bool.{and-eq-true_iff}
@@ -9,7 +9,6 @@ use native.Mathlib.Omega.{arith}
 use borrow.Author.Tests.{eq-eqb}
 use Rattle.std.specs.Int.Signed.{le_z, lt_z}
 use Rattle.refusal.specs.declared.Refusal.TheVariants.{Dimension, Bits, Count}
-use Rattle.refusal.specs.declared.Verdict.TheVariants.{Accepted}
 use Rattle.refusal.specs.First.{first, any, passed, accepted_if_none}
 use Rattle.limits.specs.Limits.{is_component, is_dimension_count, is_bits, is_vector_count}
 use Rattle.signed.specs.Components.{component_at_lem}
@@ -121,7 +120,7 @@ module _ {l : Index} (old : FormerLibrary l) where
   new_count = between_count (λ _. scale_ends) l.d l.b l.n l.vectors
 
   -- 1. Packing its vectors is not refused, and gives the old codes, byte for byte.
-  pub remade_packs : first (pack_vectors_causes l.d l.b l.n l.vectors (new_marks l) (code_length l.b l.n)) ≡ Accepted
+  pub remade_packs : first (pack_vectors_causes l.d l.b l.n l.vectors (new_marks l) (code_length l.b l.n)) ≡ Ok tt
   unfolding any
   remade_packs =
       let dimensions = passed (not (is_dimension_count l.d)) Dimension _ old.makeable in

@@ -1,5 +1,5 @@
 -- What was written loads: where writing accepts a library, loading accepts its bytes, whatever follows. Assumes nothing.
-use Rattle.std.specs.Prelude.{◌≡◌, false, not, ◌||◌, ℕ, zero, suc, ◌+◌, ◌-◌, ◌^◌, ◌≤◌, ◌<◌, pos, length, get_or, drop}
+use Rattle.std.specs.Prelude.{◌≡◌, false, not, ◌||◌, ℕ, zero, suc, ◌+◌, ◌-◌, ◌^◌, ◌≤◌, ◌<◌, pos, length, get_or, drop, Ok}
 use Rattle.std.proofs.Math.Path.{refl}
 use Rattle.std.proofs.Common.{◌∙◌, lt-ltb, le-ltb, eq-eqb, lit<, SFits}
 use Rattle.std.proofs.Math.Bool.{true}
@@ -9,7 +9,6 @@ use native.Mathlib.Omega.{arith}
 use Rattle.std.proofs.Math.Dec.{ltb, eqb}
 use Rattle.std.proofs.Math.ListN.{get_or-eq_default}
 use Rattle.std.specs.Int.{w32}
-use Rattle.refusal.specs.declared.Verdict.TheVariants.{Accepted}
 use Rattle.refusal.specs.declared.Refusal.TheVariants.{Count, Length}
 use Rattle.refusal.specs.First.{Row, ◌⇒◌, first, first_next}
 use Rattle.limits.specs.Limits.{max_dimensions, is_vector_count}
@@ -68,7 +67,7 @@ module _ (l : Library) (room : ℕ) (w : Writable l room) where
 
 -- a record where it was written passes, with its own causes
 record_passes : (kind : ℕ) (values bytes : List ℕ) (own : List Row) → is_kind kind ≡ true → Begins (record_bytes kind values) bytes
-    → first own ≡ Accepted → first (record_causes kind bytes own) ≡ Accepted
+    → first own ≡ Ok tt → first (record_causes kind bytes own) ≡ Ok tt
 unfolding record_bytes
 record_passes kind values bytes own known there passes =
     rw there.is
@@ -85,7 +84,7 @@ module _ (l : Library) (room : ℕ) (w : Writable l room) (settings : (i : ℕ) 
   fit : Storable l
   fit = storable l room w settings
 
-  head_passes : first (head_causes l bytes) ≡ Accepted
+  head_passes : first (head_causes l bytes) ≡ Ok tt
   unfolding first is_kind is_among formats
   head_passes =
       record_passes head_kind (l.d ∷ l.b ∷ l.n ∷ []) bytes _ refl (head_there l rest)
@@ -114,12 +113,12 @@ module _ (l : Library) (room : ℕ) (w : Writable l room) (settings : (i : ℕ) 
           lt-ltb 0 (suc i) (omega arith),
         )
 
-    mark_passes : (i : ℕ) → i < mark_count l.d l.b (suc t) → first (mark_causes bytes (first_marks l.d l.b t) i) ≡ Accepted
+    mark_passes : (i : ℕ) → i < mark_count l.d l.b (suc t) → first (mark_causes bytes (first_marks l.d l.b t) i) ≡ Ok tt
     unfolding first is_kind is_among formats
     mark_passes i h =
         record_passes mark_kind _ _ _ refl (mark_there l rest (first_marks l.d l.b t + i) (place i h)) (rw (mark_right i h))
 
-    dimension_passes : first (each (mark_count l.d l.b (suc t)) (mark_causes bytes (first_marks l.d l.b t))) ≡ Accepted
+    dimension_passes : first (each (mark_count l.d l.b (suc t)) (mark_causes bytes (first_marks l.d l.b t))) ≡ Ok tt
     dimension_passes = each_accepted (mark_count l.d l.b (suc t)) (mark_causes bytes (first_marks l.d l.b t)) mark_passes
 
   zero_beyond_lem : (i : ℕ) → i < l.n → zero_beyond l.d (drop (vector_place total i) bytes) ≡ true
@@ -140,15 +139,15 @@ module _ (l : Library) (room : ℕ) (w : Writable l room) (settings : (i : ℕ) 
       (λ t k. rw (component_value l fit rest i t h k)
       (every_at l.d (λ t. in_marks (dimension_marks l.d l.b l.marks (suc t)) (component_in l i t)) (w.insides i h) t k))
 
-  vector_passes : (i : ℕ) → i < l.n → first (vector_causes l bytes i) ≡ Accepted
+  vector_passes : (i : ℕ) → i < l.n → first (vector_causes l bytes i) ≡ Ok tt
   unfolding first is_kind is_among formats
   vector_passes i h = record_passes vector_kind _ _ _ refl (vector_there l rest i h) (rw (zero_beyond_lem i h, insides i h))
 
-  end_passes : first (end_causes l bytes) ≡ Accepted
+  end_passes : first (end_causes l bytes) ≡ Ok tt
   unfolding first is_kind is_among formats
   end_passes = record_passes end_kind [] _ [] refl (end_there l rest) refl
 
-  pub load_passes : first (load_causes marks_room settings_room components_room bytes) ≡ Accepted
+  pub load_passes : first (load_causes marks_room settings_room components_room bytes) ≡ Ok tt
   unfolding load_causes
   load_passes =
       let head = head_causes l bytes in

@@ -1,6 +1,6 @@
 -- What was loaded is written again: writing accepts it, and the bytes of the library that was loaded are the bytes that loading used.
 -- Assumes nothing.
-use Rattle.std.specs.Prelude.{◌≡◌, ◌||◌, pos, length, take}
+use Rattle.std.specs.Prelude.{◌≡◌, ◌||◌, pos, length, take, Ok}
 use Rattle.std.proofs.Math.Path.{refl}
 use Rattle.std.proofs.Common.{sym, ap, ◌∙◌, lit<, drop-drop, take-add}
 use mathlib.Core.List.{List, [], ◌∷◌, ◌++◌}
@@ -13,7 +13,6 @@ use Rattle.std.proofs.Math.ListN.{get_or, drop}
 use mir.Syntax.{w16, w32}
 use mir.Val.{of_z}
 use mir.ValLaws.{of_z-to_z}
-use Rattle.refusal.specs.declared.Verdict.TheVariants.{Accepted}
 use Rattle.refusal.specs.declared.Refusal.TheVariants.{Component}
 use Rattle.refusal.specs.First.{Row, first, passed}
 use Rattle.limits.specs.Limits.{max_dimensions}
@@ -39,8 +38,8 @@ use Rattle.loading.specs.Loaded.{loaded_components, loaded_marks, loaded_inside}
 use Rattle.writing.specs.Write.{shaped_causes, write_causes}
 
 -- writing accepts a library that was loaded
-pub loaded_writable : (bytes : List ℕ) → first (records_causes (read_library bytes) bytes) ≡ Accepted → let l = read_library bytes in
-    first (write_causes l (library_length l.d l.b l.n)) ≡ Accepted
+pub loaded_writable : (bytes : List ℕ) → first (records_causes (read_library bytes) bytes) ≡ Ok tt → let l = read_library bytes in
+    first (write_causes l (library_length l.d l.b l.n)) ≡ Ok tt
 unfolding first
 loaded_writable bytes rows =
     let l = read_library bytes in
@@ -59,7 +58,7 @@ loaded_writable bytes rows =
     )
 
 -- the bytes of a record that passes, from its values
-record_again : (kind : ℕ) (values bytes : List ℕ) (own : List Row) → AreBytes bytes → first (record_causes kind bytes own) ≡ Accepted
+record_again : (kind : ℕ) (values bytes : List ℕ) (own : List Row) → AreBytes bytes → first (record_causes kind bytes own) ≡ Ok tt
     → ((i : ℕ) → i < length (widths_of kind) → get_or values i 0 ≡ value_of kind i bytes)
     → record_bytes kind values ≡ take (record_length kind) bytes
 record_again kind values bytes own are accepted same =
@@ -81,7 +80,7 @@ one_value : {x : ℕ} (f : ℕ → ℕ) → x ≡ f 0 → (j : ℕ) → j < 1 �
 one_value f e zero h = e
 one_value f e (suc j) h = absurd (omega arith)
 
-module _ (bytes : List ℕ) (are : AreBytes bytes) (rows : first (records_causes (read_library bytes) bytes) ≡ Accepted) where
+module _ (bytes : List ℕ) (are : AreBytes bytes) (rows : first (records_causes (read_library bytes) bytes) ≡ Ok tt) where
   abbrev l : Library
   l = read_library bytes
 

@@ -1,6 +1,6 @@
 -- All that a scan leaves. Assumes nothing.
 use Rattle.std.specs.Prelude.{List, ℕ, ℤ}
-use Rattle.refusal.specs.declared.Verdict.{Verdict}
+use Rattle.refusal.specs.Refusal.{Verdict}
 use Rattle.refusal.specs.First.{first}
 use Rattle.entries.specs.declared.Entry.{Entry}
 use Rattle.scan.specs.declared.ScanTerms.{ScanTerms}

@@ -1,9 +1,8 @@
 -- What holds where a scan is accepted, and its answer as the pairs of the least keys and their numbers. Assumes nothing.
-use Rattle.std.specs.Prelude.{◌≡◌, refl, true, ◌&&◌, List, [], ◌∷◌, map, ℕ, ◌+◌, ◌*◌, ◌≤◌, ◌<◌, eqb, ℤ, pos, length, take, drop}
+use Rattle.std.specs.Prelude.{◌≡◌, refl, true, ◌&&◌, List, [], ◌∷◌, map, ℕ, ◌+◌, ◌*◌, ◌≤◌, ◌<◌, eqb, ℤ, pos, length, take, drop, Ok}
 use Rattle.std.proofs.Common.{sym, ap, ◌∙◌, arith, eqb-true, length-take, get_or-take, get_or-drop}
 use Rattle.std.proofs.Math.Bool.{and-eq-true_iff}
 use Rattle.std.proofs.lemmas.Bool.{not-false}
-use Rattle.refusal.specs.declared.Verdict.TheVariants.{Accepted}
 use Rattle.refusal.specs.First.{first, passed}
 use Rattle.limits.specs.Limits.{max_dimensions, max_vectors, is_dimension_count, is_vector_count, is_neighbour_count}
 use Rattle.limits.specs.Tests.{between, Neighbours, neighbours}
@@ -36,7 +35,7 @@ pub record Scannable (t : ScanTerms) (query vectors : List ℤ) (entries : ℕ) 
   pub among : Neighbours t.n t.k
   pub room : entries ≡ t.k
 
-pub scannable : (t : ScanTerms) (query vectors : List ℤ) (entries : ℕ) → first (scan_causes t query vectors entries) ≡ Accepted
+pub scannable : (t : ScanTerms) (query vectors : List ℤ) (entries : ℕ) → first (scan_causes t query vectors entries) ≡ Ok tt
     → Scannable t query vectors entries
 scannable t query vectors entries accepted =
     let dimensions = passed _ _ _ accepted in

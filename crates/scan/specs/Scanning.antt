@@ -1,7 +1,7 @@
 -- The scan call: its answer and its causes. It takes the presence word of the query (document 02, Slip 1). Assumes nothing.
 use Rattle.std.specs.Prelude.{not, ◌&&◌, List, [], ◌∷◌, ◌++◌, ℕ, ◌*◌, eqb, ℤ, length}
 use Rattle.refusal.specs.declared.Refusal.TheVariants.{Dimension, Count, Neighbours, Length, Component}
-use Rattle.refusal.specs.declared.Verdict.{Verdict}
+use Rattle.refusal.specs.Refusal.{Verdict}
 use Rattle.refusal.specs.First.{Row, ◌⇒◌, outcome}
 use Rattle.limits.specs.Limits.{is_dimension_count, is_vector_count, is_neighbour_count}
 use Rattle.presence.specs.Presence.{factors_of, word_causes}

@@ -1,8 +1,8 @@
 // The full scan: the vectors nearest to a query, by all their distances over the dimensions that are present.
 #![tactic(auto)]
 
-ghost use Rattle.std.specs.Prelude.{◌≡◌, ◌&&◌, [], ◌*◌, ◌^◌, ◌≤◌, ◌<◌, eqb, length};
-ghost use Rattle.refusal.specs.First.{first, outcome};
+ghost use Rattle.std.specs.Prelude.{◌≡◌, ◌&&◌, ◌*◌, ◌≤◌, eqb, length, Ok, Err, IfOk, IfErr};
+ghost use Rattle.refusal.specs.First.{first};
 ghost use Rattle.limits.specs.Limits.{max_dimensions, max_vectors};
 ghost use Rattle.limits.specs.Tests.{Neighbours};
 ghost use Rattle.presence.specs.Presence.{factors_of};
@@ -10,12 +10,12 @@ ghost use Rattle.signed.specs.Components.{are_components};
 ghost use Rattle.distance.specs.Small.{Factors};
 ghost use Rattle.distance.specs.Values.{values_from};
 ghost use Rattle.entries.specs.Entries.{entries_of, in_array};
-ghost use Rattle.scan.specs.Scanning.{distances_of, scan_answer, scan_causes, scan_buffer_causes, scanned_entries};
+ghost use Rattle.scan.specs.Scanning.{distances_of, scan_answer, scan_causes};
 ghost use Rattle.scan.specs.Scanned.{Vectors};
 
-use entries::{Entry, entries_of, no_entries};
+use entries::{Entry, entries_of};
 use limits::{MAX_DIMENSIONS, MAX_NEIGHBOURS, MAX_VECTORS};
-use refusal::{Refusal, Verdict};
+use refusal::Refusal;
 
 // The numbers of a scan: of dimensions, of vectors and of neighbours, and the query's presence word.
 #[derive(Clone, Copy, Drop)]
@@ -26,84 +26,57 @@ pub struct ScanTerms {
     pub word: u32,
 }
 
-// What a scan answers: its verdict, and the entries at the front of an array, with blank ones behind them.
-#[derive(Drop)]
-pub struct Scanned {
-    pub entries: [Entry; MAX_NEIGHBOURS],
-    pub verdict: Verdict,
-}
-
 // The k of n vectors that are nearest to a query of d components, nearest first, ties by lower number, where so many entries are lent for
-// them. The vectors stand in a row.
-pub fn nearest_by_scan(terms: ScanTerms, query: &[i32], vectors: &[i32], entries: usize) -> Scanned
-    ensures { let v = first (scan_causes terms query.now vectors.now entries) in
-        (result.verdict ≡ v) × (result.entries ≡ in_array (scanned_entries v terms query.now vectors.now [])) }
+// them: at the front of an array, with blank ones behind them. The vectors stand in a row.
+pub fn nearest_by_scan(
+    terms: ScanTerms,
+    query: &[i32],
+    vectors: &[i32],
+    entries: usize,
+) -> Result<[Entry; MAX_NEIGHBOURS], Refusal>
+    ensures ok { IfOk result (λ found. (first (scan_causes terms query.now vectors.now entries) ≡ Ok tt)
+        × (found ≡ in_array (entries_of (scan_answer terms query.now vectors.now)))) }
+    ensures err { IfErr result (λ cause. first (scan_causes terms query.now vectors.now entries) ≡ Err cause) }
 {
-    let verdict = check_scan(terms, query, vectors, entries);
-    match verdict {
-        Verdict::Accepted => Scanned {
-            verdict: Verdict::Accepted,
-            entries: scan_ready(terms, query, vectors),
-        },
-        Verdict::Refused(cause) => Scanned {
-            verdict: Verdict::Refused(cause),
-            entries: no_entries(),
-        },
-    }
-}
-
-// How many of k entries a verdict on a scan leaves to fill.
-pub fn accepted_count(verdict: Verdict, k: usize) -> usize
-    ensures { result ≡ outcome verdict k (λ _. 0) }
-{
-    match verdict {
-        Verdict::Accepted => k,
-        Verdict::Refused(_) => 0,
-    }
+    check_scan(terms, query, vectors, entries)?;
+    Ok(scan_ready(terms, query, vectors))
 }
 
 // Whether the vectors can be scanned, for so many entries.
-fn check_scan(terms: ScanTerms, query: &[i32], vectors: &[i32], entries: usize) -> Verdict
+#[tactic(auto, using(refusal::specs::First::handed_on), unfolding(refusal::specs::First::first))]
+fn check_scan(
+    terms: ScanTerms,
+    query: &[i32],
+    vectors: &[i32],
+    entries: usize,
+) -> Result<(), Refusal>
     ensures { result ≡ first (scan_causes terms query.now vectors.now entries) }
 {
     if !limits::is_dimension_count(terms.d) {
-        return Verdict::Refused(Refusal::Dimension);
+        return Err(Refusal::Dimension);
     }
     if !limits::is_vector_count(terms.n) {
-        return Verdict::Refused(Refusal::Count);
+        return Err(Refusal::Count);
     }
     if !limits::is_neighbour_count(terms.n, terms.k) {
-        return Verdict::Refused(Refusal::Neighbours);
+        return Err(Refusal::Neighbours);
     }
-    match presence::check_word(terms.d, terms.word) {
-        Verdict::Accepted => check_buffers(terms, query, vectors, entries),
-        Verdict::Refused(cause) => Verdict::Refused(cause),
-    }
-}
-
-// Whether the query, the vectors and the entries can be scanned, where the numbers can be.
-fn check_buffers(terms: ScanTerms, query: &[i32], vectors: &[i32], entries: usize) -> Verdict
-    requires { (terms.d ≤ max_dimensions) × (terms.n ≤ max_vectors) }
-    ensures { result ≡ first (scan_buffer_causes terms query.now vectors.now entries) }
-{
+    presence::check_word(terms.d, terms.word)?;
     if !exact_lengths(terms, query.len(), vectors.len(), entries) {
-        return Verdict::Refused(Refusal::Length);
+        return Err(Refusal::Length);
     }
     if !all_components(query, vectors) {
-        return Verdict::Refused(Refusal::Component);
+        return Err(Refusal::Component);
     }
-    Verdict::Accepted
+    Ok(())
 }
 
 // Whether the lengths of the query, the vectors and the entries are the exact ones.
 fn exact_lengths(terms: ScanTerms, query: usize, vectors: usize, entries: usize) -> bool
-    requires { terms.n * terms.d < 2 ^ 64 }
+    requires { (terms.d ≤ max_dimensions) × (terms.n ≤ max_vectors) }
     ensures { result ≡ eqb query terms.d && (eqb vectors (terms.n * terms.d) && eqb entries terms.k) }
 {
-    if query != terms.d {
-        return false;
-    }
-    vectors == terms.n * terms.d && entries == terms.k
+    query == terms.d && vectors == terms.n * terms.d && entries == terms.k
 }
 
 // Whether the query's and the vectors' numbers are components.
@@ -141,7 +114,8 @@ fn scan_into(
     let mut numbers = [0u32; MAX_NEIGHBOURS];
     let mut least = [0u64; MAX_NEIGHBOURS];
     let mut words = [0u64; MAX_NEIGHBOURS];
-    least::select(distances, &mut numbers[..k], &mut least[..k], &mut words);
+    // Nothing refuses: k is at most n, and the rooms are as long as the selection.
+    let _ = least::select(distances, &mut numbers[..k], &mut least[..k], &mut words);
     entries_of(&least[..k], &numbers[..k])
 }
 
@@ -157,11 +131,9 @@ fn measure_all(
     ensures { keys.new ≡ values_from (distances_of d factors.now query.now vectors.now) 0
         (length keys.old) }
 {
-    let mut i = 0;
-    while i < keys.len() {
+    for (i, key) in keys.iter_mut().enumerate() {
         let start = i * d;
         let end = start + d;
-        keys[i] = distance::weighed_distance(factors, query, &vectors[start..end]);
-        i += 1;
+        *key = distance::weighed_distance(factors, query, &vectors[start..end]);
     }
 }

@@ -1,9 +1,8 @@
 -- What holds where the search is not refused, and that it is not refused where all of that holds. Assumes nothing.
-use Rattle.std.specs.Prelude.{◌≡◌, refl, true, false, ℕ, ◌*◌, ◌≤◌, length}
+use Rattle.std.specs.Prelude.{◌≡◌, refl, true, false, ℕ, ◌*◌, ◌≤◌, length, Ok}
 use Rattle.std.proofs.Math.Bool.{and-eq-true_iff}
 use Rattle.std.proofs.Common.{arith, eqb-true, eq-eqb}
 use Rattle.std.proofs.lemmas.Bool.{not-false}
-use Rattle.refusal.specs.declared.Verdict.TheVariants.{Accepted}
 use Rattle.refusal.specs.First.{first, passed}
 use Rattle.limits.specs.Limits.{max_neighbours, is_dimension_count, is_bits, is_vector_count, is_neighbour_count}
 use Rattle.limits.specs.Tests.{neighbours}
@@ -19,14 +18,14 @@ use Rattle.search.specs.Search.{Index, Query, Room, numbers_in, distance_in, low
 
 -- the search is not refused
 abbrev pub Accepts : Index → Query → ℕ → Room → Type 0
-Accepts l query k room = first (search_causes l query k room) ≡ Accepted
+Accepts l query k room = first (search_causes l query k room) ≡ Ok tt
 
 pub record Passes (l : Index) (query : Query) (k : ℕ) (room : Room) : Type 0 where
   pub dimensions : is_dimension_count l.d ≡ true
   pub bits : is_bits l.d l.b ≡ true
   pub count : is_vector_count l.n ≡ true
   pub neighbours : is_neighbour_count l.n k ≡ true
-  pub word : first (word_causes l.d query.word) ≡ Accepted
+  pub word : first (word_causes l.d query.word) ≡ Ok tt
   pub lengths : exact_lengths l query k room ≡ true
   pub components : are_components query.components ≡ true
   pub marks : good_marks l.d l.b l.marks ≡ true
@@ -34,11 +33,11 @@ pub record Passes (l : Index) (query : Query) (k : ℕ) (room : Room) : Type 0 w
   pub cells : in_own_cells l (searched l query k).reads ≡ true
 
 -- both tests of a presence word fail, and the other way round
-pub word_passes : (d word : ℕ) → has_bit_past d word ≡ false → has_too_few d word ≡ false → first (word_causes d word) ≡ Accepted
+pub word_passes : (d word : ℕ) → has_bit_past d word ≡ false → has_too_few d word ≡ false → first (word_causes d word) ≡ Ok tt
 unfolding first
 word_passes d word past few = rw (past, few) refl
 
-pub word_told : (d word : ℕ) → first (word_causes d word) ≡ Accepted → (has_bit_past d word ≡ false) × (has_too_few d word ≡ false)
+pub word_told : (d word : ℕ) → first (word_causes d word) ≡ Ok tt → (has_bit_past d word ≡ false) × (has_too_few d word ≡ false)
 word_told d word accepted =
     let past = passed _ _ _ accepted in
     (past.fails, (passed _ _ _ past.rest).fails)

@@ -1,13 +1,13 @@
 -- All that a search leaves. Assumes nothing.
-use Rattle.std.specs.Prelude.{List, ℕ}
+use Rattle.std.specs.Prelude.{List, ℕ, Result}
+use Rattle.refusal.specs.declared.Refusal.{Refusal}
 use Rattle.refusal.specs.First.{first}
 use Rattle.entries.specs.declared.Entry.{Entry}
-use Rattle.search.specs.declared.Searched.{Searched}
 use Rattle.search.specs.Search.{Index, Query, Room, search_causes}
 use Rattle.search.specs.Answer.{search_answer, search_entries, search_reads}
 
 pub record SearchLeft : Type 0 where
-  pub answer : Searched
+  pub answer : Result ℕ Refusal
   pub entries : List Entry
   pub reads : List ℕ
 

@@ -1,9 +1,8 @@
 -- What the search may count on once nothing was refused at its entry. Assumes nothing.
-use Rattle.std.specs.Prelude.{◌≡◌, true, List, ℕ, suc, ◌+◌, ◌*◌, ◌^◌, ◌≤◌, ◌<◌, ℤ, length, get_or}
+use Rattle.std.specs.Prelude.{◌≡◌, true, List, ℕ, suc, ◌+◌, ◌*◌, ◌^◌, ◌≤◌, ◌<◌, ℤ, length, get_or, Ok}
 use Rattle.std.proofs.Math.Path.{refl}
 use Rattle.std.proofs.Common.{suc-mul, mul-le-mul, mul-le-mul_right, arith}
 use borrow.Author.Tests.{not-false}
-use Rattle.refusal.specs.declared.Verdict.TheVariants.{Accepted}
 use Rattle.refusal.specs.First.{first, passed}
 use Rattle.limits.specs.Limits.{max_dimensions, max_vectors, max_neighbours, is_vector_count, is_neighbour_count}
 use Rattle.limits.specs.Tests as limits
@@ -39,13 +38,13 @@ abbrev pub room_of : ℕ → ℕ → Room
 room_of entries reads = record { entries = entries; reads = reads }
 
 pub record Ready (l : Index) (query : Query) (k : ℕ) : Type 0 where
-  pub shaped : first (shape_causes l.d l.b) ≡ Accepted
+  pub shaped : first (shape_causes l.d l.b) ≡ Ok tt
   pub dimensions : l.d ≤ max_dimensions
   pub count : l.n ≤ max_vectors
   pub some : 1 ≤ k
   pub enough : k ≤ l.n
   pub few : k ≤ max_neighbours
-  pub word : first (word_causes l.d query.word) ≡ Accepted
+  pub word : first (word_causes l.d query.word) ≡ Ok tt
   pub of_query : length query.components ≡ l.d
   pub of_marks : length l.marks ≡ first_marks l.d l.b l.d
   pub of_codes : length l.codes ≡ code_length l.b l.n
@@ -60,7 +59,7 @@ pub record Entered (l : Index) (query : Query) (k : ℕ) (room : Room) : Type 0 
   pub of_entries : room.entries ≡ k
   pub of_reads : room.reads ≡ l.n
 
-pub entered : (l : Index) (query : Query) (k : ℕ) (room : Room) → first (entry_causes l query k room) ≡ Accepted → Entered l query k room
+pub entered : (l : Index) (query : Query) (k : ℕ) (room : Room) → first (entry_causes l query k room) ≡ Ok tt → Entered l query k room
 entered l query k room accepts =
     let dimensions = passed _ _ _ accepts in
     let bits = passed _ _ _ dimensions.rest in
@@ -75,7 +74,7 @@ entered l query k room accepts =
     let counted = not-false (is_vector_count l.n) count.fails in
     let among = limits.neighbours l.n k counted (not-false (is_neighbour_count l.n k) neighbours.fails) in
     let sizes = lengths_told l query k room (not-false (exact_lengths l query k room) lengths.fails) in
-    let shaped : first (shape_causes l.d l.b) ≡ Accepted = unfold first in rw (dimensions.fails, bits.fails) refl in
+    let shaped : first (shape_causes l.d l.b) ≡ Ok tt = unfold first in rw (dimensions.fails, bits.fails) refl in
     record {
       ready = record {
         shaped = shaped;

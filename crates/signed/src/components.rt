@@ -11,10 +11,8 @@ pub fn are_components(s: &[i32]) -> bool
     ensures { result ≡ are_components s.now }
 {
     let mut bits = 0;
-    let mut i = 0;
-    while i < s.len() {
-        bits |= above_least(s[i]);
-        i += 1;
+    for z in s {
+        bits |= above_least(*z);
     }
     bits < 0x1_0000
 }
@@ -23,5 +21,5 @@ pub fn are_components(s: &[i32]) -> bool
 fn above_least(z: i32) -> u32
     ensures { nat_lt result (2 ^ 16) ≡ is_component z }
 {
-    std::num::wrapping_sub_u32(key(z) as u32, key(LEAST_COMPONENT) as u32)
+    (key(z) as u32).wrapping_sub(key(LEAST_COMPONENT) as u32)
 }

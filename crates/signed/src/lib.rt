@@ -11,17 +11,14 @@ ghost use Rattle.signed.specs.Keys.{key_of};
 pub fn at(s: &[i32], i: usize) -> i32
     ensures { result ≡ slice_index_or s.now i (pos 0) }
 {
-    if i < s.len() {
-        return s[i];
-    }
-    0
+    s.get(i).copied().unwrap_or(0)
 }
 
 // A number's key.
 pub fn key(z: i32) -> u64
     ensures { result ≡ key_of z }
 {
-    (z as i64 + 0x8000_0000) as u64
+    (i64::from(z) + 0x8000_0000) as u64
 }
 
 // The key of the element at an index, that of 0 past the end.

@@ -28,7 +28,7 @@ pub fn splice(front: &[u8], p: usize, back: &[u8], q: usize, out: &mut [u8])
 fn whole_bytes(p: usize, bytes: usize) -> usize
     ensures { result ≡ cond (ltb (p / 8) bytes) (p / 8) bytes }
 {
-    if p / 8 < bytes { p / 8 } else { bytes }
+    (p / 8).min(bytes)
 }
 
 // How many bits of the next byte lie before bit p, 0 where there is no next one.
@@ -43,11 +43,7 @@ fn copy(front: &[u8], count: usize, out: &mut [u8])
     requires { (count ≤ length front.now) × (count ≤ length out.old) }
     ensures { out.new ≡ take count front.now ++ drop count out.old }
 {
-    let mut i = 0;
-    while i < count {
-        out[i] = front[i];
-        i += 1;
-    }
+    out[..count].copy_from_slice(&front[..count]);
 }
 
 // The byte that has the first bits of one slice's byte, and then those of another slice from bit q on.
@@ -66,14 +62,10 @@ fn shift(back: &[u8], first: usize, bit: usize, at: usize, out: &mut [u8])
         ++ bytes_of (length out.old - at) (drop (first * 8 + bit) (byte_bits back.now)) }
 {
     let mut high = byte_at(back, first);
-    let mut i = first;
-    let mut o = at;
-    while o < out.len() {
-        i += 1;
-        let next = byte_at(back, i);
+    for o in at..out.len() {
+        let next = byte_at(back, first + (o - at) + 1);
         out[o] = middle(high, next, bit) as u8;
         high = next;
-        o += 1;
     }
 }
 

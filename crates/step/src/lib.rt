@@ -17,33 +17,14 @@ pub enum Bound {
 pub fn product(factor: u32, a: i32, b: i32) -> u32
     ensures { result ≡ product_word factor (Step.gap a b) }
 {
-    (factor as u64 * gap(a, b) as u64 % 0x1_0000_0000) as u32
-}
-
-// How far two numbers are apart.
-fn gap(a: i32, b: i32) -> u32
-    ensures { result ≡ Step.gap a b }
-{
-    if a < b {
-        return (signed::key(b) - signed::key(a)) as u32;
-    }
-    (signed::key(a) - signed::key(b)) as u32
+    (u64::from(factor) * u64::from(a.abs_diff(b)) % 0x1_0000_0000) as u32
 }
 
 // How far a number is from the last value before a mark.
 fn gap_to_last(q: i32, high: i32) -> u64
     ensures { (result ≡ Step.gap q (pred_ℤ high)) × (result ≤ 2 ^ 32) }
 {
-    difference(signed::key(q) + 1, signed::key(high))
-}
-
-fn difference(k: u64, l: u64) -> u64
-    ensures { result ≡ (k - l) + (l - k) }
-{
-    if k < l {
-        return l - k;
-    }
-    k - l
+    (signed::key(q) + 1).abs_diff(signed::key(high))
 }
 
 // What a dimension with a factor adds to a bound, by the step to the region from low up to, and without, high.
@@ -61,7 +42,7 @@ fn shortest_step(q: i32, low: i32, high: i32) -> u64
     ensures { (result ≡ shortest q low high) × (result ≤ 2 ^ 32) }
 {
     if q < low {
-        return gap(low, q) as u64;
+        return u64::from(low.abs_diff(q));
     }
     if high <= q {
         return gap_to_last(q, high);
@@ -73,19 +54,17 @@ fn shortest_step(q: i32, low: i32, high: i32) -> u64
 fn longest_step(q: i32, low: i32, high: i32) -> u64
     ensures { (result ≡ longest q low high) × (result ≤ 2 ^ 32) }
 {
-    let first = gap(q, low) as u64;
+    let first = u64::from(q.abs_diff(low));
     let last = gap_to_last(q, high);
-    if first < last {
-        return last;
-    }
-    first
+    first.max(last)
 }
 
 // What a dimension with a factor adds by its step: the square of their product, which is taken modulo 2^32.
+#[tactic(auto, unfolding(crate::specs::Step::weighed_word))]
 fn weighed(factor: u32, step: u64) -> u64
     requires { step ≤ 2 ^ 32 }
     ensures { result ≡ weighed_word factor step }
 {
-    let product = factor as u64 * step % 0x1_0000_0000;
+    let product = u64::from(factor) * step % 0x1_0000_0000;
     product * product
 }

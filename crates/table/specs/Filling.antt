@@ -1,18 +1,16 @@
 -- A table that is filled a dimension at a time, each dimension's entries into their own stretch. Assumes nothing.
 use Rattle.std.specs.Prelude.{◌≡◌, List, ◌++◌, ℤ, pos, drop}
 use Rattle.std.proofs.Math.Path.{refl, sym, ap}
-use Rattle.std.proofs.Common.{◌∙◌, append_assoc, add-one, length-append, take_at, take_all, length-take-le}
+use Rattle.std.proofs.Common.{◌∙◌, append_assoc, add-one, le_trans, mul-le-mul_left, length-append, take_at, take_all, length-take-le}
 use Prim.Native.Nat.{ℕ, suc, ◌+◌, ◌-◌, ◌*◌, ◌%◌, ◌^◌, ◌≤◌, ◌<◌}
 use native.Mathlib.Omega.{arith}
 use Rattle.std.proofs.Math.ListN.{length, take, get_or}
 use borrow.Rule.Slice.PartMut.{mid_of, post_of, put_mid, mid_len, same_len_mid}
-use Rattle.refusal.specs.declared.Verdict.TheVariants.{Accepted}
-use Rattle.refusal.specs.First.{first}
 use Rattle.limits.specs.Limits.{max_dimension_bits}
+use Rattle.layout.specs.declared.Layout.{Layout}
 use Rattle.layout.specs.declared.Stretch.{Stretch}
-use Rattle.layout.specs.Layout.{mark_count, first_marks}
-use Rattle.layout.specs.Laws.{shifted, first_next_marks}
-use Rattle.layout.specs.Stretch.{shape_causes, stretch_of, stretches, dimension_accepted}
+use Rattle.layout.specs.Layout.{bits_of, mark_count, first_marks}
+use Rattle.layout.specs.Laws.{shifted, bits_le, marks_le, marks_within, first_next_marks}
 use Rattle.partition.specs.Marks.{dimension_marks}
 use Rattle.table.specs.Table.{max_table, steps_from, table_first, table_of}
 use Rattle.table.specs.TableLaws.{length_steps}
@@ -25,17 +23,18 @@ pub record Place (d b t start bits end : ℕ) : Type 0 where
   pub within : first_marks d b (suc t) ≤ first_marks d b d
   pub small : first_marks d b d ≤ max_table
 
-pub place : {d b t : ℕ} {s : Stretch} → first (shape_causes d b) ≡ Accepted → t < d → s ≡ stretch_of d b (t + 1)
-    → Place d b t s.offset s.bits (s.offset + 1 * 2 ^ s.bits % 2 ^ 64 + 1)
-place {d} {b} {t} {s} shaped below is =
-    let told = stretches (dimension_accepted d b t shaped below) is in
+pub place : (l : Layout) {t : ℕ} {s : Stretch} → t < l.d → s.offset ≡ first_marks l.d l.b (t + 1 - 1) → s.bits ≡ bits_of l.d l.b (t + 1)
+    → Place l.d l.b t s.offset s.bits (s.offset + 1 * 2 ^ s.bits % 2 ^ 64 + 1)
+place l {t} {s} below offset_is bits_are =
     let number : t + 1 - 1 ≡ t = omega arith in
+    let few : s.bits ≤ max_dimension_bits = rw (bits_are, add-one t) (bits_le max_dimension_bits l.d l.b t l.some l.within) in
+    let begins : s.offset ≡ first_marks l.d l.b t = rw number at offset_is in
     record {
-      begins = rw number at told.offset_is;
-      few = told.few_bits;
-      ends = rw (shifted s.bits (omega (arith, told.few_bits)), ← add-one t) (omega (arith, told.end));
-      within = rw (← add-one t) told.within;
-      small = told.small;
+      begins = begins;
+      few = few;
+      ends = rw (shifted s.bits (omega (arith, few)), bits_are, add-one t) (omega (arith, begins, first_next_marks l.d l.b t));
+      within = marks_within l.d l.b l.d t below;
+      small = le_trans (marks_le max_dimension_bits l.d l.b l.d l.some l.within) (mul-le-mul_left (2 ^ max_dimension_bits + 1) l.few);
     }
 
 -- the entries of the first t dimensions stand at the table's front

@@ -1,5 +1,5 @@
 -- What stands in a query's table, and that a code's entries sum up to its bound. Assumes nothing.
-use Rattle.std.specs.Prelude.{◌≡◌, Bool, true, false, cond, ◌&&◌, List, eqb, ℤ, pos}
+use Rattle.std.specs.Prelude.{◌≡◌, Bool, true, false, cond, ◌&&◌, List, eqb, ℤ, pos, Ok, Err}
 use Rattle.std.proofs.Math.Path.{refl, ap}
 use Rattle.std.proofs.Common.{sym, ◌∙◌, zero-add, add-zero, le_refl, le_of_suc-le-suc, eq-or-lt_of_le, arith, eqb-true, eq-eqb, length-append}
 use Rattle.std.proofs.Math.Bool.{and-eq-true_iff}
@@ -9,8 +9,7 @@ use Prim.Native.Nat.{ℕ, zero, suc, ◌+◌, ◌%◌, ◌^◌, ◌≤◌, ◌<�
 use Rattle.std.proofs.Math.Nat.{mod-eq_of_lt}
 use Rattle.std.proofs.Math.ListN.{length, get_or, get_or-append}
 use Rattle.std.proofs.Math.Seq.{get_or-append-add}
-use Rattle.refusal.specs.declared.Verdict.{Verdict}
-use Rattle.refusal.specs.declared.Verdict.TheVariants.{Accepted, Refused}
+use Rattle.refusal.specs.Refusal.{Verdict}
 use Rattle.refusal.specs.First.{first, outcome, outcome_accepted}
 use Rattle.limits.specs.Limits.{max_dimension_bits}
 use Rattle.signed.specs.Components.{are_components}
@@ -32,7 +31,7 @@ unfolding steps_from
 length_steps step factor q marks r zero = refl
 length_steps step factor q marks r (suc n) = ap suc (length_steps step factor q marks (suc r) n)
 
-step_at_lem : (step : ℤ → ℤ → ℤ → ℕ) (factor : ℕ) (q : ℤ) (marks : List ℤ) (r n k : ℕ) → k < n
+pub step_at_lem : (step : ℤ → ℤ → ℤ → ℕ) (factor : ℕ) (q : ℤ) (marks : List ℤ) (r n k : ℕ) → k < n
     → get_or (steps_from step factor q marks r n) k 0 ≡ weighed_word factor (step_to step q marks (r + k))
 unfolding steps_from
 step_at_lem step factor q marks r zero k h = absurd (omega arith)
@@ -95,7 +94,7 @@ module _ (bound : Bound) (d b : ℕ) (marks : List ℤ) (factors : List ℕ) (qu
         part_exact (get_or factors t 0) (step_at (step_of bound) d b marks codes query i t) (moderate.small t) small,
       )
 
-  bound_sum_lem : first (shape_causes d b) ≡ Accepted
+  bound_sum_lem : first (shape_causes d b) ≡ Ok tt
       → bound_sum d b (table_of (step_of bound) d b marks factors query) codes i ≡ weighed_bound (step_of bound) d b marks codes factors query i
   unfolding bound_sum
   bound_sum_lem shaped =
@@ -110,7 +109,7 @@ values_agree f g agree i (suc n) = rw (agree i, values_agree f g agree (suc i) n
 
 -- so the sums of n codes are their bounds
 pub bounds_sum : (bound : Bound) (d b : ℕ) (marks : List ℤ) (factors : List ℕ) (query : List ℤ) (codes : List ℕ) (n : ℕ) → Factors factors
-    → first (shape_causes d b) ≡ Accepted → are_components query ≡ true → good_marks d b marks ≡ true
+    → first (shape_causes d b) ≡ Ok tt → are_components query ≡ true → good_marks d b marks ≡ true
     → values_from (bound_sum d b (table_of (step_of bound) d b marks factors query) codes) 0 n
     ≡ values_from (weighed_bound (step_of bound) d b marks codes factors query) 0 n
 bounds_sum bound d b marks factors query codes n moderate shaped components good =
@@ -118,7 +117,7 @@ bounds_sum bound d b marks factors query codes n moderate shaped components good
 
 -- what holds where marks and a table have their lengths
 pub record Lengths (d b marks table : ℕ) : Type 0 where
-  pub shaped : first (shape_causes d b) ≡ Accepted
+  pub shaped : first (shape_causes d b) ≡ Ok tt
   pub of_marks : marks ≡ first_marks d b d
   pub of_table : table ≡ first_marks d b d
 
@@ -130,13 +129,13 @@ table_lengths d b marks table is = go (first (shape_causes d b)) refl is
     both = eqb marks (first_marks d b d) && eqb table (first_marks d b d)
 
     go : (v : Verdict) → first (shape_causes d b) ≡ v → outcome v both (λ _. false) ≡ true → Lengths d b marks table
-    go Accepted shaped exact =
+    go (Ok _) shaped exact =
         let lengths = (and-eq-true_iff (eqb marks (first_marks d b d)) (eqb table (first_marks d b d))).0 exact in
         record { shaped = shaped; of_marks = eqb-true _ _ lengths.0; of_table = eqb-true _ _ lengths.1 }
-    go (Refused cause) shaped exact = absurd (false≢true exact)
+    go (Err cause) shaped exact = absurd (false≢true exact)
 
 -- there the table is filled
-pub is_filled : (d b marks table : ℕ) (full old : List ℕ) → first (shape_causes d b) ≡ Accepted → marks ≡ first_marks d b d → table ≡ marks
+pub is_filled : (d b marks table : ℕ) (full old : List ℕ) → first (shape_causes d b) ≡ Ok tt → marks ≡ first_marks d b d → table ≡ marks
     → cond (has_table d b marks table) full old ≡ full
 unfolding has_table
 is_filled d b marks table full old shaped of_marks same =
@@ -145,7 +144,7 @@ is_filled d b marks table full old shaped of_marks same =
     rw there
 
 -- a table is no longer than the longest
-pub table_le : (d b : ℕ) → first (shape_causes d b) ≡ Accepted → first_marks d b d ≤ max_table
+pub table_le : (d b : ℕ) → first (shape_causes d b) ≡ Ok tt → first_marks d b d ≤ max_table
 table_le d b shaped =
     let told = shape d b shaped in
     omega (arith, marks_le max_dimension_bits d b d told.some told.bits, told.few)

@@ -1,16 +1,13 @@
 // A query's table: what the step to each region adds to a bound.
 #![tactic(auto)]
 
-ghost use Rattle.std.specs.Prelude.{◌≡◌, cond, length};
-ghost use Rattle.refusal.specs.declared.Verdict.TheVariants.{Accepted};
-ghost use Rattle.refusal.specs.First.{first};
+ghost use Rattle.std.specs.Prelude.{◌≡◌, cond, ◌&&◌, length, ◌==◌};
 ghost use Rattle.layout.specs.Layout.{first_marks};
-ghost use Rattle.layout.specs.Stretch.{shape_causes};
 ghost use Rattle.step.specs.Step.{step_of};
 ghost use Rattle.table.specs.Table.{has_table, steps_from, table_of};
 
+use layout::Layout;
 use limits::{MAX_DIMENSION_BITS, MAX_DIMENSIONS};
-use refusal::Verdict;
 use step::Bound;
 
 // The length of the longest table: that of the longest marks buffer.
@@ -30,41 +27,37 @@ pub fn fill_table(
         ≡ cond (has_table d b (length marks.now) (length table.old))
         (table_of (step_of bound) d b marks.now factors query.now) table.old }
 {
-    if has_table(d, b, marks.len(), table.len()) {
-        fill_dimensions(bound, d, b, marks, factors, query, table);
+    let Ok(layout) = Layout::new(d, b) else {
+        return;
+    };
+    if has_table(layout, marks.len(), table.len()) {
+        fill_dimensions(bound, layout, marks, factors, query, table);
     }
 }
 
-// Whether marks and a table of these lengths are those of d dimensions with b bits in all.
-fn has_table(d: usize, b: usize, marks: usize, table: usize) -> bool
-    ensures { result ≡ has_table d b marks table }
+// Whether marks and a table of these lengths are the layout's.
+fn has_table(layout: Layout, marks: usize, table: usize) -> bool
+    ensures { result ≡ (marks == first_marks layout.d layout.b layout.d) && (table == first_marks layout.d layout.b layout.d) }
 {
-    match layout::check_shape(d, b) {
-        Verdict::Accepted => {
-            let length = layout::marks_length(d, b);
-            marks == length && table == length
-        }
-        Verdict::Refused(_) => false,
-    }
+    let length = layout.marks_length();
+    marks == length && table == length
 }
 
 // The query's table, each dimension's entries in their own stretch.
 fn fill_dimensions(
     bound: Bound,
-    d: usize,
-    b: usize,
+    layout: Layout,
     marks: &[i32],
     factors: [u32; MAX_DIMENSIONS],
     query: &[i32],
     table: &mut [u64],
 )
-    requires { (first (shape_causes d b) ≡ Accepted) × (length marks.now ≡ first_marks d b d)
-        × (length table.old ≡ first_marks d b d) }
-    ensures { table.new ≡ table_of (step_of bound) d b marks.now factors query.now }
+    requires { (length marks.now ≡ first_marks layout.d layout.b layout.d)
+        × (length table.old ≡ first_marks layout.d layout.b layout.d) }
+    ensures { table.new ≡ table_of (step_of bound) layout.d layout.b marks.now factors query.now }
 {
-    let mut t = 0;
-    while t < d {
-        let stretch = layout::stretch_of(d, b, t + 1);
+    for t in 0..layout.d {
+        let stretch = layout.stretch(t + 1);
         let start = stretch.offset;
         let end = start + (1usize << stretch.bits) + 1;
         fill_steps(
@@ -74,7 +67,6 @@ fn fill_dimensions(
             &marks[start..end],
             &mut table[start..end],
         );
-        t += 1;
     }
 }
 
@@ -82,15 +74,13 @@ fn fill_dimensions(
 fn fill_steps(bound: Bound, factor: u32, q: i32, marks: &[i32], steps: &mut [u64])
     ensures { steps.new ≡ steps_from (step_of bound) factor q marks.now 0 (length steps.old) }
 {
-    let mut r = 0;
-    while r < steps.len() {
-        steps[r] = step::weighed_step(
+    for (r, entry) in steps.iter_mut().enumerate() {
+        *entry = step::weighed_step(
             bound,
             factor,
             q,
             signed::at(marks, r),
             signed::at(marks, r + 1),
         );
-        r += 1;
     }
 }

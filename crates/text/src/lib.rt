@@ -10,6 +10,8 @@ const SPACE: u8 = 32;
 
 const LINE_END: u8 = 10;
 
+const REFUSED: [u8; 8] = *b"refused ";
+
 // A line of two numbers.
 pub fn put_two(x: u64, y: u64, text: &mut [u8]) -> usize
     ensures value { result ≡ length (line x (y ∷ [])) }
@@ -42,17 +44,13 @@ pub fn put_refused(x: u64, text: &mut [u8]) -> usize
 fn put_word(text: &mut [u8]) -> usize
     ensures { Puts refused_word 0 text.old text.new result }
 {
-    put_byte(b'r', text, 0);
-    put_byte(b'e', text, 1);
-    put_byte(b'f', text, 2);
-    put_byte(b'u', text, 3);
-    put_byte(b's', text, 4);
-    put_byte(b'e', text, 5);
-    put_byte(b'd', text, 6);
-    put_byte(b' ', text, 7)
+    let fitting = text.len().min(REFUSED.len());
+    text[..fitting].copy_from_slice(&REFUSED[..fitting]);
+    REFUSED.len()
 }
 
 // A number from an index on, and the byte that ends it; the index behind them.
+#[tactic(auto, using(crate::specs::Puts::decimal_room))]
 fn put_field(x: u64, end: u8, text: &mut [u8], at: usize) -> usize
     requires { at + field_room ≤ last_index }
     ensures { (Puts (field x end) at text.old text.new result) × (result ≤ at + field_room) }
@@ -74,6 +72,7 @@ fn put_number(x: u64, text: &mut [u8], at: usize) -> usize
 }
 
 // One byte, where the buffer has that index; the index behind it.
+#[tactic(auto, using(crate::specs::Puts::puts_out))]
 fn put_byte(x: u8, text: &mut [u8], at: usize) -> usize
     requires { at < last_index }
     ensures { Puts (x ∷ []) at text.old text.new result }

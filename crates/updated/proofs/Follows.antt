@@ -1,9 +1,8 @@
 -- What follows from the promises of adding and removing (specs/Updates.antt): the codes after them are the vectors' own where the old ones
 -- were, so the search gives what is due; and 8 never occurs in adding where the outer marks are at the ends of the scale. Assumes nothing.
-use Rattle.std.specs.Prelude.{◌≡◌, List, ℕ, suc, ◌-◌, ◌<◌, ℤ, take}
+use Rattle.std.specs.Prelude.{◌≡◌, List, ℕ, suc, ◌-◌, ◌<◌, ℤ, take, Ok, Err}
 use Rattle.std.proofs.Common.{◌∙◌}
 use Rattle.refusal.specs.declared.Refusal.TheVariants.{Outside}
-use Rattle.refusal.specs.declared.Verdict.TheVariants.{Accepted, Refused}
 use Rattle.refusal.specs.First.{first}
 use Rattle.order.specs.Pair.{insert}
 use Rattle.layout.specs.Stretch.{shape}
@@ -25,7 +24,7 @@ use Rattle.updated.proofs.NeverOutside.{never_outside}
 
 -- ---- an addition that is not refused
 
-module _ (l : CodedLibrary) (vector : List ℤ) (room : Lengths) (accepted : first (add_causes l vector room) ≡ Accepted) (setting : ℕ) where
+module _ (l : CodedLibrary) (vector : List ℤ) (room : Lengths) (accepted : first (add_causes l vector room) ≡ Ok tt) (setting : ℕ) where
   facts : Addable l vector room
   facts = addable l vector room accepted
 
@@ -55,7 +54,7 @@ module _ (l : CodedLibrary) (vector : List ℤ) (room : Lengths) (accepted : fir
 
 -- ---- a removal that is not refused
 
-module _ (l : CodedLibrary) (i : ℕ) (room : Lengths) (accepted : first (remove_causes l i room) ≡ Accepted) where
+module _ (l : CodedLibrary) (i : ℕ) (room : Lengths) (accepted : first (remove_causes l i room) ≡ Ok tt) where
   known : Removable l i room
   known = removable l i room accepted
 
@@ -88,7 +87,7 @@ module _ (l : CodedLibrary) (i : ℕ) (room : Lengths) (accepted : first (remove
 -- "8 never occurs in adding to a library whose outer marks are those of Slip 2", whatever the vector, the buffers and the rest of the
 -- library.
 pub adding_never_outside : (l : CodedLibrary) → EndsOfScale l.d l.b l.marks → (vector : List ℤ) (room : Lengths)
-    → ¬ (first (add_causes l vector room) ≡ Refused Outside)
+    → ¬ (first (add_causes l vector room) ≡ Err Outside)
 adding_never_outside = never_outside
 
 -- Marks that are made from any vectors have such outer marks.

@@ -1,12 +1,11 @@
 -- 8 never occurs in adding to a library whose outer marks are at the ends of the scale. Assumes nothing.
-use Rattle.std.specs.Prelude.{◌≡◌, refl, Bool, true, false, not, ◌&&◌, List, [], ◌∷◌, ◌≤◌, eqb, ℤ}
+use Rattle.std.specs.Prelude.{◌≡◌, refl, Bool, true, false, not, ◌&&◌, List, [], ◌∷◌, ◌≤◌, eqb, ℤ, Err}
 use Rattle.std.proofs.Common.{sym, ap, ◌∙◌}
 use Rattle.std.proofs.Math.Bool.{and-eq-true_iff}
 use Rattle.std.proofs.lemmas.Bool.{not-false, eqb-false}
 use Rattle.refusal.specs.declared.Refusal.{Refusal}
 use Rattle.refusal.specs.declared.Refusal.TheVariants.{Dimension, Bits, Count, Length, Component, Mark, Outside, Code, Full}
-use Rattle.refusal.specs.declared.Verdict.TheVariants.{Refused}
-use Rattle.refusal.specs.Refusal.{number_of, verdict_number}
+use Rattle.refusal.specs.Refusal.{number_of, status_of}
 use Rattle.refusal.specs.First.{Row, ◌⇒◌, first, first_next, first_none, apart}
 use Rattle.limits.specs.Limits.{max_dimensions, is_dimension_count}
 use Rattle.limits.specs.Tests.{between}
@@ -22,16 +21,16 @@ use Rattle.updated.specs.OuterMarks.{EndsOfScale, all_inside}
 -- where 8 is the verdict, a row of another cause fails, and 8 is that of the rows behind it
 record Behind (test : Bool) (rows : List Row) : Type 0 where
   pub fails : test ≡ false
-  pub rest : first rows ≡ Refused Outside
+  pub rest : first rows ≡ Err Outside
 
 behind : (test : Bool) (cause : Refusal) (rows : List Row) → eqb (number_of cause) (number_of Outside) ≡ false
-    → first ((test ⇒ cause) ∷ rows) ≡ Refused Outside → Behind test rows
+    → first ((test ⇒ cause) ∷ rows) ≡ Err Outside → Behind test rows
 unfolding first
-behind true cause rows other refused = absurd (eqb-false (number_of cause) (number_of Outside) other (ap verdict_number refused))
+behind true cause rows other refused = absurd (eqb-false (number_of cause) (number_of Outside) other (ap status_of refused))
 behind false cause rows other refused = record { fails = refl; rest = refused }
 
 pub never_outside : (l : CodedLibrary) → EndsOfScale l.d l.b l.marks → (vector : List ℤ) (room : Lengths)
-    → ¬ (first (add_causes l vector room) ≡ Refused Outside)
+    → ¬ (first (add_causes l vector room) ≡ Err Outside)
 never_outside l ends vector room refused =
     let dimensions = behind (not (is_dimension_count l.d)) Dimension _ refl refused in
     let bits = behind _ Bits _ refl dimensions.rest in

@@ -1,12 +1,11 @@
 -- The library after an addition and after a removal passes the tests of a library. Assumes nothing.
-use Rattle.std.specs.Prelude.{◌≡◌, Bool, true, false, not, List, [], ◌∷◌, ltb, ℤ}
+use Rattle.std.specs.Prelude.{◌≡◌, Bool, true, false, not, List, [], ◌∷◌, ltb, ℤ, Ok}
 use Rattle.std.proofs.Math.Path.{refl, sym}
 use Rattle.std.proofs.Common.{◌∙◌, zero-mul, one-mul, mul-one, suc-mul, mul-le-mul_right, arith, eq-eqb, le-leb, lt-ltb, ltb-true, ltb-false, length-append}
 use Rattle.std.proofs.Math.Bool.{and-eq-true_iff}
 use Prim.Native.Nat.{ℕ, zero, suc, ◌-◌, ◌*◌, ◌≤◌, ◌<◌}
 use Rattle.std.proofs.Math.ListN.{length}
 use Rattle.refusal.specs.declared.Refusal.TheVariants.{Dimension, Bits}
-use Rattle.refusal.specs.declared.Verdict.TheVariants.{Accepted}
 use Rattle.refusal.specs.First.{first, any, passed, accepted_if_none}
 use Rattle.limits.specs.Limits.{max_vectors, is_dimension_count, is_bits}
 use Rattle.limits.specs.Tests.{between, All, all_each}
@@ -31,7 +30,7 @@ use Rattle.updated.specs.Fresh.{components_rowwise, inside_rowwise, fresh_bits}
 
 -- its vectors are packed afresh
 pub packs : (l : CodedLibrary) → Measured l → Sound l []
-    → first (pack_vectors_causes l.d l.b l.n l.vectors l.marks (length l.codes)) ≡ Accepted
+    → first (pack_vectors_causes l.d l.b l.n l.vectors l.marks (length l.codes)) ≡ Ok tt
 unfolding any
 packs l library contents =
     let dimensions = passed (not (is_dimension_count l.d)) Dimension _ library.shaped in
@@ -54,7 +53,7 @@ pub removes : (l : CodedLibrary) (i : ℕ) (room : Lengths) → Measured l → S
     → Exact l.d l.b (l.n - 1) room
     → i < l.n
     → 1 < l.n
-    → first (remove_causes l i room) ≡ Accepted
+    → first (remove_causes l i room) ≡ Ok tt
 unfolding any
 removes l i room library contents exact stored others =
     let d = l.d in
@@ -155,7 +154,7 @@ module _ (d b n : ℕ) (some : 0 < d) (marks : List ℤ) (codes : List ℕ) (ful
 
 -- ---- the library after an addition
 
-module _ (l : CodedLibrary) (vector : List ℤ) (room : Lengths) (accepted : first (add_causes l vector room) ≡ Accepted) (setting : ℕ) where
+module _ (l : CodedLibrary) (vector : List ℤ) (room : Lengths) (accepted : first (add_causes l vector room) ≡ Ok tt) (setting : ℕ) where
   facts : Addable l vector room
   facts = addable l vector room accepted
 
@@ -198,7 +197,7 @@ module _ (l : CodedLibrary) (vector : List ℤ) (room : Lengths) (accepted : fir
 
 -- ---- the library after a removal
 
-module _ (l : CodedLibrary) (i : ℕ) (room : Lengths) (accepted : first (remove_causes l i room) ≡ Accepted) where
+module _ (l : CodedLibrary) (i : ℕ) (room : Lengths) (accepted : first (remove_causes l i room) ≡ Ok tt) where
   known : Removable l i room
   known = removable l i room accepted
 

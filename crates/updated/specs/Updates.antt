@@ -1,12 +1,11 @@
 -- What adding and removing promise (document 02, Slip 3); what follows from it for the vectors' own codes, for the search and for outer
 -- marks is in proofs/Follows.antt. The statements can be read without the proofs; the laws behind them are in the other files of this
 -- folder. Assumes nothing.
-use Rattle.std.specs.Prelude.{◌≡◌, refl, Bool, true, false, cond, List, [], ◌∷◌, ℕ, suc, ◌-◌, ◌*◌, ◌≤◌, ◌<◌, ltb, ℤ, length, get_or, take}
+use Rattle.std.specs.Prelude.{◌≡◌, refl, Bool, true, false, cond, List, [], ◌∷◌, ℕ, suc, ◌-◌, ◌*◌, ◌≤◌, ◌<◌, ltb, ℤ, length, get_or, take, Ok}
 use Rattle.std.proofs.Common.{sym, ap, ◌∙◌, mul-one, mul-le-mul_right, arith, ltb-true, ltb-false, take_all, drop_at}
 use Rattle.std.proofs.Math.Bool.{and-eq-true_iff}
 use Rattle.std.proofs.Math.ListN.{get_or-append}
 use Rattle.std.proofs.lemmas.List.{get_or_at}
-use Rattle.refusal.specs.declared.Verdict.TheVariants.{Accepted}
 use Rattle.refusal.specs.First.{Row, first}
 use Rattle.limits.specs.Limits.{max_vectors}
 use Rattle.limits.specs.Tests.{between}
@@ -53,7 +52,7 @@ index_in l = record { d = l.d; b = l.b; n = l.n; marks = l.marks; codes = l.code
 
 -- ---- an addition that is not refused
 
-module _ (l : CodedLibrary) (vector : List ℤ) (room : Lengths) (accepted : first (add_causes l vector room) ≡ Accepted) (setting : ℕ) where
+module _ (l : CodedLibrary) (vector : List ℤ) (room : Lengths) (accepted : first (add_causes l vector room) ≡ Ok tt) (setting : ℕ) where
   facts : Addable l vector room
   facts = addable l vector room accepted
 
@@ -88,7 +87,7 @@ module _ (l : CodedLibrary) (vector : List ℤ) (room : Lengths) (accepted : fir
       (earlier_code l.d l.b l.n some l.marks l.codes vector facts.library.exact.of_codes facts.size i row) t among
 
   -- "where the codes were the patterns' own, the library after it has those that packing afresh would give": packing is not refused, ..
-  pub adding_packs : first (fresh_causes new) ≡ Accepted
+  pub adding_packs : first (fresh_causes new) ≡ Ok tt
   adding_packs = packs new (added_measured l vector room accepted setting) (added_sound l vector room accepted setting)
 
   -- .. gives the codes after the addition, ..
@@ -120,7 +119,7 @@ module _ (l : CodedLibrary) (vector : List ℤ) (room : Lengths) (accepted : fir
       }
 
   -- .. and this removal is not refused.
-  pub added_removable : first (remove_causes new l.n (lengths_of l)) ≡ Accepted
+  pub added_removable : first (remove_causes new l.n (lengths_of l)) ≡ Ok tt
   added_removable =
       let one : suc l.n - 1 ≡ l.n = omega arith in
       let counted = between 1 l.n max_vectors facts.library.counted in
@@ -137,7 +136,7 @@ module _ (l : CodedLibrary) (vector : List ℤ) (room : Lengths) (accepted : fir
 
 -- ---- a removal that is not refused
 
-module _ (l : CodedLibrary) (i : ℕ) (room : Lengths) (accepted : first (remove_causes l i room) ≡ Accepted) where
+module _ (l : CodedLibrary) (i : ℕ) (room : Lengths) (accepted : first (remove_causes l i room) ≡ Ok tt) where
   known : Removable l i room
   known = removable l i room accepted
 
@@ -190,7 +189,7 @@ module _ (l : CodedLibrary) (i : ℕ) (room : Lengths) (accepted : first (remove
       region_same l.d l.b positive left.codes l.codes j (suc j) (removing_moves_bits j later row) t among
 
   -- "where the codes were the patterns' own, the library after it has those that packing afresh would give": packing is not refused, ..
-  pub removing_packs : first (fresh_causes left) ≡ Accepted
+  pub removing_packs : first (fresh_causes left) ≡ Ok tt
   removing_packs = packs left (removed_measured l i room accepted) (removed_sound l i room accepted)
 
   -- .. gives the codes after the removal, ..

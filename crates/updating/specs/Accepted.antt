@@ -1,10 +1,9 @@
 -- What holds where an addition or a removal is not refused. Assumes nothing.
-use Rattle.std.specs.Prelude.{◌≡◌, true, not, ◌&&◌, List, [], ℕ, suc, ◌-◌, ◌*◌, ◌≤◌, ◌<◌, ltb, eqb, ℤ, length}
+use Rattle.std.specs.Prelude.{◌≡◌, true, not, ◌&&◌, List, [], ℕ, suc, ◌-◌, ◌*◌, ◌≤◌, ◌<◌, ltb, eqb, ℤ, length, Ok}
 use Rattle.std.proofs.Math.Bool.{and-eq-true_iff}
 use Rattle.std.proofs.Common.{arith, eqb-true, ltb-true}
 use Rattle.std.proofs.lemmas.Bool.{not-false, eqb-false}
 use Rattle.refusal.specs.declared.Refusal.TheVariants.{Count, Length, Component, Mark, Outside, Code, Full, NotRemovable}
-use Rattle.refusal.specs.declared.Verdict.TheVariants.{Accepted}
 use Rattle.refusal.specs.First.{first, passed, accepted_front, accepted_behind}
 use Rattle.limits.specs.Limits.{max_vectors, is_vector_count}
 use Rattle.limits.specs.Tests.{between}
@@ -37,12 +36,12 @@ exact_told d b n lengths holds =
 
 -- the numbers of a library, and the lengths of its buffers
 pub record Measured (l : CodedLibrary) : Type 0 where
-  pub shaped : first (shape_causes l.d l.b) ≡ Accepted
+  pub shaped : first (shape_causes l.d l.b) ≡ Ok tt
   pub counted : is_vector_count l.n ≡ true
   pub of_marks : length l.marks ≡ first_marks l.d l.b l.d
   pub exact : Exact l.d l.b l.n (lengths_of l)
 
-pub measured : (l : CodedLibrary) → first (sizes_of l) ≡ Accepted → Measured l
+pub measured : (l : CodedLibrary) → first (sizes_of l) ≡ Ok tt → Measured l
 measured l accepted =
     let shapes = shape_causes l.d l.b in
     let marks = eqb (length l.marks) (first_marks l.d l.b l.d) in
@@ -66,7 +65,7 @@ pub record Sound (l : CodedLibrary) (more : List ℤ) : Type 0 where
   pub more_inside : vectors_inside l.d l.b l.marks more ≡ true
   pub named : good_codes l.d l.b l.n l.marks l.codes ≡ true
 
-pub sound : (l : CodedLibrary) (more : List ℤ) → first (contents_of l more) ≡ Accepted → Sound l more
+pub sound : (l : CodedLibrary) (more : List ℤ) → first (contents_of l more) ≡ Ok tt → Sound l more
 sound l more accepted =
     let range = are_components l.vectors in
     let more-range = are_components more in
@@ -98,7 +97,7 @@ pub record Addable (l : CodedLibrary) (vector : List ℤ) (room : Lengths) : Typ
   pub not_full : suc l.n ≤ max_vectors
   pub contents : Sound l vector
 
-pub addable : (l : CodedLibrary) (vector : List ℤ) (room : Lengths) → first (add_causes l vector room) ≡ Accepted → Addable l vector room
+pub addable : (l : CodedLibrary) (vector : List ℤ) (room : Lengths) → first (add_causes l vector room) ≡ Ok tt → Addable l vector room
 addable l vector room accepted =
     let d = l.d in
     let n = l.n in
@@ -125,7 +124,7 @@ pub record Removable (l : CodedLibrary) (i : ℕ) (room : Lengths) : Type 0 wher
   pub others : 1 < l.n
   pub contents : Sound l []
 
-pub removable : (l : CodedLibrary) (i : ℕ) (room : Lengths) → first (remove_causes l i room) ≡ Accepted → Removable l i room
+pub removable : (l : CodedLibrary) (i : ℕ) (room : Lengths) → first (remove_causes l i room) ≡ Ok tt → Removable l i room
 removable l i room accepted =
     let d = l.d in
     let n = l.n in

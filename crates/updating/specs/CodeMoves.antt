@@ -1,12 +1,11 @@
 -- What the functions that move codes are given, and what they make of spliced bits. Assumes nothing.
-use Rattle.std.specs.Prelude.{◌≡◌, true, List, ◌++◌, ℕ, suc, ◌-◌, ◌*◌, ◌≤◌, ◌<◌, ℤ}
+use Rattle.std.specs.Prelude.{◌≡◌, true, List, ◌++◌, ℕ, suc, ◌-◌, ◌*◌, ◌≤◌, ◌<◌, ℤ, Ok}
 use Rattle.std.proofs.Math.Path.{sym}
 use Rattle.std.proofs.Common.{◌∙◌, one-mul, le_of_lt}
 use Rattle.std.proofs.Math.Nat.{mul-le-mul_right}
 use borrow.Author.Tests.{eq-eqb}
 use Rattle.std.proofs.Math.ListN.{length, take, drop}
 use Rattle.std.proofs.Math.Seq.{take-take}
-use Rattle.refusal.specs.declared.Verdict.TheVariants.{Accepted}
 use Rattle.refusal.specs.First.{first, first_append, outcome_accepted}
 use Rattle.limits.specs.Limits.{max_vectors}
 use Rattle.signed.specs.Components.{are_components}
@@ -26,7 +25,7 @@ use Rattle.updating.specs.Updated.{code_bits, added_codes, removed_codes}
 
 -- A vector's code can be put behind those of n, into so many bytes.
 pub record Appends (d b n : ℕ) (marks vector : List ℤ) (room : ℕ) : Type 0 where
-  pub shaped : first (shape_causes d b) ≡ Accepted
+  pub shaped : first (shape_causes d b) ≡ Ok tt
   pub few : n ≤ max_vectors
   pub exact : length marks ≡ first_marks d b d
   pub size : length vector ≡ d
@@ -37,7 +36,7 @@ pub record Appends (d b n : ℕ) (marks vector : List ℤ) (room : ℕ) : Type 0
 
 -- The code of number i can be taken out of n, into so many bytes.
 pub record Cuts (d b n : ℕ) (codes : List ℕ) (i room : ℕ) : Type 0 where
-  pub shaped : first (shape_causes d b) ≡ Accepted
+  pub shaped : first (shape_causes d b) ≡ Ok tt
   pub few : n ≤ max_vectors
   pub stored : i < n
   pub bytes : room ≡ code_length b (n - 1)
@@ -50,11 +49,11 @@ module _ {d b n : ℕ} {marks vector : List ℤ} {room : ℕ} (at : Appends d b 
   some = (shape d b at.shaped).some
 
   -- The vector's code fits one code's bytes, and packing it by itself is not refused.
-  pub packs_one : (size : ℕ) → size ≡ code_length b 1 → first (pack_vectors_causes d b 1 vector marks size) ≡ Accepted
+  pub packs_one : (size : ℕ) → size ≡ code_length b 1 → first (pack_vectors_causes d b 1 vector marks size) ≡ Ok tt
   unfolding first
   packs_one size is =
       let rows : length vector ≡ 1 * d = at.size ∙ sym (one-mul d) in
-      let sized : first (size_causes d b 1 (length vector) size) ≡ Accepted =
+      let sized : first (size_causes d b 1 (length vector) size) ≡ Ok tt =
       first_append (shape_causes d b) (length_causes d b 1 (length vector) size)
       ∙ outcome_accepted _ _ at.shaped
       ∙ rw (eq-eqb (length vector) (1 * d) rows, eq-eqb size (code_length b 1) is) in

@@ -1,9 +1,8 @@
 -- The contents of a library are tested by the tests of its vectors, of more components and of its codes, one behind the other. Assumes
 -- nothing.
-use Rattle.std.specs.Prelude.{◌≡◌, refl, Bool, true, false, not, ◌&&◌, List, [], ◌∷◌, ℕ, eqb, ℤ, length}
+use Rattle.std.specs.Prelude.{◌≡◌, refl, Bool, true, false, not, ◌&&◌, List, [], ◌∷◌, ℕ, eqb, ℤ, length, Ok, Err}
 use Rattle.std.proofs.Common.{ap, ◌∙◌, eq-eqb}
 use Rattle.refusal.specs.declared.Refusal.TheVariants.{Count, Length, Component, Mark, Outside, Code}
-use Rattle.refusal.specs.declared.Verdict.TheVariants.{Accepted, Refused}
 use Rattle.refusal.specs.First.{Row, ◌⇒◌, first, outcome, outcome_accepted, first_here, first_next, first_append}
 use Rattle.limits.specs.Limits.{is_vector_count}
 use Rattle.signed.specs.Components.{are_components}
@@ -29,7 +28,7 @@ content_rows range range' marked inside inside' named =
 
 in_turn : (range marked inside inside' named : Bool) → first (content_rows range true marked inside inside' named)
     ≡ outcome (first (inside_rows range marked inside))
-    (outcome (first (inside_rows true marked inside')) (first (code_rows marked named)) Refused) Refused
+    (outcome (first (inside_rows true marked inside')) (first (code_rows marked named)) Err) Err
 unfolding first
 in_turn false marked inside inside' named = refl
 in_turn true false inside inside' named = refl
@@ -43,10 +42,10 @@ and_no false = refl
 
 module _ (d b n : ℕ) (marks : List ℤ) (codes : List ℕ) (vectors more : List ℤ) where
   -- more components that are out of range
-  pub more_out : are_components more ≡ false → first (content_causes d b n marks codes vectors more) ≡ Refused Component
+  pub more_out : are_components more ≡ false → first (content_causes d b n marks codes vectors more) ≡ Err Component
   more_out out = first_here Component _ (rw (out, and_no (are_components vectors)))
 
-  module _ (shaped : first (shape_causes d b) ≡ Accepted) (exact : length marks ≡ first_marks d b d) where
+  module _ (shaped : first (shape_causes d b) ≡ Ok tt) (exact : length marks ≡ first_marks d b d) where
     inside_rows_lem : (some : List ℤ)
         → first (inside_causes d b some marks) ≡ first (inside_rows (are_components some) (good_marks d b marks) (vectors_inside d b marks some))
     inside_rows_lem some =
@@ -68,7 +67,7 @@ module _ (d b n : ℕ) (marks : List ℤ) (codes : List ℕ) (vectors more : Lis
     pub contents_in_turn : is_vector_count n ≡ true → length codes ≡ code_length b n → are_components more ≡ true
         → first (content_causes d b n marks codes vectors more)
         ≡ outcome (first (inside_causes d b vectors marks))
-        (outcome (first (inside_causes d b more marks)) (first (code_causes d b n marks codes)) Refused) Refused
+        (outcome (first (inside_causes d b more marks)) (first (code_causes d b n marks codes)) Err) Err
     contents_in_turn counted bytes range =
         rw (inside_rows_lem vectors, inside_rows_lem more, code_rows_lem counted bytes, range)
         (in_turn (are_components vectors) (good_marks d b marks) (vectors_inside d b marks vectors) (vectors_inside d b marks more)

@@ -6,11 +6,9 @@ mod copying;
 mod place;
 
 ghost use Rattle.std.specs.Prelude.{◌≡◌, true, ◌&&◌, suc, ◌≤◌, ◌<◌, ltb, length};
-ghost use Rattle.refusal.specs.declared.Verdict.TheVariants.{Accepted};
 ghost use Rattle.refusal.specs.First.{first, outcome};
 ghost use Rattle.limits.specs.Limits.{max_vectors, is_vector_count};
 ghost use Rattle.layout.specs.Layout.{first_marks, code_length};
-ghost use Rattle.layout.specs.Stretch.{shape_causes, Shape};
 ghost use Rattle.updating.specs.Updated.{coded_library, added, removed, added_codes, removed_codes};
 ghost use Rattle.updating.specs.UpdateCauses.{exact_for, lengths_with, library_causes, content_causes, add_causes, remove_causes};
 ghost use Rattle.updating.specs.CodeMoves.{Appends, Cuts};
@@ -18,8 +16,9 @@ ghost use Rattle.updating.specs.CodeMoves.{Appends, Cuts};
 use crate::copying::{append_components, append_setting, cut_components, cut_settings};
 use crate::place::check_place;
 use approximation::pack_vectors;
+use layout::Layout;
 use limits::{MAX_DIMENSION_BITS, MAX_DIMENSIONS};
-use refusal::{Refusal, Verdict};
+use refusal::Refusal;
 use signed::components::are_components;
 use splicing::splice;
 
@@ -52,6 +51,19 @@ pub struct Lengths {
     pub codes: usize,
 }
 
+impl Lengths {
+    // Those of these buffers.
+    fn of(vectors: &[i32], settings: &[u32], codes: &[u8]) -> Lengths
+        ensures { result ≡ lengths_with (length vectors.now) (length settings.now) (length codes.now) }
+    {
+        Lengths {
+            vectors: vectors.len(),
+            settings: settings.len(),
+            codes: codes.len(),
+        }
+    }
+}
+
 // The library with a vector added, behind the others. Refused are numbers of dimensions, bits or vectors out of their limits, buffers of
 // other lengths than those of n and of n + 1 vectors, a library that is full, components or marks out of range, marks that fall, a vector
 // outside the marks, codes that name an empty region, and a spare bit that is set.
@@ -65,7 +77,7 @@ pub fn add(
     newvectors: &mut [i32],
     newsettings: &mut [u32],
     newcodes: &mut [u8],
-) -> Verdict
+) -> Result<(), Refusal>
     ensures { let l = coded_library terms.d terms.b terms.n marks.now codes.now
         settings.now vectors.now in
         let v = first (add_causes l vector.now (lengths_with (length newvectors.old)
@@ -76,20 +88,15 @@ pub fn add(
         × (newsettings.new ≡ outcome v after.settings (λ _. newsettings.old))
         × (newcodes.new ≡ outcome v after.codes (λ _. newcodes.old)) }
 {
-    let room = Lengths {
-        vectors: newvectors.len(),
-        settings: newsettings.len(),
-        codes: newcodes.len(),
-    };
-    match check_add(terms, marks, codes, settings, vectors, vector, room) {
-        Verdict::Accepted => {
-            append_components(vectors, vector, newvectors);
-            append_setting(settings, terms.setting, newsettings);
-            append_code(terms, marks, codes, vector, newcodes);
-            Verdict::Accepted
-        }
-        Verdict::Refused(cause) => Verdict::Refused(cause),
-    }
+    let layout = Layout::new(terms.d, terms.b)?;
+    let room = Lengths::of(newvectors, newsettings, newcodes);
+    check_add(
+        layout, terms.n, marks, codes, settings, vectors, vector, room,
+    )?;
+    append_components(vectors, vector, newvectors);
+    append_setting(settings, terms.setting, newsettings);
+    append_code(layout, terms.n, marks, codes, vector, newcodes);
+    Ok(())
 }
 
 // The library with a vector removed; those behind it move down by one. Refused is what `add` refuses, with the lengths of n - 1 vectors,
@@ -103,7 +110,7 @@ pub fn remove(
     newvectors: &mut [i32],
     newsettings: &mut [u32],
     newcodes: &mut [u8],
-) -> Verdict
+) -> Result<(), Refusal>
     ensures { let l = coded_library terms.d terms.b terms.n marks.now codes.now
         settings.now vectors.now in
         let v = first (remove_causes l terms.number (lengths_with (length newvectors.old)
@@ -114,125 +121,94 @@ pub fn remove(
         × (newsettings.new ≡ outcome v after.settings (λ _. newsettings.old))
         × (newcodes.new ≡ outcome v after.codes (λ _. newcodes.old)) }
 {
-    let room = Lengths {
-        vectors: newvectors.len(),
-        settings: newsettings.len(),
-        codes: newcodes.len(),
-    };
-    match check_remove(terms, marks, codes, settings, vectors, room) {
-        Verdict::Accepted => {
-            cut_components(vectors, terms.d, terms.number, newvectors);
-            cut_settings(settings, terms.number, newsettings);
-            cut_code(terms, codes, newcodes);
-            Verdict::Accepted
-        }
-        Verdict::Refused(cause) => Verdict::Refused(cause),
-    }
+    let layout = Layout::new(terms.d, terms.b)?;
+    let room = Lengths::of(newvectors, newsettings, newcodes);
+    check_remove(
+        layout,
+        terms.n,
+        terms.number,
+        marks,
+        codes,
+        settings,
+        vectors,
+        room,
+    )?;
+    cut_components(vectors, terms.d, terms.number, newvectors);
+    cut_settings(settings, terms.number, newsettings);
+    cut_code(terms, codes, newcodes);
+    Ok(())
 }
 
 // The tests of an addition.
+#[tactic(auto, using(refusal::specs::First::handed_on), unfolding(refusal::specs::First::first))]
 fn check_add(
-    terms: Addition,
+    layout: Layout,
+    n: usize,
     marks: &[i32],
     codes: &[u8],
     settings: &[u32],
     vectors: &[i32],
     vector: &[i32],
     room: Lengths,
-) -> Verdict
-    ensures { result ≡ first (add_causes (coded_library terms.d terms.b terms.n marks.now codes.now
+) -> Result<(), Refusal>
+    ensures { result ≡ first (add_causes (coded_library layout.d layout.b n marks.now codes.now
         settings.now vectors.now) vector.now room) }
 {
-    let d = terms.d;
-    let b = terms.b;
-    let n = terms.n;
-    let own = Lengths {
-        vectors: vectors.len(),
-        settings: settings.len(),
-        codes: codes.len(),
-    };
-    match check_library(d, b, n, marks.len(), own) {
-        Verdict::Accepted => {
-            if vector.len() != d {
-                return Verdict::Refused(Refusal::Length);
-            }
-            let exact = are_exact(d, b, n + 1, room);
-            match check_place(exact, n) {
-                Verdict::Accepted => check_contents(d, b, n, marks, codes, vectors, vector),
-                Verdict::Refused(cause) => Verdict::Refused(cause),
-            }
-        }
-        Verdict::Refused(cause) => Verdict::Refused(cause),
-    }
+    let own = Lengths::of(vectors, settings, codes);
+    check_library(layout, n, marks.len(), own)?;
+    let exact = vector.len() == layout.d && are_exact(layout, n + 1, room);
+    check_place(exact, n)?;
+    check_contents(layout, n, marks, codes, vectors, vector)
 }
 
 // The tests of a removal.
+#[tactic(auto, using(refusal::specs::First::handed_on), unfolding(refusal::specs::First::first))]
 fn check_remove(
-    terms: Removal,
+    layout: Layout,
+    n: usize,
+    number: usize,
     marks: &[i32],
     codes: &[u8],
     settings: &[u32],
     vectors: &[i32],
     room: Lengths,
-) -> Verdict
-    ensures { result ≡ first (remove_causes (coded_library terms.d terms.b terms.n marks.now codes.now
-        settings.now vectors.now) terms.number room) }
+) -> Result<(), Refusal>
+    ensures { result ≡ first (remove_causes (coded_library layout.d layout.b n marks.now codes.now
+        settings.now vectors.now) number room) }
 {
-    let d = terms.d;
-    let b = terms.b;
-    let n = terms.n;
-    let own = Lengths {
-        vectors: vectors.len(),
-        settings: settings.len(),
-        codes: codes.len(),
-    };
-    match check_library(d, b, n, marks.len(), own) {
-        Verdict::Accepted => {
-            if !are_exact(d, b, n - 1, room) {
-                return Verdict::Refused(Refusal::Length);
-            }
-            if !is_removable(n, terms.number) {
-                return Verdict::Refused(Refusal::NotRemovable);
-            }
-            check_contents(d, b, n, marks, codes, vectors, &vectors[..0])
-        }
-        Verdict::Refused(cause) => Verdict::Refused(cause),
+    let own = Lengths::of(vectors, settings, codes);
+    check_library(layout, n, marks.len(), own)?;
+    if !are_exact(layout, n - 1, room) {
+        return Err(Refusal::Length);
     }
+    if !is_removable(n, number) {
+        return Err(Refusal::NotRemovable);
+    }
+    check_contents(layout, n, marks, codes, vectors, &vectors[..0])
 }
 
-// Whether the numbers of dimensions, bits and vectors are within their limits, and the library's buffers of the right lengths.
-fn check_library(d: usize, b: usize, n: usize, marks: usize, own: Lengths) -> Verdict
-    ensures { result ≡ first (library_causes d b n marks own) }
+// Whether the number of vectors is within its limits, and the library's buffers of the right lengths.
+#[tactic(auto, unfolding(refusal::specs::First::first))]
+fn check_library(layout: Layout, n: usize, marks: usize, own: Lengths) -> Result<(), Refusal>
+    ensures { result ≡ first (library_causes layout.d layout.b n marks own) }
 {
-    match layout::check_shape(d, b) {
-        Verdict::Accepted => {
-            if !limits::is_vector_count(n) {
-                return Verdict::Refused(Refusal::Count);
-            }
-            if marks != layout::marks_length(d, b) {
-                return Verdict::Refused(Refusal::Length);
-            }
-            if !are_exact(d, b, n, own) {
-                return Verdict::Refused(Refusal::Length);
-            }
-            Verdict::Accepted
-        }
-        Verdict::Refused(cause) => Verdict::Refused(cause),
+    if !limits::is_vector_count(n) {
+        return Err(Refusal::Count);
     }
+    if marks != layout.marks_length() || !are_exact(layout, n, own) {
+        return Err(Refusal::Length);
+    }
+    Ok(())
 }
 
 // Whether buffers for vectors, settings and codes have the lengths of n vectors.
-fn are_exact(d: usize, b: usize, n: usize, lengths: Lengths) -> bool
-    requires { (Shape d b) × (n ≤ suc max_vectors) }
-    ensures { result ≡ exact_for d b n lengths }
+fn are_exact(layout: Layout, n: usize, lengths: Lengths) -> bool
+    requires { n ≤ suc max_vectors }
+    ensures { result ≡ exact_for layout.d layout.b n lengths }
 {
-    if lengths.vectors != n * d {
-        return false;
-    }
-    if lengths.settings != n {
-        return false;
-    }
-    lengths.codes == (n * b + 7) / 8
+    lengths.vectors == n * layout.d
+        && lengths.settings == n
+        && lengths.codes == layout.codes_length(n)
 }
 
 // Whether a number is that of one of n vectors, and not of the only one.
@@ -243,45 +219,45 @@ fn is_removable(n: usize, number: usize) -> bool
 }
 
 // Whether the library's components, and some more, are in range, its marks good, all components inside the marks, and its codes good.
+#[tactic(auto, using(refusal::specs::First::handed_on), unfolding(refusal::specs::First::first))]
 fn check_contents(
-    d: usize,
-    b: usize,
+    layout: Layout,
     n: usize,
     marks: &[i32],
     codes: &[u8],
     vectors: &[i32],
     more: &[i32],
-) -> Verdict
-    requires { (first (shape_causes d b) ≡ Accepted) × (is_vector_count n ≡ true) × (length marks.now ≡ first_marks d b d)
-        × (length codes.now ≡ code_length b n) }
-    ensures { result ≡ first (content_causes d b n marks.now codes.now vectors.now
+) -> Result<(), Refusal>
+    requires { (is_vector_count n ≡ true) × (length marks.now ≡ first_marks layout.d layout.b layout.d)
+        × (length codes.now ≡ code_length layout.b n) }
+    ensures { result ≡ first (content_causes layout.d layout.b n marks.now codes.now vectors.now
         more.now) }
 {
     if !are_components(more) {
-        return Verdict::Refused(Refusal::Component);
+        return Err(Refusal::Component);
     }
-    match approximation::check_vectors(d, b, vectors, marks) {
-        Verdict::Accepted => match approximation::check_vectors(d, b, more, marks) {
-            Verdict::Accepted => cells::check_codes(d, b, n, marks, codes),
-            Verdict::Refused(cause) => Verdict::Refused(cause),
-        },
-        Verdict::Refused(cause) => Verdict::Refused(cause),
-    }
+    approximation::check_vectors(layout.d, layout.b, vectors, marks)?;
+    approximation::check_vectors(layout.d, layout.b, more, marks)?;
+    cells::check_codes(layout.d, layout.b, n, marks, codes)
 }
 
 // The codes with that of a vector behind them: its code is made by itself, and its bits are put behind the others'.
-fn append_code(terms: Addition, marks: &[i32], codes: &[u8], vector: &[i32], newcodes: &mut [u8])
-    requires { Appends terms.d terms.b terms.n marks.now vector.now (length newcodes.old) }
+fn append_code(
+    layout: Layout,
+    n: usize,
+    marks: &[i32],
+    codes: &[u8],
+    vector: &[i32],
+    newcodes: &mut [u8],
+)
+    requires { Appends layout.d layout.b n marks.now vector.now (length newcodes.old) }
     ensures { newcodes.new
-        ≡ added_codes terms.d terms.b terms.n marks.now codes.now vector.now }
+        ≡ added_codes layout.d layout.b n marks.now codes.now vector.now }
 {
-    let d = terms.d;
-    let b = terms.b;
-    let n = terms.n;
     let mut code = [0u8; MAX_CODE];
-    let size = layout::codes_length(d, b, 1);
-    pack_vectors(d, b, 1, vector, marks, &mut code[..size]);
-    splice(codes, n * b, &code[..size], 0, newcodes);
+    let size = layout.codes_length(1);
+    pack_vectors(layout.d, layout.b, 1, vector, marks, &mut code[..size]).unwrap();
+    splice(codes, n * layout.b, &code[..size], 0, newcodes);
 }
 
 // The codes without that of a vector: its bits are taken out.

@@ -1,11 +1,10 @@
 -- One dimension's marks as they are looked at, with their number of regions as one thing (document 01, "Marks, regions, codes"). Assumes
 -- nothing.
-use Rattle.std.specs.Prelude.{◌≡◌, refl, true, not, List, [], ◌∷◌, ◌++◌, ℕ, ◌+◌, ◌-◌, ◌≤◌, ℤ, length, drop}
+use Rattle.std.specs.Prelude.{◌≡◌, refl, true, not, List, [], ◌∷◌, ◌++◌, ℕ, ◌+◌, ◌-◌, ◌≤◌, ℤ, length, drop, Ok, Err}
 use Rattle.std.proofs.Common.{arith, length-drop, length-take-le}
 use Rattle.std.proofs.lemmas.Bool.{not-false}
 use Rattle.refusal.specs.declared.Refusal.TheVariants.{Outside}
-use Rattle.refusal.specs.declared.Verdict.{Verdict}
-use Rattle.refusal.specs.declared.Verdict.TheVariants.{Accepted, Refused}
+use Rattle.refusal.specs.Refusal.{Verdict}
 use Rattle.refusal.specs.First.{Row, ◌⇒◌, first, outcome, passed, accepted_behind}
 use Rattle.limits.specs.Limits.{max_dimension_bits}
 use Rattle.layout.specs.Layout.{bits_of, region_count, first_marks}
@@ -33,7 +32,7 @@ pub record Part (d b : ℕ) (marks : List ℤ) (j : ℕ) : Type 0 where
   pub exact : length (dimension_marks d b marks j) ≡ region_count d b j + 1
   pub good : good_dimension (dimension_marks d b marks j) ≡ true
 
-good_part : (d b : ℕ) (marks : List ℤ) (j : ℕ) → first (part_causes d b marks j) ≡ Accepted
+good_part : (d b : ℕ) (marks : List ℤ) (j : ℕ) → first (part_causes d b marks j) ≡ Ok tt
     → good_dimension (dimension_marks d b marks j) ≡ true
 good_part d b marks j accepted =
     let number = numbered d b j (part_accepted d b j marks accepted).0 in
@@ -41,7 +40,7 @@ good_part d b marks j accepted =
     let good = not-false (good_marks d b marks) (passed _ _ _ size.rest).fails in
     rw number.is (good_marks_each d b marks number.before number.within good)
 
-pub part_is : (d b : ℕ) (marks : List ℤ) (j : ℕ) → first (part_causes d b marks j) ≡ Accepted → Part d b marks j
+pub part_is : (d b : ℕ) (marks : List ℤ) (j : ℕ) → first (part_causes d b marks j) ≡ Ok tt → Part d b marks j
 unfolding dimension_marks
 part_is d b marks j accepted =
     let told = part_accepted d b j marks accepted in
@@ -61,5 +60,5 @@ pub regions_between : (d b : ℕ) (marks : List ℤ) (j : ℕ) → length (seen_
 regions_between d b marks j = go (first (part_causes d b marks j)) refl
   where
     go : (verdict : Verdict) → first (part_causes d b marks j) ≡ verdict → length (seen_marks d b marks j) - 1 ≡ seen_regions d b marks j
-    go Accepted e = rw e (omega (arith, (part_is d b marks j e).exact))
-    go (Refused cause) e = rw e
+    go (Ok _) e = rw e (omega (arith, (part_is d b marks j e).exact))
+    go (Err cause) e = rw e

@@ -11,8 +11,7 @@ ghost use Rattle.partition.specs.Parts.{seen_marks};
 ghost use Rattle.view.specs.View.{seen_regions, value_causes};
 
 use partition::{check_part, checked_part, regions_between};
-use refusal::{Refusal, Verdict};
-use region::Lookup;
+use refusal::Refusal;
 
 // One dimension's marks, and how many regions they bound.
 #[derive(Drop)]
@@ -33,7 +32,7 @@ pub fn view_of<'a>(d: usize, b: usize, marks: &'a [i32], j: usize) -> View<'a>
 }
 
 // The region of a value in a view's marks.
-pub fn region_in<'a>(view: View<'a>, v: i32) -> Lookup
+pub fn region_in<'a>(view: View<'a>, v: i32) -> Result<usize, Refusal>
     ensures { result ≡ looked_up view.entry.marks.now view.entry.regions v }
 {
     region::region(view.marks, view.regions, v)
@@ -54,21 +53,21 @@ pub fn dimension_marks<'a>(d: usize, b: usize, marks: &'a [i32], j: usize) -> &'
 }
 
 // The region of a value in dimension j's marks. Where the view refuses, a second call gives the cause.
-pub fn region_of(d: usize, b: usize, marks: &[i32], j: usize, v: i32) -> Lookup
+pub fn region_of(d: usize, b: usize, marks: &[i32], j: usize, v: i32) -> Result<usize, Refusal>
     ensures { result ≡ outcome (first (value_causes d b marks.now j v))
-        (Lookup.Region (region_of (dimension_marks d b marks.now j) v)) Lookup.Refused }
+        (Ok (region_of (dimension_marks d b marks.now j) v)) Err }
 {
     match look_up(d, b, marks, j, v) {
-        Lookup::Region(number) => Lookup::Region(number),
-        Lookup::Refused(_) => match check_part(d, b, marks, j) {
-            Verdict::Accepted => Lookup::Refused(Refusal::Outside),
-            Verdict::Refused(cause) => Lookup::Refused(cause),
-        },
+        Ok(number) => Ok(number),
+        Err(_) => {
+            check_part(d, b, marks, j)?;
+            Err(Refusal::Outside)
+        }
     }
 }
 
 // The region of a value in dimension j's view. A view that was refused has no regions, so a lookup in it refuses too.
-fn look_up(d: usize, b: usize, marks: &[i32], j: usize, v: i32) -> Lookup
+fn look_up(d: usize, b: usize, marks: &[i32], j: usize, v: i32) -> Result<usize, Refusal>
     ensures { result ≡ looked_up (seen_marks d b marks.now j) (seen_regions d b marks.now j) v }
 {
     region_in(view_of(d, b, marks, j), v)

@@ -1,6 +1,5 @@
 -- What the parts of writing are given: slices of the right lengths. Assumes nothing.
-use Rattle.std.specs.Prelude.{◌≡◌, true, List, ℕ, ◌+◌, ◌*◌, ◌≤◌, ℤ, length}
-use Rattle.refusal.specs.declared.Verdict.TheVariants.{Accepted}
+use Rattle.std.specs.Prelude.{◌≡◌, true, List, ℕ, ◌+◌, ◌*◌, ◌≤◌, ℤ, length, Ok}
 use Rattle.refusal.specs.First.{first}
 use Rattle.limits.specs.Limits.{max_dimensions, max_vectors}
 use Rattle.signed.specs.Components.{are_components}
@@ -9,7 +8,7 @@ use Rattle.library.specs.Library.{mark_total, vector_place}
 
 -- as many marks as the dimensions have
 pub record Dimensioned (d b : ℕ) (marks : List ℤ) : Type 0 where
-  pub shape_passes : first (shape_causes d b) ≡ Accepted
+  pub shape_passes : first (shape_causes d b) ≡ Ok tt
   pub marks_count : length marks ≡ mark_total d b
 
 pub record Sized (d b n : ℕ) (marks components : List ℤ) : Type 0 where

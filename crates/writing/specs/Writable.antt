@@ -1,11 +1,10 @@
 -- What holds of a library that can be written: where writing accepts it, its values have room in their records. Assumes nothing.
-use Rattle.std.specs.Prelude.{◌≡◌, true, ◌&&◌, ℕ, ◌*◌, ◌≤◌, ◌<◌, eqb, ℤ, pos, negsuc, length}
+use Rattle.std.specs.Prelude.{◌≡◌, true, ◌&&◌, ℕ, ◌*◌, ◌≤◌, ◌<◌, eqb, ℤ, pos, negsuc, length, Ok}
 use Rattle.std.proofs.Math.Bool.{and-eq-true_iff}
 use Rattle.std.proofs.Common.{arith, eqb-true, leb-true, SFits}
 use Rattle.std.proofs.lemmas.Bool.{not-false}
 use Rattle.std.specs.Int.{w16}
 use Rattle.refusal.specs.declared.Refusal.TheVariants.{Count, Length, Component, Mark, Outside}
-use Rattle.refusal.specs.declared.Verdict.TheVariants.{Accepted}
 use Rattle.refusal.specs.First.{first, passed}
 use Rattle.limits.specs.Limits.{max_vectors, is_vector_count, is_component}
 use Rattle.limits.specs.Tests.{between}
@@ -41,7 +40,7 @@ exact l room holds =
     }
 
 pub record Writable (l : Library) (room : ℕ) : Type 0 where
-  pub shape_passes : first (shape_causes l.d l.b) ≡ Accepted
+  pub shape_passes : first (shape_causes l.d l.b) ≡ Ok tt
   pub count_passes : is_vector_count l.n ≡ true
   pub shaped : Shape l.d l.b
   pub some : 1 ≤ l.n
@@ -51,7 +50,7 @@ pub record Writable (l : Library) (room : ℕ) : Type 0 where
   pub marks : good_marks l.d l.b l.marks ≡ true
   pub insides : (i : ℕ) → i < l.n → inside l.d l.b l.marks (component_in l i) ≡ true
 
-pub writable : (l : Library) (room : ℕ) → first (write_causes l room) ≡ Accepted → Writable l room
+pub writable : (l : Library) (room : ℕ) → first (write_causes l room) ≡ Ok tt → Writable l room
 writable l room accepted =
     let parts = both (shape_causes l.d l.b) _ accepted in
     let count = passed _ Count _ parts.back in

@@ -10,30 +10,30 @@ ghost use Rattle.writing.specs.Sized.{Row, Writing};
 ghost use Rattle.writing.specs.SignedBytes.{Bits};
 
 use library::{mark_place, vector_place};
-use records::{HEAD, MARK, VECTOR, VECTOR_FRONT, VECTOR_LENGTH};
+use records::{Kind, VECTOR_FRONT, VECTOR_LENGTH};
 
+#[tactic(auto, using(library::specs::Sizes::mark_place_lem))]
 pub(crate) fn write_head(d: usize, b: usize, n: usize, bytes: &mut [u8])
     requires { mark_place 0 ≤ length bytes.old }
     ensures { take (mark_place 0) bytes.new ≡ head_bytes d b n }
 {
-    put_byte(bytes, 0, HEAD as u64);
+    put_byte(bytes, 0, Kind::Head as u64);
     put_byte(bytes, 1, d as u64);
     put_byte(bytes, 2, b as u64);
     put_pair(bytes, 3, n as u64);
 }
 
+#[tactic(auto, using(library::specs::Sizes::mark_place_lem))]
 pub(crate) fn write_marks(marks: &[i32], bytes: &mut [u8])
     requires { (length marks.now < 2 ^ 32) × (mark_place (length marks.now) ≤ length bytes.old) }
     ensures { take (mark_place (length marks.now)) bytes.new
         ≡ take (mark_place 0) bytes.old
         ++ each (length marks.now) (λ i. mark_bytes (get_or marks.now i (pos 0))) }
 {
-    let mut i = 0;
-    while i < marks.len() {
+    for (i, mark) in marks.iter().enumerate() {
         let at = mark_place(i as u32);
-        put_byte(bytes, at, MARK as u64);
-        put_quad(bytes, at + 1, bits_of(marks[i]));
-        i += 1;
+        put_byte(bytes, at, Kind::Mark as u64);
+        put_quad(bytes, at + 1, bits_of(*mark));
     }
 }
 
@@ -50,17 +50,15 @@ pub(crate) fn write_vectors(
         ≡ take (vector_place m 0) bytes.old
         ++ each n (λ i. vector_bytes d (get_or settings.now i 0) (λ t. get_or components.now (i * d + t) (pos 0))) }
 {
-    let mut i = 0;
-    while i < n {
+    for (i, own_settings) in settings[..n].iter().enumerate() {
         write_vector(
             d,
             vector_place(m as u32, i as u32),
-            settings[i],
+            *own_settings,
             components,
             i * d,
             bytes,
         );
-        i += 1;
     }
 }
 
@@ -77,8 +75,8 @@ fn write_vector(
     ensures { take (at + record_length vector_kind) bytes.new
         ≡ take at bytes.old ++ vector_bytes d settings (λ t. get_or components.now (from + t) (pos 0)) }
 {
-    put_byte(bytes, at, VECTOR as u64);
-    put_quad(bytes, at + 1, settings as u64);
+    put_byte(bytes, at, Kind::Vector as u64);
+    put_quad(bytes, at + 1, u64::from(settings));
     write_stored(d, at + VECTOR_FRONT, components, from, bytes);
     write_zeros(at + VECTOR_FRONT + 2 * d, at + VECTOR_LENGTH, bytes);
 }
@@ -90,10 +88,8 @@ fn write_stored(d: usize, at: usize, components: &[i32], from: usize, bytes: &mu
         ≡ take at bytes.old
         ++ joined (replicate d 2) (tabulate d (λ t. of_z w16 (get_or components.now (from + t) (pos 0)))) }
 {
-    let mut t = 0;
-    while t < d {
-        put_pair(bytes, at + 2 * t, bits_of(components[from + t]));
-        t += 1;
+    for (t, z) in components[from..from + d].iter().enumerate() {
+        put_pair(bytes, at + 2 * t, bits_of(*z));
     }
 }
 
@@ -102,11 +98,7 @@ fn write_zeros(from: usize, to: usize, bytes: &mut [u8])
     requires { (from ≤ to) × (to ≤ length bytes.old) }
     ensures { take to bytes.new ≡ take from bytes.old ++ replicate (to - from) 0 }
 {
-    let mut i = from;
-    while i < to {
-        bytes[i] = 0;
-        i += 1;
-    }
+    bytes[from..to].fill(0);
 }
 
 // A number whose low bytes are those of a signed one, in two's complement.

@@ -3,6 +3,7 @@ use Rattle.std.proofs.Common.{◌≡◌, refl, sym, ap, ◌∙◌, List, ◌++�
 use Rattle.std.proofs.Math.Path.{ap₂}
 use Rattle.std.proofs.Math.Seq.{length-take-le, take_all, take_at, take-append-add, take-append-le}
 use borrow.Rule.Slice.PartMut.{mid_of, post_of, put_mid, same_len_mid}
+use Rattle.refusal.specs.First.{outcome_accepted}
 use Rattle.layout.specs.declared.Stretch.{Stretch}
 use Rattle.layout.specs.Layout.{bits_of, first_marks}
 use Rattle.layout.specs.Stretch.{stretch_of, shape, Stretches, stretches, dimension_accepted}
@@ -23,12 +24,18 @@ written o m k marks last within count =
     ∙ take-append-add (take o marks) (last ++ post_of o k marks) m
     ∙ ap (λ (l : List ℤ). take o marks ++ l) (take-append-le m last (post_of o k marks) count)
 
+made_of : {s : Stretch} {o w : ℕ} → s.offset ≡ o → s.bits ≡ w → s ≡ record { offset = o; bits = w }
+made_of offset bits = rw (← offset, ← bits)
+
 -- ---- one dimension's stretch of the marks buffer, s
 
 module _ {d b n : ℕ} {vectors : List ℤ} {room : ℕ} (is : Given d b n vectors room) (t : ℕ) (among : t < d)
-    (s : Stretch) (told : s ≡ stretch_of d b (t + 1)) where
+    (s : Stretch) (offset : s.offset ≡ first_marks d b (t + 1 - 1)) (bits : s.bits ≡ bits_of d b (t + 1)) where
   stretch : Stretches d b (t + 1) s
-  stretch = stretches (dimension_accepted d b t is.shaped among) told
+  unfolding stretch_of
+  stretch =
+      let accepted = dimension_accepted d b t is.shaped among in
+      stretches accepted (made_of offset bits ∙ sym (outcome_accepted _ _ accepted))
 
   ends : s.offset + (2 ^ s.bits + 1) ≤ room
   ends = omega (arith, stretch.end, stretch.within, is.exact)
@@ -70,51 +77,50 @@ module _ {d b n : ℕ} {vectors : List ℤ} {room : ℕ} (is : Given d b n vecto
 
 pub loop-t-init : goal.loop-t-init
 unfolding first_marks first_between
-loop-t-init c = record { within = omega arith; marks_kept = refl; made = refl; keys_kept = refl; spare_kept = refl }
+loop-t-init c = record { marks_kept = refl; made = refl; keys_kept = refl; spare_kept = refl }
 
 pub offset_bounds-marks-offset : goal.offset_bounds-marks-offset
 offset_bounds-marks-offset c =
-    let facts = given c.args.d c.args.b (length c.args.keys.now) c.args.vectors.now (length c.args.marks.now) c.requires.marks_value in
+    let facts = given c.args.layout.d c.args.layout.b (length c.args.keys.now) c.args.vectors.now (length c.args.marks.now) c.requires.marks_value in
     let is = c.loop-t.invariant in
-    let h = in_buffer facts c.loop-t.t c.loop-t-test.true c.stretch_of-stretch.result c.stretch_of-stretch.ensures c.loop-t.marks is.marks_kept
+    let h = in_buffer facts c.loop-t.t (omega arith) c.stretch-stretch.result c.stretch-stretch.ensures.offset c.stretch-stretch.ensures.bits c.loop-t.marks is.marks_kept
     is.keys_kept in
     omega arith
 
 pub slice_bounds-make_dimension-count : goal.slice_bounds-make_dimension-count
 slice_bounds-make_dimension-count c =
-    let facts = given c.args.d c.args.b (length c.args.keys.now) c.args.vectors.now (length c.args.marks.now) c.requires.marks_value in
+    let facts = given c.args.layout.d c.args.layout.b (length c.args.keys.now) c.args.vectors.now (length c.args.marks.now) c.requires.marks_value in
     let is = c.loop-t.invariant in
-    let h = in_buffer facts c.loop-t.t c.loop-t-test.true c.stretch_of-stretch.result c.stretch_of-stretch.ensures c.loop-t.marks is.marks_kept
+    let h = in_buffer facts c.loop-t.t (omega arith) c.stretch-stretch.result c.stretch-stretch.ensures.offset c.stretch-stretch.ensures.bits c.loop-t.marks is.marks_kept
     is.keys_kept in
     omega arith
 
 pub slice_bounds-make_dimension-start : goal.slice_bounds-make_dimension-start
 slice_bounds-make_dimension-start c =
-    let facts = given c.args.d c.args.b (length c.args.keys.now) c.args.vectors.now (length c.args.marks.now) c.requires.marks_value in
+    let facts = given c.args.layout.d c.args.layout.b (length c.args.keys.now) c.args.vectors.now (length c.args.marks.now) c.requires.marks_value in
     let is = c.loop-t.invariant in
-    let h = in_buffer facts c.loop-t.t c.loop-t-test.true c.stretch_of-stretch.result c.stretch_of-stretch.ensures c.loop-t.marks is.marks_kept
+    let h = in_buffer facts c.loop-t.t (omega arith) c.stretch-stretch.result c.stretch-stretch.ensures.offset c.stretch-stretch.ensures.bits c.loop-t.marks is.marks_kept
     is.keys_kept in
     omega arith
 
 pub make_dimension-requires : goal.make_dimension-requires
 make_dimension-requires c =
-    let facts = given c.args.d c.args.b (length c.args.keys.now) c.args.vectors.now (length c.args.marks.now) c.requires.marks_value in
+    let facts = given c.args.layout.d c.args.layout.b (length c.args.keys.now) c.args.vectors.now (length c.args.marks.now) c.requires.marks_value in
     let is = c.loop-t.invariant in (
-      asked facts c.loop-t.t c.loop-t-test.true c.stretch_of-stretch.result c.stretch_of-stretch.ensures c.loop-t.marks is.marks_kept
+      asked facts c.loop-t.t (omega arith) c.stretch-stretch.result c.stretch-stretch.ensures.offset c.stretch-stretch.ensures.bits c.loop-t.marks is.marks_kept
           is.keys_kept,
       omega arith,
     )
 
 pub loop-t-preserved : goal.loop-t-preserved
 loop-t-preserved c =
-    let facts = given c.args.d c.args.b (length c.args.keys.now) c.args.vectors.now (length c.args.marks.now) c.requires.marks_value in
+    let facts = given c.args.layout.d c.args.layout.b (length c.args.keys.now) c.args.vectors.now (length c.args.marks.now) c.requires.marks_value in
     let is = c.loop-t.invariant in
-    let o = c.stretch_of-stretch.result.offset in
+    let o = c.stretch-stretch.result.offset in
     let call = c.make_dimension in
     record {
-      within = omega arith;
       marks_kept = same_len_mid o (length c.loop-t.marks - o) c.loop-t.marks call.new.part call.auto.part ∙ is.marks_kept;
-      made = turn facts c.loop-t.t c.loop-t-test.true c.stretch_of-stretch.result c.stretch_of-stretch.ensures c.loop-t.marks is.marks_kept
+      made = turn facts c.loop-t.t (omega arith) c.stretch-stretch.result c.stretch-stretch.ensures.offset c.stretch-stretch.ensures.bits c.loop-t.marks is.marks_kept
           is.keys_kept call.new.part call.auto.part call.ensures is.made;
       keys_kept = call.auto.keys ∙ is.keys_kept;
       spare_kept = call.auto.spare ∙ is.spare_kept;
@@ -123,7 +129,7 @@ loop-t-preserved c =
 pub returns : goal.returns
 returns c =
     let a = c.args in
-    let facts = given a.d a.b (length a.keys.now) a.vectors.now (length a.marks.now) c.requires.marks_value in
-    let all : c.loop-t.t ≡ a.d = omega arith in
-    let exact : length c.loop-t.marks ≡ first_marks a.d a.b a.d = c.loop-t.invariant.marks_kept ∙ facts.exact in
-    sym (take_all (first_marks a.d a.b a.d) c.loop-t.marks (omega arith)) ∙ (rw all at c.loop-t.invariant.made)
+    let facts = given a.layout.d a.layout.b (length a.keys.now) a.vectors.now (length a.marks.now) c.requires.marks_value in
+    let all : c.loop-t.t ≡ a.layout.d = omega arith in
+    let exact : length c.loop-t.marks ≡ first_marks a.layout.d a.layout.b a.layout.d = c.loop-t.invariant.marks_kept ∙ facts.exact in
+    sym (take_all (first_marks a.layout.d a.layout.b a.layout.d) c.loop-t.marks (omega arith)) ∙ (rw all at c.loop-t.invariant.made)

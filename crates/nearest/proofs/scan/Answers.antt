@@ -1,17 +1,24 @@
-use Rattle.std.proofs.Common.{length, ap, ◌∙◌}
-use Rattle.refusal.specs.First.{first, outcome}
-use Rattle.entries.specs.Entries.{entries_of}
-use Rattle.scan.specs.Scanning.{scan_answer, scan_causes}
-use Rattle.nearest.specs.Filled.{outcome_filled, scan_fits}
+use Rattle.std.proofs.Common.{length, ap, sym, ◌∙◌, List}
+use Rattle.refusal.specs.First.{handed_on, outcome_accepted, outcome_refused}
+use Rattle.entries.specs.declared.Entry.{Entry}
+use Rattle.entries.specs.Filled.{filled, fitting}
+use Rattle.nearest.specs.Filled.{fits_filled, scan_fits}
 use Rattle.nearest.proofs.scan.Goals as goal
 
--- as many entries are filled as the answer has
 pub returns : goal.returns
 returns c =
     let t = c.args.terms in
-    let told = c.nearest_by_scan-scanned.ensures in
-    let verdict = first (scan_causes t c.args.query.now c.args.vectors.now (length c.args.entries.now)) in
-    let count = c.accepted_count-count.ensures ∙ ap (λ v. outcome v t.k (λ _. 0)) told.0 in
-    let fits = scan_fits t c.args.query.now c.args.vectors.now (length c.args.entries.now) in
-    let best = entries_of (scan_answer t c.args.query.now c.args.vectors.now) in
-    (told.0, c.fill.ensures ∙ rw (count, told.1) (outcome_filled verdict t.k best c.args.entries.now fits))
+    let entries = c.args.entries.now in
+    let told = c.in_ok-found.ensures.ok in
+    let fits = scan_fits t c.args.query.now c.args.vectors.now (length entries) told.0 in (
+      sym told.0,
+      c.fill.ensures
+          ∙ ap (λ (array : List Entry). filled array entries 0 (fitting (length entries) 0 t.k)) told.1
+          ∙ fits_filled entries fits
+          ∙ sym (outcome_accepted _ _ told.0),
+    )
+
+pub returns-in_err-found : goal.returns-in_err-found
+returns-in_err-found c =
+    let refused = c.in_err-found.ensures.err in
+    (handed_on c.from_residual.ensures.1 ∙ sym refused, sym (outcome_refused _ _ refused))

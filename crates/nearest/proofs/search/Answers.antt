@@ -1,25 +1,34 @@
-use Rattle.std.proofs.Common.{length, ap, ◌∙◌}
-use Rattle.refusal.specs.First.{first}
-use Rattle.entries.specs.Entries.{entries_of}
-use Rattle.search.specs.Search.{search_causes, searched}
-use Rattle.search.specs.Answer.{found_count}
-use Rattle.search.specs.Ready.{index_of, query_of, room_of}
-use Rattle.nearest.specs.Filled.{outcome_filled, search_fits, found_outcome}
+use Rattle.std.proofs.Common.{length, ap, sym, ◌∙◌, Ok}
+use Rattle.refusal.specs.First.{handed_on, outcome_accepted, outcome_refused}
+use Rattle.entries.specs.Filled.{filled, fitting}
+use Rattle.search.specs.declared.Found.{Found}
+use Rattle.search.specs.Ready.{index_of, query_of}
+use Rattle.least_reading.specs.Searching.{tells_found, tells_cause}
+use Rattle.nearest.specs.Filled.{fits_filled, search_fits}
 use Rattle.nearest.proofs.search.Goals as goal
 
--- as many entries are filled as the answer has
 pub returns : goal.returns
 returns c =
-    let t = c.args.terms in
-    let told = c.nearest_by_bounds-found.ensures in
-    let l = index_of t c.args.marks.now c.args.codes.now c.args.vectors.now in
-    let q = query_of t c.args.query.now in
-    let room = room_of (length c.args.entries.now) (length c.args.reads.now) in
-    let verdict = first (search_causes l q t.k room) in
-    let count = c.found_count-count.ensures ∙ ap (λ a. found_count a t.k) told.answer ∙ found_outcome verdict l q t.k in
-    let fits = search_fits l q t.k (length c.args.entries.now) (length c.args.reads.now) in
-    let best = entries_of (searched l q t.k).best in (
-      told.answer,
-      c.fill.ensures ∙ rw (count, told.entries_are) (outcome_filled verdict t.k best c.args.entries.now fits),
-      told.reads_are,
+    let a = c.args in
+    let t = a.terms in
+    let entries = a.entries.now in
+    let searches = c.in_ok-found.ensures in
+    let told = tells_found searches in
+    let l = index_of t a.marks.now a.codes.now a.vectors.now in
+    let fits = search_fits l (query_of t a.query.now) t.k (length entries) (length a.reads.now) told.accepted in (
+      ap (λ (found : Found). Ok found.count) told.is ∙ sym (outcome_accepted _ _ told.accepted),
+      c.fill.ensures
+          ∙ ap (λ (found : Found). filled found.entries entries 0 (fitting (length entries) 0 t.k)) told.is
+          ∙ fits_filled entries fits
+          ∙ sym (outcome_accepted _ _ told.accepted),
+      searches.reads_are,
+    )
+
+pub returns-in_err-found : goal.returns-in_err-found
+returns-in_err-found c =
+    let searches = c.in_err-found.ensures in
+    let refused = tells_cause searches in (
+      handed_on c.from_residual.ensures.1 ∙ sym (outcome_refused _ _ refused),
+      sym (outcome_refused _ _ refused),
+      searches.reads_are,
     )

@@ -1,11 +1,9 @@
--- `good_mark` meets its contract: the last mark is above none, and any other is compared with the next. Assumes nothing.
-use Rattle.std.proofs.Common.{◌≡◌, true, sym, ap, ◌∙◌, List, ℕ, suc, ◌+◌, ◌<◌, ℤ, pos, length, drop, get_or, arith, add-one, drop-cons, w32}
-use Rattle.std.proofs.lemmas.Int.{to_z-of_z}
+-- The last mark is above none, and any other is compared with the next. Assumes nothing.
+use Rattle.std.proofs.Common.{◌≡◌, true, sym, ap, ◌∙◌, List, ℕ, suc, ◌+◌, ◌<◌, ℤ, pos, length, drop, get_or, arith, rules, add-one, drop-cons, w32, to_z, of_z}
 use Rattle.std.proofs.Math.ListN.{drop_of_length-le}
 use Rattle.std.specs.Int.Signed.{le_z}
 use Rattle.limits.specs.Limits.{is_mark}
 use Rattle.region.specs.Dimension.{not_above}
-use Rattle.region.proofs.ReadBack.{read_back}
 use Rattle.region.proofs.good_mark.Goals as goal
 
 module _ (m : ℤ) (marks : List ℤ) (i : ℕ) where
@@ -23,13 +21,12 @@ pub returns-then-next-marks : goal.returns-then-next-marks
 returns-then-next-marks c =
     let marks = c.args.marks.now in
     let m = get_or marks c.args.i (pos 0) in
-    let in_range = c.if-not-is_mark.ensures ∙ ap is_mark (to_z-of_z w32 m (record { sfits = c.is_mark-arg-1.given })) in
-    rw (sym in_range, last_above_none m marks c.args.i c.if-next-marks.true)
+    let back : to_z w32 (of_z w32 m) ≡ m = search rules in
+    rw (sym (c.if-not-is_mark.ensures ∙ ap is_mark back), last_above_none m marks c.args.i c.if-next-marks.true)
 
 pub returns : goal.returns
 returns c =
     let marks = c.args.marks.now in
     let m = get_or marks c.args.i (pos 0) in
-    let in_range = c.if-not-is_mark.ensures ∙ ap is_mark (to_z-of_z w32 m (record { sfits = c.result-1.given })) in
-    read_back le_z m (get_or marks (c.args.i + 1) (pos 0)) c.result-1.given c.result-2-1.given
-    ∙ rw (sym in_range, not_above_next m marks c.args.i (omega arith))
+    let back : to_z w32 (of_z w32 m) ≡ m = search rules in
+    rw (sym (c.if-not-is_mark.ensures ∙ ap is_mark back), not_above_next m marks c.args.i (omega arith)) (search rules)

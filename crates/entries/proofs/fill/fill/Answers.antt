@@ -1,14 +1,28 @@
-use Rattle.std.proofs.Common.{◌∙◌, sym, ap, slice_set, slice_index_or, ◌+◌, arith}
-use Rattle.entries.specs.Entries.{blank}
-use Rattle.entries.specs.Filled.{filled_none, filled_next}
+use Rattle.std.proofs.Common.{◌≡◌, ◌+◌, ◌-◌, length, refl, arith}
+use Rattle.entries.specs.Filled.{filled, filled_none, filled_part, fitting, fitting_fits, fitting_many, fitting_past}
 use Rattle.entries.proofs.fill.fill.Goals as goal
+use Rattle.entries.proofs.fill.fill.Goals.{else-count-le-MAX_NEIGHBOURS-via-then-count-le-MAX_NEIGHBOURS+then-start-entries+else-count-entries, else-count-le-MAX_NEIGHBOURS-via-then-count-le-MAX_NEIGHBOURS+else-start-entries, else-count-le-MAX_NEIGHBOURS-via-else-count-le-MAX_NEIGHBOURS}
 
-pub loop-i-init : goal.loop-i-init
-loop-i-init c = (omega arith, sym (filled_none c.args.array c.args.entries.now c.args.start))
+pub returns-then-count-entries : goal.returns-then-count-entries
+returns-then-count-entries c =
+    let a = c.args in
+    let size : a.start + a.count - a.start ≡ a.count = omega arith in
+    rw (
+      fitting_fits (length a.entries.now) a.start a.count (omega arith) (omega arith),
+      filled_part a.array a.entries.now a.start a.count (omega arith) (omega arith),
+      c.copy_from_slice.ensures.after,
+      size,
+    )
+    refl
 
-pub loop-i-preserved : goal.loop-i-preserved
-loop-i-preserved c = (
-  omega (arith, c.loop-i-test.true),
-  ap (λ l. slice_set l (c.args.start + c.loop-i.i) (slice_index_or c.args.array c.loop-i.i blank)) c.loop-i.invariant.1
-      ∙ sym (filled_next c.args.array c.args.entries.now c.args.start c.loop-i.i),
-)
+pub returns-else-count-le-MAX_NEIGHBOURS : goal.returns-else-count-le-MAX_NEIGHBOURS
+returns-else-count-le-MAX_NEIGHBOURS c =
+    let a = c.args in
+    let room = length a.entries.now in
+    let same : fitting room a.start a.count ≡ 0 → a.entries.now ≡ filled a.array a.entries.now a.start (fitting room a.start a.count) =
+    λ none. rw (none, filled_none a.array a.entries.now a.start) refl in
+    elim c.else-count-le-MAX_NEIGHBOURS.branch [
+      | else-count-le-MAX_NEIGHBOURS-via-then-count-le-MAX_NEIGHBOURS+then-start-entries+else-count-entries w ↦ same (fitting_past room a.start a.count (omega arith))
+      | else-count-le-MAX_NEIGHBOURS-via-then-count-le-MAX_NEIGHBOURS+else-start-entries w ↦ same (fitting_past room a.start a.count (omega arith))
+      | else-count-le-MAX_NEIGHBOURS-via-else-count-le-MAX_NEIGHBOURS w ↦ same (fitting_many room a.start a.count (omega arith))
+    ]

@@ -1,5 +1,5 @@
 -- the three buffers with the queries before i answered
-use Rattle.std.proofs.Common.{◌-◌, ◌≡◌, ◌≤◌}
+use Rattle.std.proofs.Common.{◌≡◌}
 use Rattle.batch.specs.Batch.{batch_of}
 use Rattle.least_reading.specs.Answering.{answers_after, entries_after, reads_after}
 use Rattle.least_reading.proofs.queries.search_batch.Given as goal
@@ -10,9 +10,6 @@ invariant-loop-i l =
     let answers = l.initial.answers in
     let entries = l.initial.entries in
     let reads = l.initial.reads in
-    (l.i ≤ l.end) × (l.answers ≡ answers_after batch answers entries reads l.i)
+    (l.answers ≡ answers_after batch answers entries reads l.i)
     × (l.entries ≡ entries_after batch answers entries reads l.i)
     × (l.reads ≡ reads_after batch answers entries reads l.i)
-
-abbrev pub decreases-loop-i : goal.decreases-loop-i
-decreases-loop-i l = l.end - l.i

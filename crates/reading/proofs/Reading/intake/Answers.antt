@@ -1,18 +1,22 @@
--- `Reading::intake` meets its contract: what the second intake gives, and 13 where it finds the reading absent. Assumes nothing.
-use Rattle.std.proofs.Common.{sym, ap, ◌∙◌, w32, arith}
-use Rattle.std.proofs.lemmas.Int.{to_z-of_z}
-use Rattle.reading.specs.declared.Intake.TheVariants.{Component}
+-- What the second intake gives, and 13 where it finds the reading absent. Assumes nothing.
+use Rattle.std.specs.Prelude.{◌≡◌, refl, Option, Some, None, Ok, ℤ, ok_or}
+use Rattle.std.proofs.Common.{sym, ap, ◌∙◌}
+use Rattle.std.proofs.lemmas.Result.{err_from_is_err_and}
+use Rattle.refusal.specs.declared.Refusal.TheVariants.{Stale}
 use Rattle.reading.specs.IntakeLaws.{as_intake, intake_by_presence}
 use Rattle.reading.proofs.Reading.intake.Goals as goal
 
-pub returns-in-Present : goal.returns-in-Present
-returns-in-Present c =
-    let is = sym c.presence.ensures ∙ c.in-Present.is in
-    ap Component (to_z-of_z w32 _ (record { sfits = omega arith }))
-    ∙ sym (intake_by_presence c.args.self ∙ ap as_intake is)
+pub returns-in_err-presence : goal.returns-in_err-presence
+returns-in_err-presence c =
+    let p = err_from_is_err_and c.from_residual.result c.from_residual.ensures.1 in
+    rw (p.1, p.2) (sym (intake_by_presence c.args.self ∙ ap as_intake (sym c.in_err-presence.ensures)))
 
-pub returns-in-Absent : goal.returns-in-Absent
-returns-in-Absent c = sym (intake_by_presence c.args.self ∙ ap as_intake (sym c.presence.ensures ∙ c.in-Absent.is))
+-- what is absent is refused
+by_absence : (o : Option ℤ) → ok_or o Stale ≡ as_intake (Ok o)
+by_absence (Some z) = refl
+by_absence None = refl
 
-pub returns-in-Refused : goal.returns-in-Refused
-returns-in-Refused c = sym (intake_by_presence c.args.self ∙ ap as_intake (sym c.presence.ensures ∙ c.in-Refused.is))
+pub returns : goal.returns
+returns c =
+    c.ok_or.ensures.value ∙ by_absence c.in_ok-presence.field-0
+    ∙ sym (intake_by_presence c.args.self ∙ ap as_intake (sym c.in_ok-presence.ensures))
