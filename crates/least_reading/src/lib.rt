@@ -5,7 +5,7 @@ mod candidates;
 pub mod queries;
 mod reading;
 
-ghost use Rattle.std.specs.Prelude.{◌≡◌, IfSome, length};
+ghost use Rattle.std.specs.Prelude.{◌≡◌, ◌++◌, ◌≤◌, IfSome, length, take, drop};
 ghost use Rattle.refusal.specs.First.{first};
 ghost use Rattle.distance.specs.Values.{values_from};
 ghost use Rattle.table.specs.Table.{bound_sum};
@@ -109,7 +109,7 @@ fn search_bounded(
     let k = task.terms.k;
     let mut best = [0u32; MAX_NEIGHBOURS];
     let count = read_in_order(task, lows, order, words, &mut best[..k])?;
-    reads[..count].copy_from_slice(&order[..count]);
+    put_numbers(order, count, reads);
     Ok(Found {
         entries: entries_of(&words[..k], &best[..k]),
         count,
@@ -164,5 +164,15 @@ fn sum_lows(
         None => {
             let _ = sum_bounds(d, b, table, codes, lows);
         }
+    }
+}
+
+// Writes the first numbers over the first of a buffer.
+fn put_numbers(numbers: &[u32], count: usize, out: &mut [u32])
+    requires { (count ≤ length numbers.now) × (count ≤ length out.old) }
+    ensures { out.new ≡ take count numbers.now ++ drop count out.old }
+{
+    for i in 0..count {
+        out[i] = numbers[i];
     }
 }

@@ -13,7 +13,7 @@ ordering_lt Ordering.lt le ne = refl
 ordering_lt Ordering.eq le ne = cc
 ordering_lt Ordering.gt le ne = cc
 
-closest_down : (a b : ℕ) → a % b * 2 < b → closest a b ≡ a / b
+pub closest_down : (a b : ℕ) → a % b * 2 < b → closest a b ≡ a / b
 closest_down a b h = rw (ordering_lt (compare (a % b * 2) b) (le-leb (a % b * 2) b (omega arith)) (ne_eqb (a % b * 2) b (λ e. omega arith)))
 
 -- below a half there is none

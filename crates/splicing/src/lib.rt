@@ -43,7 +43,9 @@ fn copy(front: &[u8], count: usize, out: &mut [u8])
     requires { (count ≤ length front.now) × (count ≤ length out.old) }
     ensures { out.new ≡ take count front.now ++ drop count out.old }
 {
-    out[..count].copy_from_slice(&front[..count]);
+    for i in 0..count {
+        out[i] = front[i];
+    }
 }
 
 // The byte that has the first bits of one slice's byte, and then those of another slice from bit q on.

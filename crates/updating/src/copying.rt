@@ -1,5 +1,6 @@
 // Components and settings copied: with more behind them, or without some of them.
 ghost use Rattle.std.specs.Prelude.{◌≡◌, [], ◌∷◌, ◌++◌, suc, ◌+◌, ◌*◌, ◌≤◌, ◌<◌, length};
+ghost use Rattle.std.proofs.Math.Seq.{paste};
 ghost use Rattle.updating.specs.Updated.{without};
 
 // Some components, and more behind them.
@@ -42,7 +43,16 @@ fn join<T: Copy>(front: &[T], back: &[T], out: &mut [T])
     requires { length out.old ≡ length front.now + length back.now }
     ensures { out.new ≡ front.now ++ back.now }
 {
-    let (first, last) = out.split_at_mut(front.len());
-    first.copy_from_slice(front);
-    last.copy_from_slice(back);
+    put(front, 0, out);
+    put(back, front.len(), out);
+}
+
+// A list copied to a place.
+fn put<T: Copy>(from: &[T], at: usize, out: &mut [T])
+    requires { at + length from.now ≤ length out.old }
+    ensures { out.new ≡ paste out.old at from.now (length from.now) }
+{
+    for (i, value) in from.iter().enumerate() {
+        out[at + i] = *value;
+    }
 }

@@ -44,11 +44,10 @@ returns c =
     let l = library_of task in
     let q = asked_of task in
     let size = c.read_in_order.auto.best ∙ length-take-le _ _ c.requires.fact.0.ready.few in
-    let put = ap (λ (front : List ℕ). front ++ drop c.in_ok-count.count a.reads.now) c.copy_from_slice.ensures.after in
     record {
       found = ap (λ (found : Found). Ok found) (found_is read (take_at c.read_in_order.new.best _ k size) c.entries_of.ensures)
           ∙ sym (outcome_accepted _ _ (cells_accepted l q k (told read).in_cells));
-      reads_are = reads_is read a.reads.now put;
+      reads_are = reads_is read a.reads.now c.put_numbers.ensures;
     }
 
 pub returns-in_err-count : goal.returns-in_err-count

@@ -1,0 +1,2 @@
+-- What is known of parts of lists.
+mod Pasting
