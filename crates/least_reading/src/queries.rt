@@ -53,7 +53,8 @@ pub fn search_batch(
         reads: reads.len(),
     };
     check_batch(terms, lengths, marks, codes)?;
-    let regions = regions_of(terms, codes);
+    let mut regions = [0u8; MAX_REGIONS];
+    put_regions(terms, codes, &mut regions);
     for i in 0..terms.m {
         let answer = answer_query(
             terms, i, queries, words, marks, codes, vectors, &regions, entries, reads,
@@ -64,14 +65,13 @@ pub fn search_batch(
 }
 
 // The region numbers that the codes name, at the front of an array, so that they are unpacked once a batch.
-fn regions_of(terms: BatchTerms, codes: &[u8]) -> [u8; MAX_REGIONS]
-    ensures { RegionsIn terms.d terms.b terms.n codes.now result }
+fn put_regions(terms: BatchTerms, codes: &[u8], regions: &mut [u8])
+    requires { length regions.old ≡ max_vectors * max_dimensions }
+    ensures { RegionsIn terms.d terms.b terms.n codes.now regions.new }
 {
-    let mut regions = [0u8; MAX_REGIONS];
     let count = region_count(terms.d, terms.n);
     // Where the codes can be unpacked nothing refuses, and elsewhere nothing is said of the array.
     let _ = codes::unpack(terms.d, terms.b, terms.n, codes, &mut regions[..count]);
-    regions
 }
 
 // How many region numbers there are, 0 where the numbers are past their limits.

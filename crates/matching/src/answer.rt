@@ -81,14 +81,7 @@ fn answer_coded(
     let n = terms.n;
     let k = terms.k;
     let mut reads = [0u32; KIT_VECTORS];
-    let found = nearest_by_bounds(
-        terms,
-        query,
-        marks,
-        codes,
-        components,
-        k,
-        &mut reads[..n],
-    ).unwrap();
-    put_answer(k, found.count, settings, found.entries, text)
+    let answer = nearest_by_bounds(terms, query, marks, codes, components, k, &mut reads[..n]);
+    let found = answer.as_ref().unwrap();
+    put_answer(k, found.count, settings, &found.entries, text)
 }

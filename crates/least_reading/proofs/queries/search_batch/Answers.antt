@@ -33,7 +33,7 @@ answer_query-answer-requires c =
       omega arith,
       c.loop-i.auto.entries ∙ is.of_entries,
       c.loop-i.auto.reads ∙ is.of_reads,
-      c.regions_of-regions.ensures,
+      c.put_regions.ensures,
     )
 
 pub offset_bounds-answers-i : goal.offset_bounds-answers-i

@@ -1,6 +1,7 @@
 -- `answer_coded` meets its contract: nothing refuses the search, and the entries that it found are those of the best pairs.
 -- Assumes nothing.
 use Rattle.std.specs.Prelude.{Result, Ok, is_ok}
+use Rattle.std.specs.Result.{result_copied}
 use Rattle.std.proofs.Common.{◌≡◌, sym, ap, true, subst, ◌∙◌, List, ℕ, ◌≤◌, length, take}
 use Rattle.std.proofs.lemmas.List.{length-take-le}
 use Rattle.refusal.specs.declared.Refusal.{Refusal}
@@ -84,7 +85,8 @@ unwrap-found-requires c =
     let l = index_of terms c.args.marks.now c.args.codes.now c.args.components.now in
     let query = query_of terms c.args.query.now in
     let fits = few l query terms.k (room_of terms.k terms.n) c.requires.n_value in
-    answers l query terms.k terms.n _ c.requires.n_value (length-take-le _ _ fits.vectors) c.nearest_by_bounds.ensures
+    c.as_ref.ensures.variant
+    ∙ answers l query terms.k terms.n _ c.requires.n_value (length-take-le _ _ fits.vectors) c.nearest_by_bounds-answer.ensures
 
 pub put_answer-requires-clause-listed : goal.put_answer-requires-clause-listed
 put_answer-requires-clause-listed c =
@@ -93,7 +95,7 @@ put_answer-requires-clause-listed c =
     let query = query_of terms c.args.query.now in
     let fits = few l query terms.k (room_of terms.k terms.n) c.requires.n_value in
     listed l query terms.k terms.n _ c.requires.n_value (length-take-le _ _ fits.vectors)
-    (given c.unwrap-found.ensures c.nearest_by_bounds.ensures)
+    (given (sym c.as_ref.ensures.value ∙ ap result_copied c.unwrap-found.ensures) c.nearest_by_bounds-answer.ensures)
     c.args.settings.now
     fits.entries
     c.requires.settings_len
@@ -105,7 +107,7 @@ put_answer-requires-clause-entries_in_bounds c =
     let query = query_of terms c.args.query.now in
     let fits = few l query terms.k (room_of terms.k terms.n) c.requires.n_value in
     rw (lines_are l query terms.k terms.n _ c.requires.n_value (length-take-le _ _ fits.vectors)
-    (given c.unwrap-found.ensures c.nearest_by_bounds.ensures)
+    (given (sym c.as_ref.ensures.value ∙ ap result_copied c.unwrap-found.ensures) c.nearest_by_bounds-answer.ensures)
     c.args.settings.now)
     c.requires.k_in_bounds
 
@@ -116,6 +118,6 @@ returns c =
     let query = query_of terms c.args.query.now in
     let fits = few l query terms.k (room_of terms.k terms.n) c.requires.n_value in
     puts_same (lines_are l query terms.k terms.n _ c.requires.n_value (length-take-le _ _ fits.vectors)
-    (given c.unwrap-found.ensures c.nearest_by_bounds.ensures)
+    (given (sym c.as_ref.ensures.value ∙ ap result_copied c.unwrap-found.ensures) c.nearest_by_bounds-answer.ensures)
     c.args.settings.now)
     c.put_answer.ensures
