@@ -1,4 +1,4 @@
-// The values of a library's records, read from its bytes. Signed numbers have keys, by which they are compared.
+// The values of a library's records, read from its bytes. Signed numbers are read as they are, and compared as such.
 ghost use Rattle.std.specs.Prelude.{◌≡◌, suc, ◌+◌, ◌*◌, ◌^◌, ◌≤◌, ◌<◌, length, drop};
 ghost use Rattle.limits.specs.Limits.{max_dimensions, max_dimension_bits};
 ghost use Rattle.records.specs.Records.{vector_kind, record_length, value_of};

@@ -9,7 +9,7 @@ ghost use Rattle.library.specs.Library.{library_with};
 ghost use Rattle.text.specs.Puts.{Puts};
 ghost use Rattle.matching.specs.Answer.{searchable, answer_lines, answer_text};
 
-use crate::lines::put_answer;
+use crate::lines::{put_answer, put_refusal};
 use least_reading::nearest_by_bounds;
 use limits::{KIT_VECTORS, MAX_DIMENSION_BITS, MAX_DIMENSIONS};
 use search::Terms;
@@ -81,7 +81,9 @@ fn answer_coded(
     let n = terms.n;
     let k = terms.k;
     let mut reads = [0u32; KIT_VECTORS];
-    let answer = nearest_by_bounds(terms, query, marks, codes, components, k, &mut reads[..n]);
-    let found = answer.as_ref().unwrap();
-    put_answer(k, found.count, settings, &found.entries, text)
+    match nearest_by_bounds(terms, query, marks, codes, components, k, &mut reads[..n]) {
+        Ok(found) => put_answer(k, found.count, settings, found.entries, text),
+        // Nothing refuses: the caller says so.
+        Err(cause) => put_refusal(cause, text),
+    }
 }

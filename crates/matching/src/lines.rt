@@ -14,12 +14,12 @@ pub(crate) fn put_answer(
     k: usize,
     count: usize,
     settings: &[u32],
-    entries: &[Entry; MAX_NEIGHBOURS],
+    entries: [Entry; MAX_NEIGHBOURS],
     text: &mut [u8],
 ) -> usize
-    requires listed { Listed k settings.now entries.now }
-    requires entries_in_bounds { length (lines_of settings.now k count (pairs_in (take k entries.now))) ≤ length text.old }
-    ensures { Puts (lines_of settings.now k count (pairs_in (take k entries.now))) 0
+    requires listed { Listed k settings.now entries }
+    requires entries_in_bounds { length (lines_of settings.now k count (pairs_in (take k entries))) ≤ length text.old }
+    ensures { Puts (lines_of settings.now k count (pairs_in (take k entries))) 0
         text.old text.new result }
 {
     let next = put_two(k as u64, count as u64, text);
@@ -30,13 +30,13 @@ pub(crate) fn put_answer(
 fn put_entries(
     k: usize,
     settings: &[u32],
-    entries: &[Entry; MAX_NEIGHBOURS],
+    entries: [Entry; MAX_NEIGHBOURS],
     text: &mut [u8],
     at: usize,
 ) -> usize
-    requires listed { Listed k settings.now entries.now }
-    requires entries_in_bounds { at + length (entry_lines settings.now (pairs_in (take k entries.now))) ≤ length text.old }
-    ensures { Puts (entry_lines settings.now (pairs_in (take k entries.now))) at text.old text.new result }
+    requires listed { Listed k settings.now entries }
+    requires entries_in_bounds { at + length (entry_lines settings.now (pairs_in (take k entries))) ≤ length text.old }
+    ensures { Puts (entry_lines settings.now (pairs_in (take k entries))) at text.old text.new result }
 {
     let mut next = at;
     for entry in &entries[..k] {

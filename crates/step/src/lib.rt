@@ -1,4 +1,5 @@
-// One dimension's steps. Differences are those of keys.
+// One dimension's steps. Differences are those of the numbers; that to the last value before a mark, which may be no number of 32 bits, is one
+// of keys.
 #![tactic(auto)]
 
 ghost use Rattle.std.specs.Prelude.{◌≡◌, ◌+◌, ◌-◌, ◌^◌, ◌≤◌};

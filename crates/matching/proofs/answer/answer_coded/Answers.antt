@@ -1,8 +1,7 @@
 -- `answer_coded` meets its contract: nothing refuses the search, and the entries that it found are those of the best pairs.
 -- Assumes nothing.
 use Rattle.std.specs.Prelude.{Result, Ok, is_ok}
-use Rattle.std.specs.Result.{result_copied}
-use Rattle.std.proofs.Common.{◌≡◌, sym, ap, true, subst, ◌∙◌, List, ℕ, ◌≤◌, length, take}
+use Rattle.std.proofs.Common.{◌≡◌, ◌≢◌, sym, ap, true, false, subst, ◌∙◌, List, ℕ, ◌≤◌, length, take}
 use Rattle.std.proofs.lemmas.List.{length-take-le}
 use Rattle.refusal.specs.declared.Refusal.{Refusal}
 use Rattle.refusal.specs.Refusal.{Verdict}
@@ -44,6 +43,9 @@ given : {v : Verdict} {l : Index} {query : Query} {k : ℕ} {r : Result Found Re
     → Searches v l query k r old new → Searches v l query k (Ok f) old new
 given {v} {l} {query} {k} {r} {f} {old} {new} is searches = subst (λ (r : Result Found Refusal). Searches v l query k r old new) is searches
 
+no_answer : true ≢ false
+no_answer e = cc
+
 -- the lines of what was found, and that its numbers are those of settings
 module _ (l : Index) (query : Query) (k n reads : ℕ) {f : Found} {old new : List ℕ}
     (accepted : first (search_causes l query k (room_of k n)) ≡ Ok tt) (same : reads ≡ n)
@@ -79,15 +81,6 @@ slice_bounds-nearest_by_bounds-end c =
     let fits = few l query terms.k (room_of terms.k terms.n) c.requires.n_value in
     sym (length-take-le _ _ fits.vectors)
 
-pub unwrap-found-requires : goal.unwrap-found-requires
-unwrap-found-requires c =
-    let terms = c.args.terms in
-    let l = index_of terms c.args.marks.now c.args.codes.now c.args.components.now in
-    let query = query_of terms c.args.query.now in
-    let fits = few l query terms.k (room_of terms.k terms.n) c.requires.n_value in
-    c.as_ref.ensures.variant
-    ∙ answers l query terms.k terms.n _ c.requires.n_value (length-take-le _ _ fits.vectors) c.nearest_by_bounds-answer.ensures
-
 pub put_answer-requires-clause-listed : goal.put_answer-requires-clause-listed
 put_answer-requires-clause-listed c =
     let terms = c.args.terms in
@@ -95,7 +88,7 @@ put_answer-requires-clause-listed c =
     let query = query_of terms c.args.query.now in
     let fits = few l query terms.k (room_of terms.k terms.n) c.requires.n_value in
     listed l query terms.k terms.n _ c.requires.n_value (length-take-le _ _ fits.vectors)
-    (given (sym c.as_ref.ensures.value ∙ ap result_copied c.unwrap-found.ensures) c.nearest_by_bounds-answer.ensures)
+    (given c.in-Ok.is c.nearest_by_bounds.ensures)
     c.args.settings.now
     fits.entries
     c.requires.settings_len
@@ -107,17 +100,26 @@ put_answer-requires-clause-entries_in_bounds c =
     let query = query_of terms c.args.query.now in
     let fits = few l query terms.k (room_of terms.k terms.n) c.requires.n_value in
     rw (lines_are l query terms.k terms.n _ c.requires.n_value (length-take-le _ _ fits.vectors)
-    (given (sym c.as_ref.ensures.value ∙ ap result_copied c.unwrap-found.ensures) c.nearest_by_bounds-answer.ensures)
+    (given c.in-Ok.is c.nearest_by_bounds.ensures)
     c.args.settings.now)
     c.requires.k_in_bounds
 
-pub returns : goal.returns
-returns c =
+pub returns-in-Ok : goal.returns-in-Ok
+returns-in-Ok c =
     let terms = c.args.terms in
     let l = index_of terms c.args.marks.now c.args.codes.now c.args.components.now in
     let query = query_of terms c.args.query.now in
     let fits = few l query terms.k (room_of terms.k terms.n) c.requires.n_value in
     puts_same (lines_are l query terms.k terms.n _ c.requires.n_value (length-take-le _ _ fits.vectors)
-    (given (sym c.as_ref.ensures.value ∙ ap result_copied c.unwrap-found.ensures) c.nearest_by_bounds-answer.ensures)
+    (given c.in-Ok.is c.nearest_by_bounds.ensures)
     c.args.settings.now)
     c.put_answer.ensures
+
+pub returns-in-Err : goal.returns-in-Err
+returns-in-Err c =
+    let terms = c.args.terms in
+    let l = index_of terms c.args.marks.now c.args.codes.now c.args.components.now in
+    let query = query_of terms c.args.query.now in
+    let fits = few l query terms.k (room_of terms.k terms.n) c.requires.n_value in
+    let some = answers l query terms.k terms.n _ c.requires.n_value (length-take-le _ _ fits.vectors) c.nearest_by_bounds.ensures in
+    absurd (no_answer (sym some ∙ ap is_ok c.in-Err.is))

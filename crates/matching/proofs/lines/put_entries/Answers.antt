@@ -7,7 +7,7 @@ use Rattle.matching.proofs.lines.put_entries.Goals as goal
 
 pub bounds-settings-number : goal.bounds-settings-number
 bounds-settings-number c =
-    number_below (length c.args.settings.now) (take c.args.k c.args.entries.now) (record { number = 0; distance = 0 })
+    number_below (length c.args.settings.now) (take c.args.k c.args.entries) (record { number = 0; distance = 0 })
     c.requires.listed.named
     c.loop-entry.entry-index
     c.loop-entry-test.true
