@@ -161,7 +161,9 @@ fn next_offset(column: usize, end: usize) -> usize
     if column == 0 { 0 } else { end }
 }
 
-// The codes, where nothing refuses: the region numbers are packed.
+// The codes, where nothing refuses: the region numbers are packed. Their array is on the stack here alone, and not beside what a search works
+// in, since the compiler does not join this function with its callers.
+#[inline(never)]
 fn put_vectors(layout: Layout, n: usize, vectors: &[i32], marks: &[i32], codes: &mut [u8])
     requires { (first (size_causes layout.d layout.b n (length vectors.now) (length codes.old)) ≡ Ok tt)
         × (Inside layout.d layout.b marks.now vectors.now) }
